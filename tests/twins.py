@@ -1,12 +1,12 @@
 """Tries the wrong machines of tests/twins: each changes a machine and the definition that its contract
-equals alike. So the machine's function is still proved, and it is a law of papaya_call_law, of
-papaya_chain_law or of papaya_alone that has to refuse it, or what a state of the machine may be.
+equals alike. So the machine's function is still proved, and it is a law of papaya_call_law or of
+papaya_call_alone that has to refuse it, or what a state of the machine may be.
 
     python3 tests/twins.py [TWIN..]
 
 A twin has the lines of an edit in must-fail/, with files below crates/, and two before them: `law:`, the law
-that refuses it, and `fn:`, the machine's function, or several. A twin of papaya_call goes with one of
-papaya_copy, where papaya_call_law has both laws: those of calls say nothing of copiers and those of copiers
+that refuses it, and `fn:`, the machine's function, or several. A twin of a call on one table goes with one of
+a copy, whose laws are others: those of calls say nothing of copiers and those of copiers
 nothing of calls. A copy whose twins an earlier run on this machine saw refused, over all that it reads, is not
 tried again.
 """
@@ -65,9 +65,10 @@ def try_copy(room, *twins):
 
 def copies_of(twins):
     """The twins, by their copies."""
-    low = [it for it in twins if it.words["law"].startswith("papaya_call_law::")]
-    calls = [it for it in low if all(file.startswith("papaya_call/") for file, _, _ in it.pairs)]
-    copiers = [it for it in low if all(file.startswith("papaya_copy/") for file, _, _ in it.pairs)]
+    calls = [it for it in twins if re.match(r"papaya_call_law::(relies|alone)::", it.words["law"])]
+    # (copies have searches too)
+    calls = [it for it in calls if not any(re.search("[Ss]earch", file) for file, _, _ in it.pairs)]
+    copiers = [it for it in twins if it.words["law"].startswith("papaya_call_law::copies::")]
     pairs = [[it for it in pair if it] for pair in zip_longest(calls, copiers)]
     return pairs + [[it] for it in twins if it not in calls and it not in copiers]
 

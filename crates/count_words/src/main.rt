@@ -3,7 +3,7 @@
 #![tactic(auto)]
 
 use papaya::{Refused, Session};
-use papaya_shell::failure::{Failure, ended};
+use papaya_run_shell::failure::{Failure, ended};
 use papaya_uses::metrics::{Metrics, add};
 use std::alloc::Global;
 use std::cmp::Reverse;

@@ -1,7 +1,7 @@
 -- What the contracts of the map for one caller speak of: the finite map that a store means.
-pub use Rattle.papaya_law.specs.Content.{lookup}
-pub use Rattle.papaya_store.specs.Store.{StoreState, Stored}
-pub use Rattle.papaya_timeline.specs.Content.{content, map_in}
+pub use Rattle.papaya_words_law.specs.Content.{lookup}
+pub use Rattle.papaya_core_store.specs.Store.{StoreState, Stored}
+pub use Rattle.papaya_core_timeline.specs.Content.{content, map_in}
 pub use Rattle.papaya_seq.specs.Map.{Inserts, IsSpent, MapState, kept_key, value_of}
 pub use Rattle.papaya_seq.specs.Entries.{IsPut}
 pub use Rattle.papaya_seq.specs.Clones.{IsCloned, IsRebuilt}

@@ -21,17 +21,18 @@
 #![tactic(auto)]
 
 pub use papaya_call::answers::Operation;
-pub use papaya_keys::compute::Compute;
-pub use papaya_keys::guard::{Collector, Equivalent, Guard, LocalGuard, OwnedGuard, TextKey};
-pub use papaya_keys::occupied::{NotInserted, OccupiedError};
 pub use papaya_map::builder::HashMapBuilder;
-pub use papaya_map::map::{HashMap, HashMapRef, Pass};
+pub use papaya_map::map::{HashMap, HashMapRef};
+pub use papaya_map::pass::Pass;
 pub use papaya_map::session::Session;
+pub use papaya_map_scan::walk::{Iter, Keys, Values};
 pub use papaya_reclaiming::reclaiming::{Reclaiming, ReclaimingMap, ReclaimingSet};
-pub use papaya_scan::walk::{Iter, Keys, Values};
 pub use papaya_set::builder::HashSetBuilder;
 pub use papaya_set::set::{HashSet, HashSetRef};
-pub use papaya_words::probe::{Refused, ResizeMode};
+pub use papaya_words::refused::Refused;
+pub use papaya_words::resize_mode::ResizeMode;
+pub use papaya_words_keys::guard::{Collector, Equivalent, Guard, LocalGuard, OwnedGuard, TextKey};
+pub use papaya_words_keys::results::{Compute, NotInserted, OccupiedError};
 
 /// The handles by which threads enter a map or set that is reclaimed while they go on.
 pub mod reclaiming {
@@ -46,11 +47,11 @@ pub mod set {
 
 /// The map and the set for one caller.
 pub mod seq {
-    pub use papaya_keys::compute::Computed;
-    pub use papaya_seq::outcome::Outcome;
+    pub use papaya_core_timeline::outcome::Outcome;
     pub use papaya_seq::seq::HashMap;
     pub use papaya_seq::walks::{Iter, Keys, Values};
     pub use papaya_set::seq::HashSet;
+    pub use papaya_words_keys::results::Computed;
 
     /// The iterator of the set.
     pub mod set {
@@ -60,45 +61,44 @@ pub mod seq {
 
 /// Conversion of maps and sets to JSON, and back.
 pub mod json {
-    pub use papaya_json::reading::{map_from_value, set_from_value};
+    pub use papaya_json::from_value::{map_from_value, set_from_value};
     pub use papaya_json::shared::{
         shared_map_from_value, shared_map_to_value, shared_set_from_value, shared_set_to_value,
     };
-    pub use papaya_json::writing::{map_to_value, set_to_value};
+    pub use papaya_json::to_value::{map_to_value, set_to_value};
 }
 
 /// Any number of callers under any schedule of their steps.
 pub mod schedule {
-    pub use papaya_ask::ask::{OpKind, StepKind};
-    pub use papaya_ask::call::{Call, Reply};
     pub use papaya_call::answers::{Answers, Listed};
-    pub use papaya_core::outcome::Outcome;
+    pub use papaya_call::ask::{OpKind, StepKind};
+    pub use papaya_call::call::{Call, Reply};
     pub use papaya_core::schedule::Core;
-    pub use papaya_core::trace::{Entry, Event, Trace, Turn};
+    pub use papaya_core_timeline::outcome::Outcome;
+    pub use papaya_core_timeline::trace::{Entry, Event, Trace, Turn};
 }
 
 /// The parts of the maps: words, places, tables and counts, and the calls on one table as machines.
 pub mod raw {
-    pub use papaya_ask::ask::{Answer, Ask, At, OpKind, StepKind};
-    pub use papaya_ask::call::{Reply, Task};
-    pub use papaya_ask::search::{Place, Probed, Search};
+    pub use papaya_call::ask::{Answer, Ask, At, OpKind, StepKind};
+    pub use papaya_call::call::{Reply, Task};
     pub use papaya_call::machine::{Machine, State};
+    pub use papaya_call::search::{Place, ProbeStep, Search};
     pub use papaya_words::chunks::{chunk_count, chunk_len};
     pub use papaya_words::counter::Counter;
+    pub use papaya_words::fresh::FreshWords;
     pub use papaya_words::limits;
     pub use papaya_words::probe::{Probe, entries_for, limit};
-    pub use papaya_words::room::Room;
     pub use papaya_words::table::{Table, next_len, next_limit, table_len};
     pub use papaya_words::word::{Kind, SHUT, Word, h1, h2, hint, legal, may_hold};
 
     /// The machines that [`super::schedule::Core`] and the maps run, over any number of tables: a
     /// call on a key, a resize and a scan, each with its asks and answers.
     pub mod chain {
-        pub use papaya_ask::copy_ask::CopyAsk;
-        pub use papaya_chain::ask::{Answer, Ask};
-        pub use papaya_chain::machine::{Machine, Phase};
-        pub use papaya_chain::resizer::{Resize, Resizer, State as ResizerState};
-        pub use papaya_chain::scan_ask::ScanAsk;
-        pub use papaya_chain::scanner::{Scan, Scanner, State as ScannerState};
+        pub use papaya_call::chain::ask::{Answer, Ask, ScanAsk};
+        pub use papaya_call::chain::machine::{Machine, Phase};
+        pub use papaya_call::chain::resizer::{Resize, Resizer, ResizerState};
+        pub use papaya_call::chain::scanner::{Scan, Scanner, ScannerState};
+        pub use papaya_call::copy_ask::CopyAsk;
     }
 }

@@ -1,8 +1,8 @@
 //! `papaya-bench`: times the maps at several workloads, or checks that their results are the same.
 #![tactic(auto)]
 
-use papaya_measure::run::{PROGRAM, run_on};
-use papaya_shell::start::words;
+use papaya_bench_measure::run::{PROGRAM, run_on};
+use papaya_run_shell::start::words;
 use std::process::ExitCode;
 
 fn main(rt: HostRuntime) -> ExitCode {

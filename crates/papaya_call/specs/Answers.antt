@@ -2,8 +2,8 @@
 use Rattle.std.specs.Prelude.{ℕ, Bool, Option, List, [], ◌∷◌}
 use Rattle.papaya_call.specs.declared.answers.Operation.{Operation}
 use Rattle.papaya_call.specs.declared.answers.Operation.TheVariants.{Insert, Remove, Abort}
-use Rattle.papaya_ask.specs.declared.ask.OpKind.{OpKind}
-use Rattle.papaya_ask.specs.declared.ask.OpKind.TheVariants as kinds
+use Rattle.papaya_call.specs.declared.ask.OpKind.{OpKind}
+use Rattle.papaya_call.specs.declared.ask.OpKind.TheVariants as kinds
 
 -- What a type of answers gives: for what is shown, which answer, and which answers are left.
 pub record Says (K V A : Type 0) : Type 1 where

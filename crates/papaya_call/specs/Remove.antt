@@ -2,9 +2,9 @@
 -- becomes Buried.
 use Rattle.std.specs.Prelude.{ℕ}
 use Rattle.papaya_words.specs.Word.{pair_of, buried_word}
-use Rattle.papaya_ask.specs.declared.ask.At.TheVariants.{Slot}
-use Rattle.papaya_ask.specs.declared.ask.Ask.{Ask}
-use Rattle.papaya_ask.specs.declared.ask.Ask.TheVariants.{Exchange, ShowPair}
+use Rattle.papaya_call.specs.declared.ask.At.TheVariants.{Slot}
+use Rattle.papaya_call.specs.declared.ask.Ask.{Ask}
+use Rattle.papaya_call.specs.declared.ask.Ask.TheVariants.{Exchange, ShowPair}
 use Rattle.papaya_call.specs.declared.remove.Removal.{Removal}
 
 -- the closure is shown the pair

@@ -1,22 +1,22 @@
 //! The data of a compute between its closure's result and its change.
 ghost use Rattle.std.specs.Prelude.{◌≡◌, ◌<◌, ◌^◌};
-ghost use Rattle.papaya_ask.specs.declared.call.Task.{Task};
-ghost use Rattle.papaya_ask.specs.declared.call.Task.TheVariants.{Compute};
+ghost use Rattle.papaya_call.specs.declared.call.Task.{Task};
+ghost use Rattle.papaya_call.specs.declared.call.Task.TheVariants.{Compute};
 ghost use Rattle.papaya_call.specs.Compute.{IsGap, IsPurpose, IsRemembered, chosen, fills};
 ghost use Rattle.papaya_call.specs.Compute.{in_place_of, meets, nothing, offered, provides};
 ghost use Rattle.papaya_call.specs.Compute.{recalled, with_choice, with_pair};
 ghost use Rattle.papaya_call.specs.Machine.{IsStandingState};
-ghost use Rattle.papaya_ask.specs.Search.{IsWithin};
+ghost use Rattle.papaya_call.specs.Search.{IsWithin};
 
+use crate::ask::OpKind;
+use crate::call::Reply;
 use crate::machine::State;
 use crate::made::Of;
 use crate::need::Need;
 use crate::remove::Removal;
+use crate::search::Place;
 use crate::write::Write;
-use papaya_ask::ask::OpKind;
-use papaya_ask::call::Reply;
-use papaya_ask::search::Place;
-use papaya_words::probe::Refused;
+use papaya_words::refused::Refused;
 use papaya_words::word::Word;
 
 /// The place where the key was found to be absent, and so where its pair will be.

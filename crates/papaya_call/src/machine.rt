@@ -1,23 +1,24 @@
 //! The machine of a call: what it asks, and how it continues after each answer.
 ghost use Rattle.std.specs.Prelude.{◌≡◌, ◌<◌, ◌≤◌, ◌^◌};
-ghost use Rattle.papaya_ask.specs.Search.{IsSize, IsProbed, IsWithin};
-ghost use Rattle.papaya_ask.specs.declared.call.Task.{Task};
+ghost use Rattle.papaya_call.specs.Search.{IsSize, IsProbed, IsWithin};
+ghost use Rattle.papaya_call.specs.declared.call.Task.{Task};
 ghost use Rattle.papaya_call.specs.Compute.{IsGap};
 ghost use Rattle.papaya_words.specs.Mode.{IsChunked};
 ghost use Rattle.papaya_call.specs.Machine.{IsFit, IsFitAsk, IsStanding, IsStandingState, IsLookup, MayInsert, IsComputer, started, ask_of};
 ghost use Rattle.papaya_call.specs.Machine.{kind_of_ask, after, absent, at_root, goes, found, passes, left, beaten, written};
 ghost use Rattle.papaya_call.specs.Machine.{at_yes, state_op, state_told, at_size, state_made, at_ok, at_refused};
 
+use crate::ask::{Answer, Ask, At, OpKind, StepKind};
+use crate::call::{Reply, Task};
 use crate::compute::{Gap, Purpose, Put, Remembered};
 use crate::made::{Grown, Made};
 use crate::need::Need;
 use crate::remove::Removal;
+use crate::search::{Place, ProbeStep, Search};
 use crate::write::{Claimed, Write};
-use papaya_ask::ask::{Answer, Ask, At, OpKind, StepKind};
-use papaya_ask::call::{Reply, Task};
-use papaya_ask::search::{Place, Probed, Search};
 use papaya_words::limits::{FIRST_TABLE_LEN, FIRST_TABLE_LIMIT};
-use papaya_words::probe::{Refused, ResizeMode};
+use papaya_words::refused::Refused;
+use papaya_words::resize_mode::ResizeMode;
 use papaya_words::word::{Kind, Word};
 
 /// The state of a call, between two answers.
@@ -412,20 +413,20 @@ impl Machine {
 
     /// Continues with the outcome of a search's step.
     #[inline(always)]
-    fn goes(&self, seen: Probed) -> State
+    fn goes(&self, seen: ProbeStep) -> State
         requires seen { IsProbed seen }
         requires standing { IsStanding self.now }
         ensures value { result ≡ goes self.now seen }
         ensures standing { IsStandingState self.now.task result }
     {
         match seen {
-            Probed::On(search) => State::Searching(search),
-            Probed::Empty(place) => match self.task {
+            ProbeStep::On(search) => State::Searching(search),
+            ProbeStep::Empty(place) => match self.task {
                 Task::Insert { .. } => State::Writing(Write { place, old: 0 }),
                 Task::Get | Task::RemoveIf | Task::Compute => self.absent(Gap::At(place)),
             },
-            Probed::Here(place, word) => self.found(place, word),
-            Probed::Over(table) => match self.task {
+            ProbeStep::Here(place, word) => self.found(place, word),
+            ProbeStep::Over(table) => match self.task {
                 Task::Insert { .. } => State::Growing(Need::Room(table)),
                 Task::Get | Task::RemoveIf | Task::Compute => self.passes(table),
             },

@@ -2,8 +2,8 @@
 ghost use Rattle.std.specs.Prelude.{◌≡◌, ◌<◌, ◌^◌};
 ghost use Rattle.papaya_call.specs.Made.{IsGrown, IsMade, IsTold, answered, grown, nothing_made, number_kind, pair_ask, serves_at, taken, told, wanted};
 
-use papaya_ask::ask::{Ask, At, OpKind, StepKind};
-use papaya_ask::search::Place;
+use crate::ask::{Ask, At, OpKind, StepKind};
+use crate::search::Place;
 use papaya_words::word::Word;
 
 /// The progress of a call towards a number for its next pair, in a map that limits them.

@@ -3,8 +3,8 @@ ghost use Rattle.std.specs.Prelude.{◌≡◌};
 ghost use Rattle.papaya_words.specs.Word.{pair_of};
 ghost use Rattle.papaya_call.specs.Remove.{removal_ask, show_ask};
 
-use papaya_ask::ask::{Ask, At};
-use papaya_ask::search::Place;
+use crate::ask::{Ask, At};
+use crate::search::Place;
 use papaya_words::word::Word;
 
 /// A pair that is to be removed if the call's closure agrees: the word that names it, and the place

@@ -3,9 +3,9 @@ ghost use Rattle.std.specs.Prelude.{◌≡◌, ◌<◌, ◌^◌};
 ghost use Rattle.papaya_call.specs.Made.{IsMade, IsOwn};
 ghost use Rattle.papaya_call.specs.Write.{made_of, note_ask, put_ask, serves, with_pair_at, write_ask, write_grown, write_kind};
 
+use crate::ask::{Ask, At, StepKind};
 use crate::made::{Grown, Made, Of};
-use papaya_ask::ask::{Ask, At, StepKind};
-use papaya_ask::search::Place;
+use crate::search::Place;
 use papaya_words::word::{Word, hint};
 
 /// A write of a pair at this place, over the word that was found there.

@@ -5,23 +5,23 @@ use Rattle.std.specs.Prelude.{MatchBool, if◌then◌else◌}
 use Rattle.std.proofs.lemmas.Bool.{and_from, cond_both, cond-true, eq-eqb, ltb-true}
 use Rattle.std.proofs.lemmas.Bool.Decides.{when_true}
 use Rattle.papaya_words.specs.Word.{kind_of, pair_of, may_hold}
-use Rattle.papaya_words.specs.declared.probe.Refused.{Refused}
-use Rattle.papaya_words.specs.declared.probe.ResizeMode.{ResizeMode}
-use Rattle.papaya_words.specs.declared.probe.ResizeMode.TheVariants.{Incremental, Blocking}
+use Rattle.papaya_words.specs.declared.refused.Refused.{Refused}
+use Rattle.papaya_words.specs.declared.resize_mode.ResizeMode.{ResizeMode}
+use Rattle.papaya_words.specs.declared.resize_mode.ResizeMode.TheVariants.{Incremental, Blocking}
 use Rattle.papaya_words.specs.declared.word.Kind.{Kind}
 use Rattle.papaya_words.specs.declared.word.Kind.TheVariants as word_kinds
-use Rattle.papaya_ask.specs.declared.ask.At.{At}
-use Rattle.papaya_ask.specs.declared.ask.At.TheVariants.{Root, Next, Slot, Made as Made_word}
-use Rattle.papaya_ask.specs.declared.ask.Ask.{Ask}
-use Rattle.papaya_ask.specs.declared.ask.Ask.TheVariants.{MakeKey, MakeValue, MakePair, MakePairOf}
-use Rattle.papaya_ask.specs.declared.ask.Ask.TheVariants as ask_kinds
-use Rattle.papaya_ask.specs.declared.ask.Answer.{Answer}
-use Rattle.papaya_ask.specs.declared.ask.Answer.TheVariants.{Word as Word_read, Exchanged, Yes, Op, Size, Made as Made_number, Refused as Was_refused}
-use Rattle.papaya_ask.specs.declared.ask.OpKind.{OpKind}
-use Rattle.papaya_ask.specs.declared.ask.OpKind.TheVariants as op_kinds
-use Rattle.papaya_ask.specs.declared.call.Reply.TheVariants.{Absent, Replaced}
-use Rattle.papaya_ask.specs.declared.call.Task.{Task}
-use Rattle.papaya_ask.specs.declared.call.Task.TheVariants.{Get, Insert, RemoveIf, Compute}
+use Rattle.papaya_call.specs.declared.ask.At.{At}
+use Rattle.papaya_call.specs.declared.ask.At.TheVariants.{Root, Next, Slot, Made as Made_word}
+use Rattle.papaya_call.specs.declared.ask.Ask.{Ask}
+use Rattle.papaya_call.specs.declared.ask.Ask.TheVariants.{MakeKey, MakeValue, MakePair, MakePairOf}
+use Rattle.papaya_call.specs.declared.ask.Ask.TheVariants as ask_kinds
+use Rattle.papaya_call.specs.declared.ask.Answer.{Answer}
+use Rattle.papaya_call.specs.declared.ask.Answer.TheVariants.{Word as Word_read, Exchanged, Yes, Op, Size, Made as Made_number, Refused as Was_refused}
+use Rattle.papaya_call.specs.declared.ask.OpKind.{OpKind}
+use Rattle.papaya_call.specs.declared.ask.OpKind.TheVariants as op_kinds
+use Rattle.papaya_call.specs.declared.call.Reply.TheVariants.{Absent, Replaced}
+use Rattle.papaya_call.specs.declared.call.Task.{Task}
+use Rattle.papaya_call.specs.declared.call.Task.TheVariants.{Get, Insert, RemoveIf, Compute}
 use Rattle.papaya_call.specs.declared.compute.Choice.{Choice}
 use Rattle.papaya_call.specs.declared.compute.Choice.TheVariants as choices
 use Rattle.papaya_call.specs.declared.compute.Gap.{Gap}
@@ -30,10 +30,10 @@ use Rattle.papaya_call.specs.declared.compute.Purpose.{Purpose}
 use Rattle.papaya_call.specs.declared.compute.Purpose.TheVariants as purposes
 use Rattle.papaya_call.specs.declared.compute.Remembered.{Remembered}
 use Rattle.papaya_call.specs.declared.remove.Removal.{Removal}
-use Rattle.papaya_ask.specs.declared.search.Place.{Place}
-use Rattle.papaya_ask.specs.declared.search.Search.TheVariants.{Sizing, Looking, Reading, Comparing}
-use Rattle.papaya_ask.specs.declared.search.Probed.{Probed}
-use Rattle.papaya_ask.specs.declared.search.Probed.TheVariants as seen
+use Rattle.papaya_call.specs.declared.search.Place.{Place}
+use Rattle.papaya_call.specs.declared.search.Search.TheVariants.{Sizing, Looking, Reading, Comparing}
+use Rattle.papaya_call.specs.declared.search.ProbeStep.{ProbeStep}
+use Rattle.papaya_call.specs.declared.search.ProbeStep.TheVariants as seen
 use Rattle.papaya_call.specs.declared.made.Made.{Made}
 use Rattle.papaya_call_law.proofs.Makings.{IsMakeAsk, make_asks}
 use Rattle.papaya_call.specs.declared.write.Write.{Write}
@@ -44,7 +44,7 @@ use Rattle.papaya_call.specs.declared.machine.State.TheVariants.{Writing, Offeri
 use Rattle.papaya_call.specs.declared.machine.State.TheVariants.{Pairing, Putting, Burying}
 use Rattle.papaya_call.specs.declared.machine.State.TheVariants.{Counting, Noting, Uncounting}
 use Rattle.papaya_call.specs.declared.machine.State.TheVariants.{Leaving, Growing, Ended}
-use Rattle.papaya_ask.specs.Search.{IsSize, next_place, go_on, look_at, match_at, look, at_yes as search_compared, hinted}
+use Rattle.papaya_call.specs.Search.{IsSize, next_place, go_on, look_at, match_at, look, at_yes as search_compared, hinted}
 use Rattle.papaya_call.specs.declared.made.Grown.{Grown}
 use Rattle.papaya_call.specs.declared.made.Grown.TheVariants.{On, Pair}
 use Rattle.papaya_call.specs.declared.made.Number.{Number}
@@ -77,7 +77,7 @@ by_saying P by_yes by_op RemoveIf answer (agrees, e) = subst (P RemoveIf) (sym e
 by_saying P by_yes by_op Compute answer (kind, e) = subst (P Compute) (sym e) (by_op kind)
 
 -- the steps that are left, at most, after a search saw this
-abbrev left_of_seen : Probed → ℕ
+abbrev left_of_seen : ProbeStep → ℕ
 left_of_seen (seen.On search) = left_to_search search
 left_of_seen (seen.Empty at) = 9
 left_of_seen (seen.Here at word) = 10
@@ -201,7 +201,7 @@ module _ (made : Made) where
   passes_left task Blocking fill t = omega (arith, absent_left task fill (gaps.After t))
 
   -- where a search leads, no more is left than it saw
-  goes_left : (task : Task) (mode : ResizeMode) (held : Remembered) (s : Probed) → left_in made (goes_as task mode held s) ≤ left_of_seen s
+  goes_left : (task : Task) (mode : ResizeMode) (held : Remembered) (s : ProbeStep) → left_in made (goes_as task mode held s) ≤ left_of_seen s
   goes_left task mode held (seen.On search) = omega arith
   goes_left Get mode held (seen.Here at word) = omega arith
   goes_left (Insert false) mode held (seen.Here at word) = occupies_leads (λ s. left_in made s ≤ 10) (kind_of word) at word (omega arith) (omega arith)

@@ -5,41 +5,41 @@ use Rattle.std.proofs.Common.{arith, eq-eqb}
 use Rattle.std.proofs.lemmas.Bool.{cases_lt, cond_both}
 use Rattle.papaya_words.specs.Probe.{place}
 use Rattle.papaya_words.specs.Word.{hint_of, may_hold}
-use Rattle.papaya_words.specs.declared.probe.Refused.{Refused}
-use Rattle.papaya_words.specs.declared.probe.ResizeMode.{ResizeMode}
-use Rattle.papaya_words.specs.declared.probe.ResizeMode.TheVariants.{Incremental, Blocking}
+use Rattle.papaya_words.specs.declared.refused.Refused.{Refused}
+use Rattle.papaya_words.specs.declared.resize_mode.ResizeMode.{ResizeMode}
+use Rattle.papaya_words.specs.declared.resize_mode.ResizeMode.TheVariants.{Incremental, Blocking}
 use Rattle.papaya_words.proofs.Places.{place-next}
-use Rattle.papaya_ask.specs.declared.ask.At.{At}
-use Rattle.papaya_ask.specs.declared.ask.At.TheVariants.{Aborted, Next, Slot as Slot_word}
-use Rattle.papaya_copy.specs.declared.carry.Carried.TheVariants as carried
-use Rattle.papaya_copy.specs.declared.carry.Carry.{Carry}
-use Rattle.papaya_copy.specs.declared.carry.Carry.TheVariants as carries
-use Rattle.papaya_ask.specs.declared.copy_ask.CopyAsk.TheVariants.{Exchange as Ask_exchange, HashOf, Load, LoadHint, SamePair, SizeOf, WriteHint}
-use Rattle.papaya_copy.specs.declared.link.Link.TheVariants as links
-use Rattle.papaya_copy.specs.declared.link.Linked.{Linked}
-use Rattle.papaya_copy.specs.declared.link.Linked.TheVariants as linked
-use Rattle.papaya_ask.specs.declared.search.Place.{Place}
-use Rattle.papaya_copy.specs.declared.settle.Slot.{Slot}
-use Rattle.papaya_copy.specs.Carry.{at_count, at_found, at_hash, at_made, at_ok, at_refused}
-use Rattle.papaya_copy.specs.Carry.{at_size, at_word, at_yes, carried_on, carry_ask, carry_follows}
-use Rattle.papaya_copy.specs.Carry.{compared, fills, goes_on, hinted, look as look_word, look_at}
-use Rattle.papaya_copy.specs.Link.{follows, link_ask, at_count as link_at_count, at_found as link_lost, at_refused as link_at_refused}
-use Rattle.papaya_ask.specs.Search.{next_place}
-use Rattle.papaya_copy.specs.declared.link.Link.{Link}
-use Rattle.papaya_law.specs.Class.{IsOn}
-use Rattle.papaya_law.specs.Code.{Coding, IsHashed, code, kind}
-use Rattle.papaya_law.specs.Copying.{IsPutting}
-use Rattle.papaya_law.specs.Exchange.{Word, Empty, Closed, Live, Marked, Copied, Buried, Setting, State}
-use Rattle.papaya_law.specs.Invariant.{IsKeeping, named}
-use Rattle.papaya_law.specs.Later.{Becomes}
-use Rattle.papaya_law.specs.Hints.{IsHint}
-use Rattle.papaya_law.specs.View.{Foreign, foreign, look, view}
-use Rattle.papaya_law.proofs.Codes.{code_kind}
-use Rattle.papaya_law.proofs.Hints.{hint_passes}
-use Rattle.papaya_law.proofs.Copies.{put_next}
-use Rattle.papaya_law.proofs.CopierFacts.{taker_on}
-use Rattle.papaya_law.proofs.OneMap.{keeping_sound}
-use Rattle.papaya_law.proofs.Later.{later_itself}
+use Rattle.papaya_call.specs.declared.ask.At.{At}
+use Rattle.papaya_call.specs.declared.ask.At.TheVariants.{Aborted, Next, Slot as Slot_word}
+use Rattle.papaya_call.specs.declared.copy.carry.Carried.TheVariants as carried
+use Rattle.papaya_call.specs.declared.copy.carry.Carry.{Carry}
+use Rattle.papaya_call.specs.declared.copy.carry.Carry.TheVariants as carries
+use Rattle.papaya_call.specs.declared.copy_ask.CopyAsk.TheVariants.{Exchange as Ask_exchange, HashOf, Load, LoadHint, SamePair, SizeOf, WriteHint}
+use Rattle.papaya_call.specs.declared.copy.link.Link.TheVariants as links
+use Rattle.papaya_call.specs.declared.copy.link.Linked.{Linked}
+use Rattle.papaya_call.specs.declared.copy.link.Linked.TheVariants as linked
+use Rattle.papaya_call.specs.declared.search.Place.{Place}
+use Rattle.papaya_call.specs.declared.copy.settle.SlotToCopy.{SlotToCopy}
+use Rattle.papaya_call.specs.Carry.{at_count, at_found, at_hash, at_made, at_ok, at_refused}
+use Rattle.papaya_call.specs.Carry.{at_size, at_word, at_yes, carried_on, carry_ask, carry_follows}
+use Rattle.papaya_call.specs.Carry.{compared, fills, goes_on, hinted, look as look_word, look_at}
+use Rattle.papaya_call.specs.Link.{follows, link_ask, at_count as link_at_count, at_found as link_lost, at_refused as link_at_refused}
+use Rattle.papaya_call.specs.Search.{next_place}
+use Rattle.papaya_call.specs.declared.copy.link.Link.{Link}
+use Rattle.papaya_words_law.specs.Class.{IsOn}
+use Rattle.papaya_words_law.specs.Code.{Coding, IsHashed, code, kind}
+use Rattle.papaya_words_law.specs.Copying.{IsPutting}
+use Rattle.papaya_words_law.specs.Exchange.{Word, Empty, Closed, Live, Marked, Copied, Buried, Setting, State}
+use Rattle.papaya_words_law.specs.Invariant.{IsKeeping, named}
+use Rattle.papaya_words_law.specs.Later.{Becomes}
+use Rattle.papaya_words_law.specs.Hints.{IsHint}
+use Rattle.papaya_words_law.specs.View.{Foreign, foreign, look, view}
+use Rattle.papaya_words_law.proofs.Codes.{code_kind}
+use Rattle.papaya_words_law.proofs.Hints.{hint_passes}
+use Rattle.papaya_words_law.proofs.Copies.{put_next}
+use Rattle.papaya_words_law.proofs.CopierFacts.{taker_on}
+use Rattle.papaya_words_law.proofs.OneMap.{keeping_sound}
+use Rattle.papaya_words_law.proofs.Later.{later_itself}
 use Rattle.papaya_call_law.specs.Copier.{IsCarrying, IsFor, ReliesCarried, ReliesCarry, ReliesLinked, carried_to, told_last}
 use Rattle.papaya_call_law.specs.Relies.{IsCutAs, IsModeOf}
 use Rattle.papaya_call_law.specs.Told.{or_last, word_of}
@@ -98,7 +98,7 @@ no_same (links.Making behind len limit chunks) i n e = cc e
 no_same (links.Linking behind table chunks) i n e = cc e
 
 module _ {K P : Type 0} (g : Setting K P) (c : Coding K P) (hashed : IsHashed g c) (s : State P) (m : K → Option P) (keeps : IsKeeping g s m)
-    (mode : ResizeMode) (moded : IsModeOf mode g.blocking) (kept : Option P) (slot : Slot) (word : ℕ) (p : P) (marked : word ≡ code g c (Marked p))
+    (mode : ResizeMode) (moded : IsModeOf mode g.blocking) (kept : Option P) (slot : SlotToCopy) (word : ℕ) (p : P) (marked : word ≡ code g c (Marked p))
     (on : IsOn s.first s.next slot.from) where
   -- a table that takes the pair is on the chain
   takes_on : (n j : ℕ) → IsPutting g s slot.from slot.index p n j → IsOn s.first s.next n

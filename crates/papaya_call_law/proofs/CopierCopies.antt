@@ -2,58 +2,58 @@
 use Rattle.std.proofs.Common.{◌≡◌, inl, ℕ, ◌+◌, ◌<◌, ◌==◌, ◌||◌, true, cond, Option, Some, refl, sym, ap, ◌∙◌, subst, eqb-true}
 use Rattle.std.proofs.lemmas.Bool.{cond_both}
 use Rattle.papaya_words.specs.Word.{pair_of}
-use Rattle.papaya_words.specs.declared.probe.Refused.{Refused}
-use Rattle.papaya_words.specs.declared.probe.ResizeMode.{ResizeMode}
-use Rattle.papaya_words.specs.declared.probe.ResizeMode.TheVariants.{Incremental, Blocking}
-use Rattle.papaya_ask.specs.declared.ask.At.{At}
-use Rattle.papaya_copy.specs.declared.carry.Carry.{Carry}
-use Rattle.papaya_copy.specs.declared.carry.Carry.TheVariants as carries
-use Rattle.papaya_ask.specs.declared.copy_ask.CopyAsk.TheVariants.{Exchange as Ask_exchange, HashOf, Load, LoadHint, SamePair, SizeOf, WriteHint}
-use Rattle.papaya_copy.specs.declared.copying.Aim.{Aim}
-use Rattle.papaya_copy.specs.declared.copying.Aim.TheVariants as aims
-use Rattle.papaya_copy.specs.declared.copying.Copied.TheVariants as copied
-use Rattle.papaya_copy.specs.declared.copying.Copying.{Copying}
-use Rattle.papaya_copy.specs.declared.copying.Copying.TheVariants as copyings
-use Rattle.papaya_copy.specs.declared.link.Link.{Link}
-use Rattle.papaya_copy.specs.declared.link.Link.TheVariants as links
-use Rattle.papaya_ask.specs.declared.search.Place.{Place}
-use Rattle.papaya_copy.specs.declared.settle.Settle.{Settle}
-use Rattle.papaya_copy.specs.declared.settle.Settle.TheVariants as settles
-use Rattle.papaya_copy.specs.declared.settle.Settled.{Settled}
-use Rattle.papaya_copy.specs.declared.settle.Settled.TheVariants as settled
-use Rattle.papaya_copy.specs.declared.settle.Slot.{Slot}
-use Rattle.papaya_copy.specs.declared.step.Chunk.{Chunk}
-use Rattle.papaya_copy.specs.declared.step.Step.{Step}
-use Rattle.papaya_copy.specs.declared.step.Step.TheVariants as steps
-use Rattle.papaya_copy.specs.declared.step.Stepped.{Stepped}
-use Rattle.papaya_copy.specs.declared.step.Stepped.TheVariants as stepped
-use Rattle.papaya_copy.specs.Carry.{carry_ask}
-use Rattle.papaya_copy.specs.Copying.{all_of, at_count, at_exchanged, at_found, at_hash, at_made}
-use Rattle.papaya_copy.specs.Copying.{at_ok, at_refused, at_root, at_size, at_word, at_yes}
-use Rattle.papaya_copy.specs.Copying.{copying_ask, copying_follows, copying_kind, last as last_of}
-use Rattle.papaya_copy.specs.Copying.{further, leads, lone, over}
-use Rattle.papaya_copy.specs.Link.{link_ask}
-use Rattle.papaya_copy.specs.Settle.{settle_ask, at_count as settle_at_count}
-use Rattle.papaya_copy.specs.Settle.{at_exchanged as settle_at_exchanged}
-use Rattle.papaya_copy.specs.Settle.{at_found as settle_at_found, at_ok as settle_at_ok}
-use Rattle.papaya_copy.specs.Settle.{at_refused as settle_at_refused, at_word as settle_at_word}
-use Rattle.papaya_copy.specs.Settle.{at_yes as settle_at_yes}
-use Rattle.papaya_copy.specs.Step.{slot_of, step_ask, at_count as step_at_count}
-use Rattle.papaya_copy.specs.Step.{at_exchanged as step_at_exchanged, at_found as step_at_found}
-use Rattle.papaya_copy.specs.Step.{at_ok as step_at_ok, at_refused as step_at_refused}
-use Rattle.papaya_copy.specs.Step.{at_word as step_at_word, at_yes as step_at_yes}
-use Rattle.papaya_law.specs.Allows.{Allows}
-use Rattle.papaya_law.specs.Class.{IsOn}
-use Rattle.papaya_law.specs.Code.{Coding, IsHashed, code}
-use Rattle.papaya_law.specs.Copying.{IsPutting, IsTarget}
-use Rattle.papaya_law.specs.Exchange.{Marked, Setting, State, Exchange, after}
-use Rattle.papaya_law.specs.Hints.{IsHint}
-use Rattle.papaya_law.specs.Invariant.{IsKeeping}
-use Rattle.papaya_law.specs.Meaning.{map_after}
-use Rattle.papaya_law.proofs.Base.{linking_on}
-use Rattle.papaya_law.proofs.Codes.{code_pair}
-use Rattle.papaya_law.proofs.CopierFacts.{last_root, taker_on, target_on}
-use Rattle.papaya_law.proofs.OneMap.{keeping_sound}
+use Rattle.papaya_words.specs.declared.refused.Refused.{Refused}
+use Rattle.papaya_words.specs.declared.resize_mode.ResizeMode.{ResizeMode}
+use Rattle.papaya_words.specs.declared.resize_mode.ResizeMode.TheVariants.{Incremental, Blocking}
+use Rattle.papaya_call.specs.declared.ask.At.{At}
+use Rattle.papaya_call.specs.declared.copy.carry.Carry.{Carry}
+use Rattle.papaya_call.specs.declared.copy.carry.Carry.TheVariants as carries
+use Rattle.papaya_call.specs.declared.copy_ask.CopyAsk.TheVariants.{Exchange as Ask_exchange, HashOf, Load, LoadHint, SamePair, SizeOf, WriteHint}
+use Rattle.papaya_call.specs.declared.copy.copying.Aim.{Aim}
+use Rattle.papaya_call.specs.declared.copy.copying.Aim.TheVariants as aims
+use Rattle.papaya_call.specs.declared.copy.copying.Copied.TheVariants as copied
+use Rattle.papaya_call.specs.declared.copy.copying.Copying.{Copying}
+use Rattle.papaya_call.specs.declared.copy.copying.Copying.TheVariants as copyings
+use Rattle.papaya_call.specs.declared.copy.link.Link.{Link}
+use Rattle.papaya_call.specs.declared.copy.link.Link.TheVariants as links
+use Rattle.papaya_call.specs.declared.search.Place.{Place}
+use Rattle.papaya_call.specs.declared.copy.settle.Settle.{Settle}
+use Rattle.papaya_call.specs.declared.copy.settle.Settle.TheVariants as settles
+use Rattle.papaya_call.specs.declared.copy.settle.Settled.{Settled}
+use Rattle.papaya_call.specs.declared.copy.settle.Settled.TheVariants as settled
+use Rattle.papaya_call.specs.declared.copy.settle.SlotToCopy.{SlotToCopy}
+use Rattle.papaya_call.specs.declared.copy.step.Chunk.{Chunk}
+use Rattle.papaya_call.specs.declared.copy.step.Step.{Step}
+use Rattle.papaya_call.specs.declared.copy.step.Step.TheVariants as steps
+use Rattle.papaya_call.specs.declared.copy.step.Stepped.{Stepped}
+use Rattle.papaya_call.specs.declared.copy.step.Stepped.TheVariants as stepped
+use Rattle.papaya_call.specs.Carry.{carry_ask}
+use Rattle.papaya_call.specs.Copying.{all_of, at_count, at_exchanged, at_found, at_hash, at_made}
+use Rattle.papaya_call.specs.Copying.{at_ok, at_refused, at_root, at_size, at_word, at_yes}
+use Rattle.papaya_call.specs.Copying.{copying_ask, copying_follows, copying_kind, last as last_of}
+use Rattle.papaya_call.specs.Copying.{further, leads, lone, over}
+use Rattle.papaya_call.specs.Link.{link_ask}
+use Rattle.papaya_call.specs.Settle.{settle_ask, at_count as settle_at_count}
+use Rattle.papaya_call.specs.Settle.{at_exchanged as settle_at_exchanged}
+use Rattle.papaya_call.specs.Settle.{at_found as settle_at_found, at_ok as settle_at_ok}
+use Rattle.papaya_call.specs.Settle.{at_refused as settle_at_refused, at_word as settle_at_word}
+use Rattle.papaya_call.specs.Settle.{at_yes as settle_at_yes}
+use Rattle.papaya_call.specs.Step.{slot_of, step_ask, at_count as step_at_count}
+use Rattle.papaya_call.specs.Step.{at_exchanged as step_at_exchanged, at_found as step_at_found}
+use Rattle.papaya_call.specs.Step.{at_ok as step_at_ok, at_refused as step_at_refused}
+use Rattle.papaya_call.specs.Step.{at_word as step_at_word, at_yes as step_at_yes}
+use Rattle.papaya_words_law.specs.Allows.{Allows}
+use Rattle.papaya_words_law.specs.Class.{IsOn}
+use Rattle.papaya_words_law.specs.Code.{Coding, IsHashed, code}
+use Rattle.papaya_words_law.specs.Copying.{IsPutting, IsTarget}
+use Rattle.papaya_words_law.specs.Exchange.{Marked, Setting, State, Exchange, after}
+use Rattle.papaya_words_law.specs.Hints.{IsHint}
+use Rattle.papaya_words_law.specs.Invariant.{IsKeeping}
+use Rattle.papaya_words_law.specs.Meaning.{map_after}
+use Rattle.papaya_words_law.proofs.Base.{linking_on}
+use Rattle.papaya_words_law.proofs.Codes.{code_pair}
+use Rattle.papaya_words_law.proofs.CopierFacts.{last_root, taker_on, target_on}
+use Rattle.papaya_words_law.proofs.OneMap.{keeping_sound}
 use Rattle.papaya_call_law.specs.Copier.{AreThere, IsChunk, IsCopyAsked, IsFor, IsMoving}
 use Rattle.papaya_call_law.specs.Copier.{IsStillAimed, ReliesAim, ReliesCarry, ReliesCopied}
 use Rattle.papaya_call_law.specs.Copier.{ReliesCopying, ReliesLink, ReliesSettle, ReliesSettled}
@@ -142,7 +142,7 @@ module _ {K P : Type 0} (g : Setting K P) (c : Coding K P) (s : State P) (m : K 
   leads_to how aim r (stepped.Refused refused) h = tt
 
   -- and that of one slot more
-  lone_on : (slot : Slot) → IsMoving g c s slot → (end : Settled) → ReliesSettled g c s last kept slot end
+  lone_on : (slot : SlotToCopy) → IsMoving g c s slot → (end : Settled) → ReliesSettled g c s last kept slot end
       → ReliesCopied g c s last kept (aims.Settle slot) (lone slot end)
   lone_on slot r (settled.On settle) h = (refl, (r, h))
   lone_on slot r settled.Settled h = (refl, h)
@@ -152,7 +152,7 @@ module _ {K P : Type 0} (g : Setting K P) (c : Coding K P) (s : State P) (m : K 
 module _ {K P : Type 0} (g : Setting K P) (c : Coding K P) (hashed : IsHashed g c) (s : State P) (m : K → Option P) (keeps : IsKeeping g s m)
     (mode : ResizeMode) (moded : IsModeOf mode g.blocking) (last kept : Option P) where
   -- what is known of the lone slot
-  known : (slot : Slot) → IsMoving g c s slot → IsKnown g c hashed s m keeps slot
+  known : (slot : SlotToCopy) → IsMoving g c s slot → IsKnown g c hashed s m keeps slot
   known slot r = moving_known g c hashed s m keeps slot r
 
   pub copying_loaded : (copying : Copying) → ReliesCopying g c s last kept copying → (at : At) → copying_ask copying ≡ Load at
@@ -282,7 +282,7 @@ module _ {K P : Type 0} (g : Setting K P) (c : Coding K P) (hashed : IsHashed g 
   link_there (links.Making behind len limit chunks) r = tt
   link_there (links.Linking behind table chunks) r = r.on
 
-  module _ (slot : Slot) (on : IsOn s.first s.next slot.from) (word : ℕ) (p : P) (marked : word ≡ code g c (Marked p)) where
+  module _ (slot : SlotToCopy) (on : IsOn s.first s.next slot.from) (word : ℕ) (p : P) (marked : word ≡ code g c (Marked p)) where
     -- a table that takes the pair is on the chain
     takes_on : (n j : ℕ) → IsPutting g s slot.from slot.index p n j → IsOn s.first s.next n
     takes_on n j put = taker_on g s (keeping_sound g s m keeps).rises (g.key p) slot.from n on put.taker
@@ -313,7 +313,7 @@ module _ {K P : Type 0} (g : Setting K P) (c : Coding K P) (hashed : IsHashed g 
     carry_there (carries.Linking hash link) r = link_there link r.4
     carry_there (carries.Aborting table) r = takes_on table (g.places table) r.2
 
-  settle_there : (slot : Slot) → IsKnown g c hashed s m keeps slot → (settle : Settle) → ReliesSettle g c s last kept slot settle
+  settle_there : (slot : SlotToCopy) → IsKnown g c hashed s m keeps slot → (settle : Settle) → ReliesSettle g c s last kept slot settle
       → AreThere g c s last kept (settle_ask settle slot)
   settle_there slot h settles.Looking r = (h.on, h.within)
   settle_there slot h settles.Closing r = (h.on, h.within)

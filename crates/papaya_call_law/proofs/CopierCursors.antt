@@ -6,14 +6,14 @@ use Rattle.std.specs.Prelude.{MatchBool}
 use Rattle.std.proofs.Math.Nat.{mod-lt}
 use Rattle.std.proofs.lemmas.Bool.{and_parts, cases_lt, cases_order, cond_both}
 use Rattle.papaya_words.specs.Chunks.{chunk_count, chunk_len}
-use Rattle.papaya_words.specs.declared.probe.ResizeMode.{ResizeMode}
+use Rattle.papaya_words.specs.declared.resize_mode.ResizeMode.{ResizeMode}
 use Rattle.papaya_words.proofs.ChunkLemmas.{chunk_before, chunk_from, chunk_next, chunk_some, chunk_starts, chunk_to}
-use Rattle.papaya_copy.specs.declared.step.Cursor.{Cursor}
-use Rattle.papaya_copy.specs.declared.step.Step.TheVariants as steps
-use Rattle.papaya_copy.specs.Step.{chunk_at, first_chunk, first_cursor, is_further, next_chunk, next_cursor}
-use Rattle.papaya_law.specs.Code.{Coding}
-use Rattle.papaya_law.specs.Exchange.{Setting, State}
-use Rattle.papaya_law.specs.Meaning.{IsLawful}
+use Rattle.papaya_call.specs.declared.copy.step.Cursor.{Cursor}
+use Rattle.papaya_call.specs.declared.copy.step.Step.TheVariants as steps
+use Rattle.papaya_call.specs.Step.{chunk_at, first_chunk, first_cursor, is_further, next_chunk, next_cursor}
+use Rattle.papaya_words_law.specs.Code.{Coding}
+use Rattle.papaya_words_law.specs.Exchange.{Setting, State}
+use Rattle.papaya_words_law.specs.Meaning.{IsLawful}
 use Rattle.papaya_call_law.specs.Copier.{IsAllDone, IsChunk, IsCursor, IsPassedBy, IsSource, ReliesStep}
 use Rattle.papaya_call_law.specs.Relies.{IsCutAs}
 

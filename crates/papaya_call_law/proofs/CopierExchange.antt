@@ -5,40 +5,40 @@ use Rattle.std.proofs.Common.{arith}
 use Rattle.std.proofs.lemmas.Bool.{and_parts, cases_Bool, cond-true, cond-false}
 use Rattle.papaya_words.specs.Word.{kind_of, pair_of, live_word, marked_word, copied_word}
 use Rattle.papaya_words.specs.declared.word.Kind.TheVariants as word_kinds
-use Rattle.papaya_ask.specs.declared.ask.At.{At}
-use Rattle.papaya_ask.specs.declared.ask.At.TheVariants.{Root, Next, Aborted, Done, Slot as Slot_word, Made as Made_word}
-use Rattle.papaya_ask.specs.declared.ask.StepKind.{StepKind}
-use Rattle.papaya_ask.specs.declared.ask.StepKind.TheVariants as kinds
-use Rattle.papaya_copy.specs.declared.carry.Carry.{Carry}
-use Rattle.papaya_copy.specs.declared.carry.Carry.TheVariants as carries
-use Rattle.papaya_ask.specs.declared.copy_ask.CopyAsk.TheVariants.{Exchange as Ask_exchange}
-use Rattle.papaya_copy.specs.declared.copying.Copying.{Copying}
-use Rattle.papaya_copy.specs.declared.copying.Copying.TheVariants as copyings
-use Rattle.papaya_copy.specs.declared.link.Link.{Link}
-use Rattle.papaya_copy.specs.declared.link.Link.TheVariants as links
-use Rattle.papaya_copy.specs.declared.settle.Settle.{Settle}
-use Rattle.papaya_copy.specs.declared.settle.Settle.TheVariants as settles
-use Rattle.papaya_copy.specs.declared.settle.Slot.{Slot}
-use Rattle.papaya_copy.specs.declared.step.Step.{Step}
-use Rattle.papaya_copy.specs.declared.step.Step.TheVariants as steps
-use Rattle.papaya_copy.specs.Carry.{carry_ask, carry_kind}
-use Rattle.papaya_copy.specs.Copying.{copying_ask, copying_kind}
-use Rattle.papaya_copy.specs.Link.{link_ask, link_kind}
-use Rattle.papaya_copy.specs.Settle.{copied_as, marked_as, settle_ask, settle_kind}
-use Rattle.papaya_copy.specs.Step.{slot_of, step_ask, step_kind}
-use Rattle.papaya_law.specs.Allows.{Allows}
-use Rattle.papaya_law.specs.Class.{IsOn}
-use Rattle.papaya_law.specs.Code.{Coding, IsHashed, IsOfKind, code}
-use Rattle.papaya_law.specs.Copying.{IsTarget}
-use Rattle.papaya_law.specs.Exchange.{Word, Empty, Closed, Live, Marked, Copied, Setting, State}
-use Rattle.papaya_law.specs.Exchange.{Exchange, Link as Link_to, Mark, Close, Place, Finish}
-use Rattle.papaya_law.specs.Exchange.{Advance, Promote, Abort, after, at_put, done_put, slot_put}
-use Rattle.papaya_law.specs.Invariant.{IsKeeping}
-use Rattle.papaya_law.proofs.Codes.{code_empty, code_kind, code_pair}
-use Rattle.papaya_law.proofs.CodeViews.{word_of_kind}
-use Rattle.papaya_law.proofs.CopierFacts.{target_further}
-use Rattle.papaya_law.proofs.OneMap.{keeping_sound}
-use Rattle.papaya_law.proofs.Slots.{put_there, put_elsewhere}
+use Rattle.papaya_call.specs.declared.ask.At.{At}
+use Rattle.papaya_call.specs.declared.ask.At.TheVariants.{Root, Next, Aborted, Done, Slot as Slot_word, Made as Made_word}
+use Rattle.papaya_call.specs.declared.ask.StepKind.{StepKind}
+use Rattle.papaya_call.specs.declared.ask.StepKind.TheVariants as kinds
+use Rattle.papaya_call.specs.declared.copy.carry.Carry.{Carry}
+use Rattle.papaya_call.specs.declared.copy.carry.Carry.TheVariants as carries
+use Rattle.papaya_call.specs.declared.copy_ask.CopyAsk.TheVariants.{Exchange as Ask_exchange}
+use Rattle.papaya_call.specs.declared.copy.copying.Copying.{Copying}
+use Rattle.papaya_call.specs.declared.copy.copying.Copying.TheVariants as copyings
+use Rattle.papaya_call.specs.declared.copy.link.Link.{Link}
+use Rattle.papaya_call.specs.declared.copy.link.Link.TheVariants as links
+use Rattle.papaya_call.specs.declared.copy.settle.Settle.{Settle}
+use Rattle.papaya_call.specs.declared.copy.settle.Settle.TheVariants as settles
+use Rattle.papaya_call.specs.declared.copy.settle.SlotToCopy.{SlotToCopy}
+use Rattle.papaya_call.specs.declared.copy.step.Step.{Step}
+use Rattle.papaya_call.specs.declared.copy.step.Step.TheVariants as steps
+use Rattle.papaya_call.specs.Carry.{carry_ask, carry_kind}
+use Rattle.papaya_call.specs.Copying.{copying_ask, copying_kind}
+use Rattle.papaya_call.specs.Link.{link_ask, link_kind}
+use Rattle.papaya_call.specs.Settle.{copied_as, marked_as, settle_ask, settle_kind}
+use Rattle.papaya_call.specs.Step.{slot_of, step_ask, step_kind}
+use Rattle.papaya_words_law.specs.Allows.{Allows}
+use Rattle.papaya_words_law.specs.Class.{IsOn}
+use Rattle.papaya_words_law.specs.Code.{Coding, IsHashed, IsOfKind, code}
+use Rattle.papaya_words_law.specs.Copying.{IsTarget}
+use Rattle.papaya_words_law.specs.Exchange.{Word, Empty, Closed, Live, Marked, Copied, Setting, State}
+use Rattle.papaya_words_law.specs.Exchange.{Exchange, Link as Link_to, Mark, Close, Place, Finish}
+use Rattle.papaya_words_law.specs.Exchange.{Advance, Promote, Abort, after, at_put, done_put, slot_put}
+use Rattle.papaya_words_law.specs.Invariant.{IsKeeping}
+use Rattle.papaya_words_law.proofs.Codes.{code_empty, code_kind, code_pair}
+use Rattle.papaya_words_law.proofs.CodeViews.{word_of_kind}
+use Rattle.papaya_words_law.proofs.CopierFacts.{target_further}
+use Rattle.papaya_words_law.proofs.OneMap.{keeping_sound}
+use Rattle.papaya_words_law.proofs.Slots.{put_there, put_elsewhere}
 use Rattle.papaya_call_law.specs.Copier.{HasWords, IsCopyAsked, IsMoving, IsSource, ReliesCarry}
 use Rattle.papaya_call_law.specs.Copier.{ReliesCopying, ReliesLink, ReliesSettle, ReliesStep}
 use Rattle.papaya_call_law.specs.Copier.{link_in_carry, link_in_copying, link_in_settle}
@@ -154,18 +154,18 @@ module _ {K P : Type 0} (g : Setting K P) (c : Coding K P) (hashed : IsHashed g 
 
   module _ (s : State P) (m : K → Option P) (keeps : IsKeeping g s m) where
     -- what a copier knows of a slot
-    pub record IsKnown (slot : Slot) : Type 0 where
+    pub record IsKnown (slot : SlotToCopy) : Type 0 where
       pub on : IsOn s.first s.next slot.from
       pub within : slot.index < g.size slot.from
       pub target : IsTarget g s slot.from slot.to
       pub shut : (s.was_root slot.from ≡ true) ⊎ ((p : P) × ((s.slot slot.from slot.index ≡ Marked p) ⊎ (s.slot slot.from slot.index ≡ Copied p)))
 
     -- the slot of one that is moving
-    pub moving_known : (slot : Slot) → IsMoving g c s slot → IsKnown slot
+    pub moving_known : (slot : SlotToCopy) → IsMoving g c s slot → IsKnown slot
     moving_known slot r = record { on = r.on; within = r.within; target = r.target; shut = inr (r.pair, r.stood) }
 
     -- and of a chunk
-    pub chunk_known : (slot : Slot) → IsSource g c s slot.from slot.to → slot.index < g.size slot.from → IsKnown slot
+    pub chunk_known : (slot : SlotToCopy) → IsSource g c s slot.from slot.to → slot.index < g.size slot.from → IsKnown slot
     chunk_known slot r lt = record { on = root_on g c s m keeps slot.from r.was; within = lt; target = r.target; shut = inl r.was }
 
     -- the exchange of this kind at this place may be made, and writes just the new word
@@ -193,7 +193,7 @@ module _ {K P : Type 0} (g : Setting K P) (c : Coding K P) (hashed : IsHashed g 
           (λ none. (Link_to behind table, refl, links_on g c s m keeps behind table chunks r words none, next_written g c s behind table))
 
       -- a pair is put into a table, or the table is given up
-      carry_may : (slot : Slot) (word : ℕ) (p : P) → word ≡ code g c (Marked p) → (carry : Carry) → ReliesCarry g c s last kept slot p carry
+      carry_may : (slot : SlotToCopy) (word : ℕ) (p : P) → word ≡ code g c (Marked p) → (carry : Carry) → ReliesCarry g c s last kept slot p carry
           → HasWords g (link_in_carry carry) → (at : At) (old new : ℕ) → carry_ask carry word ≡ Ask_exchange at old new → MayDo (carry_kind carry) at old new
       carry_may slot word p is (carries.Hashing table) r words at old new e = absurd cc
       carry_may slot word p is (carries.Sizing hash table) r words at old new e = absurd cc
@@ -222,12 +222,12 @@ module _ {K P : Type 0} (g : Setting K P) (c : Coding K P) (hashed : IsHashed g 
           ))
 
       -- a slot that is known is shut where it is Empty or Live
-      shut_was : (slot : Slot) → IsKnown slot → ((p : P) → (s.slot slot.from slot.index ≡ Marked p) ⊎ (s.slot slot.from slot.index ≡ Copied p) → ⊥)
+      shut_was : (slot : SlotToCopy) → IsKnown slot → ((p : P) → (s.slot slot.from slot.index ≡ Marked p) ⊎ (s.slot slot.from slot.index ≡ Copied p) → ⊥)
           → s.was_root slot.from ≡ true
       shut_was slot known other = ⊎_elim (λ w. w) (λ h. absurd (other h.0 h.1)) known.shut
 
       -- it is shut, marked or finished
-      settle_may : (slot : Slot) → IsKnown slot → (settle : Settle) → ReliesSettle g c s last kept slot settle → HasWords g (link_in_settle settle)
+      settle_may : (slot : SlotToCopy) → IsKnown slot → (settle : Settle) → ReliesSettle g c s last kept slot settle → HasWords g (link_in_settle settle)
           → (at : At) (old new : ℕ) → settle_ask settle slot ≡ Ask_exchange at old new → MayDo (settle_kind settle) at old new
       settle_may slot known settles.Looking r words at old new e = absurd cc
       settle_may slot known settles.Closing r words at old new e =

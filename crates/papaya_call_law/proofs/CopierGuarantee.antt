@@ -3,23 +3,23 @@ use Rattle.std.proofs.Common.{◌≡◌, inl, ⊎_elim, ℕ, suc, ◌<◌, ◌�
 use Rattle.std.proofs.lemmas.Bool.{cases_lt}
 use Rattle.papaya_words.proofs.ChunkLemmas.{chunk_first}
 use Rattle.papaya_words.specs.Chunks.{chunk_of}
-use Rattle.papaya_law.specs.Allows.{Allows}
-use Rattle.papaya_law.specs.Class.{IsOn}
-use Rattle.papaya_law.specs.Code.{Coding}
-use Rattle.papaya_law.specs.Copying.{IsPutting, IsSettled}
-use Rattle.papaya_law.specs.Exchange.{Empty, Live, Marked, Setting, State, Link, Mark, Close, Place as Place_pair, Finish, Advance, Promote, Abort}
-use Rattle.papaya_law.specs.Invariant.{IsKeeping}
-use Rattle.papaya_law.specs.Meaning.{IsLawful}
-use Rattle.papaya_law.specs.View.{look, view, own, foreign, HasWord}
+use Rattle.papaya_words_law.specs.Allows.{Allows}
+use Rattle.papaya_words_law.specs.Class.{IsOn}
+use Rattle.papaya_words_law.specs.Code.{Coding}
+use Rattle.papaya_words_law.specs.Copying.{IsPutting, IsSettled}
+use Rattle.papaya_words_law.specs.Exchange.{Empty, Live, Marked, Setting, State, Link, Mark, Close, Place as Place_pair, Finish, Advance, Promote, Abort}
+use Rattle.papaya_words_law.specs.Invariant.{IsKeeping}
+use Rattle.papaya_words_law.specs.Meaning.{IsLawful}
+use Rattle.papaya_words_law.specs.View.{look, view, own, foreign, HasWord}
 use Rattle.papaya_call_law.specs.Copier.{HasCarried, HasCompared, IsAllDone, IsCursor, IsFor, IsSettledChunk, IsSource, ReliesCarry, ReliesLink}
-use Rattle.papaya_copy.specs.declared.carry.Carry.TheVariants as carries
-use Rattle.papaya_copy.specs.declared.step.Cursor.{Cursor}
-use Rattle.papaya_copy.specs.declared.link.Link.TheVariants as links
-use Rattle.papaya_ask.specs.declared.search.Place.{Place}
-use Rattle.papaya_copy.specs.declared.settle.Slot.{Slot}
-use Rattle.papaya_law.proofs.CopierFacts.{compared_foreign, compared_own, target_further}
-use Rattle.papaya_law.proofs.Copies.{may_abort, may_place, put_next, target_takes}
-use Rattle.papaya_law.proofs.OneMap.{covered, keeping_sound}
+use Rattle.papaya_call.specs.declared.copy.carry.Carry.TheVariants as carries
+use Rattle.papaya_call.specs.declared.copy.step.Cursor.{Cursor}
+use Rattle.papaya_call.specs.declared.copy.link.Link.TheVariants as links
+use Rattle.papaya_call.specs.declared.search.Place.{Place}
+use Rattle.papaya_call.specs.declared.copy.settle.SlotToCopy.{SlotToCopy}
+use Rattle.papaya_words_law.proofs.CopierFacts.{compared_foreign, compared_own, target_further}
+use Rattle.papaya_words_law.proofs.Copies.{may_abort, may_place, put_next, target_takes}
+use Rattle.papaya_words_law.proofs.OneMap.{covered, keeping_sound}
 
 module _ {K P : Type 0} (g : Setting K P) (c : Coding K P) (s : State P) (m : K → Option P) (keeps : IsKeeping g s m) where
   -- a table that was the root is on the chain
@@ -68,14 +68,14 @@ module _ {K P : Type 0} (g : Setting K P) (c : Coding K P) (s : State P) (m : K 
   promotes from to r whole e = record { root = e; made = (root_on from r.was).0; target = r.target; whole = whole }
 
   -- the word that stands is the marked one of the pair that was carried
-  pub finishes : (slot : Slot) (word : ℕ) (q : P) → HasCarried g c s slot word → g.blocking ≡ false → s.slot slot.from slot.index ≡ Marked q
+  pub finishes : (slot : SlotToCopy) (word : ℕ) (q : P) → HasCarried g c s slot word → g.blocking ≡ false → s.slot slot.from slot.index ≡ Marked q
       → Allows g s (Finish slot.from slot.index q)
   finishes slot word q r inc e =
       let is : q ≡ r.pair = ⊎_elim (λ h. cc (h, e)) (λ h. absurd (cc (h, e))) r.stood in
       subst (λ p. Allows g s (Finish slot.from slot.index p)) (sym is)
       (record { marked = e ∙ ap Marked is; mode = inc; to = r.table; taker = r.taker; has = r.has })
 
-  module _ (last kept : Option P) (slot : Slot) (p : P) where
+  module _ (last kept : Option P) (slot : SlotToCopy) (p : P) where
     pub places : (hash : ℕ) (at : Place) → ReliesCarry g c s last kept slot p (carries.Placing hash at) → s.slot at.table at.probe.i ≡ Empty
         → Allows g s (Place_pair at.table at.probe.i p)
     places hash at r e =
@@ -123,7 +123,7 @@ module _ {K P : Type 0} (g : Setting K P) (c : Coding K P) (s : State P) (m : K 
     )
 
   -- with blocking a slot whose pair came to the target is settled
-  pub settled_blocking : (slot : Slot) (word : ℕ) (r : HasCarried g c s slot word) → r.table ≡ slot.to → g.blocking ≡ true
+  pub settled_blocking : (slot : SlotToCopy) (word : ℕ) (r : HasCarried g c s slot word) → r.table ≡ slot.to → g.blocking ≡ true
       → IsSettled g s slot.to (s.slot slot.from slot.index)
   settled_blocking slot word r is blocks =
       ⊎_elim
@@ -132,6 +132,6 @@ module _ {K P : Type 0} (g : Setting K P) (c : Coding K P) (s : State P) (m : K 
       r.stood
 
   -- without it, once the word isn't the marked one
-  pub settled_incremental : (slot : Slot) (word : ℕ) (r : HasCarried g c s slot word) → (s.slot slot.from slot.index ≡ Marked r.pair → ⊥)
+  pub settled_incremental : (slot : SlotToCopy) (word : ℕ) (r : HasCarried g c s slot word) → (s.slot slot.from slot.index ≡ Marked r.pair → ⊥)
       → IsSettled g s slot.to (s.slot slot.from slot.index)
   settled_incremental slot word r other = ⊎_elim (λ e. absurd (other e)) (λ e. subst (IsSettled g s slot.to) (sym e) tt) r.stood

@@ -4,19 +4,19 @@ use Rattle.std.proofs.lemmas.Bool.{cond_both}
 use Rattle.papaya_words.proofs.ChunkLemmas.{chunk_counted, chunk_some}
 use Rattle.papaya_words.specs.Chunks.{chunk_count, chunk_len}
 use Rattle.papaya_words.specs.Table.{length_after}
-use Rattle.papaya_words.specs.declared.probe.Refused.{Refused}
-use Rattle.papaya_words.specs.declared.probe.Refused.TheVariants.{Capacity}
-use Rattle.papaya_words.specs.declared.probe.ResizeMode.{ResizeMode}
-use Rattle.papaya_ask.specs.declared.ask.At.{At}
-use Rattle.papaya_ask.specs.declared.ask.At.TheVariants.{Next}
-use Rattle.papaya_ask.specs.declared.ask.StepKind.TheVariants as kinds
-use Rattle.papaya_ask.specs.declared.copy_ask.CopyAsk.TheVariants.{Exchange as Ask_exchange, SizeOf}
-use Rattle.papaya_copy.specs.declared.link.Link.{Link}
-use Rattle.papaya_copy.specs.declared.link.Link.TheVariants as links
-use Rattle.papaya_copy.specs.declared.link.Linked.TheVariants as linked
-use Rattle.papaya_copy.specs.Link.{at_count, at_exchanged, at_found, at_made, at_refused, at_size, follows, link_ask, link_kind, making}
-use Rattle.papaya_law.specs.Code.{Coding}
-use Rattle.papaya_law.specs.Exchange.{Setting, State, Exchange, after}
+use Rattle.papaya_words.specs.declared.refused.Refused.{Refused}
+use Rattle.papaya_words.specs.declared.refused.Refused.TheVariants.{Capacity}
+use Rattle.papaya_words.specs.declared.resize_mode.ResizeMode.{ResizeMode}
+use Rattle.papaya_call.specs.declared.ask.At.{At}
+use Rattle.papaya_call.specs.declared.ask.At.TheVariants.{Next}
+use Rattle.papaya_call.specs.declared.ask.StepKind.TheVariants as kinds
+use Rattle.papaya_call.specs.declared.copy_ask.CopyAsk.TheVariants.{Exchange as Ask_exchange, SizeOf}
+use Rattle.papaya_call.specs.declared.copy.link.Link.{Link}
+use Rattle.papaya_call.specs.declared.copy.link.Link.TheVariants as links
+use Rattle.papaya_call.specs.declared.copy.link.Linked.TheVariants as linked
+use Rattle.papaya_call.specs.Link.{at_count, at_exchanged, at_found, at_made, at_refused, at_size, follows, link_ask, link_kind, making}
+use Rattle.papaya_words_law.specs.Code.{Coding}
+use Rattle.papaya_words_law.specs.Exchange.{Setting, State, Exchange, after}
 use Rattle.papaya_call_law.specs.Copier.{IsCopyAsked, IsCutInto, ReliesLink, ReliesLinked}
 use Rattle.papaya_call_law.specs.Relies.{IsCutAs}
 use Rattle.papaya_call_law.specs.Told.{word_of}

@@ -2,50 +2,50 @@
 use Rattle.std.proofs.Common.{◌≡◌, inl, inr, ℕ, ◌+◌, ◌<◌, true, Option, Some, [], ◌∷◌, refl, sym, ap, ◌∙◌, subst, arith}
 use Rattle.std.proofs.lemmas.Bool.{cond-true}
 use Rattle.papaya_words.specs.Word.{shut_hint}
-use Rattle.papaya_words.specs.declared.probe.Refused.{Refused}
-use Rattle.papaya_words.specs.declared.probe.ResizeMode.{ResizeMode}
-use Rattle.papaya_words.specs.declared.probe.ResizeMode.TheVariants.{Incremental, Blocking}
-use Rattle.papaya_ask.specs.declared.ask.At.{At}
-use Rattle.papaya_ask.specs.declared.ask.At.TheVariants.{Aborted, Next, Slot as Slot_word}
-use Rattle.papaya_ask.specs.declared.ask.StepKind.TheVariants as kinds
-use Rattle.papaya_copy.specs.declared.carry.Carried.{Carried}
-use Rattle.papaya_copy.specs.declared.carry.Carried.TheVariants as carried
-use Rattle.papaya_copy.specs.declared.carry.Carry.{Carry}
-use Rattle.papaya_copy.specs.declared.carry.Carry.TheVariants as carries
-use Rattle.papaya_ask.specs.declared.copy_ask.CopyAsk.TheVariants.{Exchange as Ask_exchange, HashOf, Load, LoadHint, SamePair, SizeOf, WriteHint}
-use Rattle.papaya_copy.specs.declared.link.Link.{Link}
-use Rattle.papaya_copy.specs.declared.link.Link.TheVariants as links
-use Rattle.papaya_copy.specs.declared.settle.Settle.{Settle}
-use Rattle.papaya_copy.specs.declared.settle.Settle.TheVariants as settles
-use Rattle.papaya_copy.specs.declared.settle.Slot.{Slot}
-use Rattle.papaya_copy.specs.Carry.{at_count as carry_at_count, at_exchanged as carry_at_exchanged}
-use Rattle.papaya_copy.specs.Carry.{at_found as carry_at_found, at_ok as carry_at_ok}
-use Rattle.papaya_copy.specs.Carry.{at_refused as carry_at_refused, at_word as carry_at_word}
-use Rattle.papaya_copy.specs.Carry.{at_yes as carry_at_yes, carry_ask, carry_kind}
-use Rattle.papaya_copy.specs.Link.{follows, link_ask, link_kind, at_exchanged as link_at_exchanged}
-use Rattle.papaya_copy.specs.Settle.{at_count, at_found, at_hash, at_made, at_ok, at_refused}
-use Rattle.papaya_copy.specs.Settle.{at_size, at_word, at_yes, look as look_word, look_at}
-use Rattle.papaya_copy.specs.Settle.{settle_ask, settle_follows, settled_by}
-use Rattle.papaya_law.specs.Allows.{Allows}
-use Rattle.papaya_law.specs.Class.{IsOn}
-use Rattle.papaya_law.specs.Code.{Coding, IsHashed, code, kind}
-use Rattle.papaya_law.specs.Copying.{IsSettled, IsTarget}
-use Rattle.papaya_law.specs.Exchange.{Word, Empty, Closed, Live, Marked, Copied, Buried, Setting}
-use Rattle.papaya_law.specs.Exchange.{State, Exchange, Link as Link_to, Place as Place_pair, Abort}
-use Rattle.papaya_law.specs.Exchange.{after}
-use Rattle.papaya_law.specs.Invariant.{IsKeeping, named}
-use Rattle.papaya_law.specs.Hints.{IsHint, IsHintOf}
-use Rattle.papaya_law.specs.Later.{IsLater}
-use Rattle.papaya_law.specs.Meaning.{map_after}
-use Rattle.papaya_law.specs.View.{Foreign, Here, own, view}
-use Rattle.papaya_law.proofs.Chain.{next_zero}
-use Rattle.papaya_law.proofs.Codes.{code_kind}
-use Rattle.papaya_law.proofs.Copies.{target_takes}
-use Rattle.papaya_law.proofs.Grows.{on_run}
-use Rattle.papaya_law.proofs.Hints.{hint_fills}
-use Rattle.papaya_law.proofs.Later.{later_step}
-use Rattle.papaya_law.proofs.OneMap.{keeping_sound, step_keeps}
-use Rattle.papaya_law.proofs.Slots.{put_there}
+use Rattle.papaya_words.specs.declared.refused.Refused.{Refused}
+use Rattle.papaya_words.specs.declared.resize_mode.ResizeMode.{ResizeMode}
+use Rattle.papaya_words.specs.declared.resize_mode.ResizeMode.TheVariants.{Incremental, Blocking}
+use Rattle.papaya_call.specs.declared.ask.At.{At}
+use Rattle.papaya_call.specs.declared.ask.At.TheVariants.{Aborted, Next, Slot as Slot_word}
+use Rattle.papaya_call.specs.declared.ask.StepKind.TheVariants as kinds
+use Rattle.papaya_call.specs.declared.copy.carry.Carried.{Carried}
+use Rattle.papaya_call.specs.declared.copy.carry.Carried.TheVariants as carried
+use Rattle.papaya_call.specs.declared.copy.carry.Carry.{Carry}
+use Rattle.papaya_call.specs.declared.copy.carry.Carry.TheVariants as carries
+use Rattle.papaya_call.specs.declared.copy_ask.CopyAsk.TheVariants.{Exchange as Ask_exchange, HashOf, Load, LoadHint, SamePair, SizeOf, WriteHint}
+use Rattle.papaya_call.specs.declared.copy.link.Link.{Link}
+use Rattle.papaya_call.specs.declared.copy.link.Link.TheVariants as links
+use Rattle.papaya_call.specs.declared.copy.settle.Settle.{Settle}
+use Rattle.papaya_call.specs.declared.copy.settle.Settle.TheVariants as settles
+use Rattle.papaya_call.specs.declared.copy.settle.SlotToCopy.{SlotToCopy}
+use Rattle.papaya_call.specs.Carry.{at_count as carry_at_count, at_exchanged as carry_at_exchanged}
+use Rattle.papaya_call.specs.Carry.{at_found as carry_at_found, at_ok as carry_at_ok}
+use Rattle.papaya_call.specs.Carry.{at_refused as carry_at_refused, at_word as carry_at_word}
+use Rattle.papaya_call.specs.Carry.{at_yes as carry_at_yes, carry_ask, carry_kind}
+use Rattle.papaya_call.specs.Link.{follows, link_ask, link_kind, at_exchanged as link_at_exchanged}
+use Rattle.papaya_call.specs.Settle.{at_count, at_found, at_hash, at_made, at_ok, at_refused}
+use Rattle.papaya_call.specs.Settle.{at_size, at_word, at_yes, look as look_word, look_at}
+use Rattle.papaya_call.specs.Settle.{settle_ask, settle_follows, settled_by}
+use Rattle.papaya_words_law.specs.Allows.{Allows}
+use Rattle.papaya_words_law.specs.Class.{IsOn}
+use Rattle.papaya_words_law.specs.Code.{Coding, IsHashed, code, kind}
+use Rattle.papaya_words_law.specs.Copying.{IsSettled, IsTarget}
+use Rattle.papaya_words_law.specs.Exchange.{Word, Empty, Closed, Live, Marked, Copied, Buried, Setting}
+use Rattle.papaya_words_law.specs.Exchange.{State, Exchange, Link as Link_to, Place as Place_pair, Abort}
+use Rattle.papaya_words_law.specs.Exchange.{after}
+use Rattle.papaya_words_law.specs.Invariant.{IsKeeping, named}
+use Rattle.papaya_words_law.specs.Hints.{IsHint, IsHintOf}
+use Rattle.papaya_words_law.specs.Later.{IsLater}
+use Rattle.papaya_words_law.specs.Meaning.{map_after}
+use Rattle.papaya_words_law.specs.View.{Foreign, Here, own, view}
+use Rattle.papaya_words_law.proofs.Chain.{next_zero}
+use Rattle.papaya_words_law.proofs.Codes.{code_kind}
+use Rattle.papaya_words_law.proofs.Copies.{target_takes}
+use Rattle.papaya_words_law.proofs.Grows.{on_run}
+use Rattle.papaya_words_law.proofs.Hints.{hint_fills}
+use Rattle.papaya_words_law.proofs.Later.{later_step}
+use Rattle.papaya_words_law.proofs.OneMap.{keeping_sound, step_keeps}
+use Rattle.papaya_words_law.proofs.Slots.{put_there}
 use Rattle.papaya_call_law.specs.Copier.{IsCarrying, IsCopyAsked, ReliesCarried, ReliesCarry, ReliesSettle, ReliesSettled, carried_to, last_after, told_last}
 use Rattle.papaya_call_law.specs.Relies.{IsCutAs, IsModeOf}
 use Rattle.papaya_call_law.specs.Told.{or_last, word_of}
@@ -89,7 +89,7 @@ module _ {K P : Type 0} (g : Setting K P) (c : Coding K P) (hashed : IsHashed g 
     pub still_on : (t : ℕ) → IsOn s.first s.next t → IsOn s'.first s'.next t
     still_on = on_run g hashed.lawful (e ∷ []) s m keeps (may, tt)
 
-    module _ (last kept : Option P) (slot : Slot) (word : ℕ) (p : P) (marked : word ≡ code g c (Marked p)) (on : IsOn s.first s.next slot.from) where
+    module _ (last kept : Option P) (slot : SlotToCopy) (word : ℕ) (p : P) (marked : word ≡ code g c (Marked p)) (on : IsOn s.first s.next slot.from) where
       -- the exchange of a carry was made
       pub carry_exchanged : (carry : Carry) → (g.blocking ≡ true → carried_to carry ≡ slot.to) → ReliesCarry g c s last kept slot p carry
           → (at : At) (old new : ℕ) → carry_ask carry word ≡ Ask_exchange at old new → IsCopyAsked c (carry_kind carry) at new s kept e
@@ -143,7 +143,7 @@ module _ {K P : Type 0} (g : Setting K P) (c : Coding K P) (hashed : IsHashed g 
           (here r.0, r.0, subst (λ y. (after s y).aborted table ≡ true) (sym by) (put_here s.aborted table true))
 
   -- the carry of the pair of a marked word leads on
-  pub by_carried : (how : ResizeMode) → IsModeOf how g.blocking → (last kept : Option P) (slot : Slot) (word : ℕ) (end : Carried)
+  pub by_carried : (how : ResizeMode) → IsModeOf how g.blocking → (last kept : Option P) (slot : SlotToCopy) (word : ℕ) (end : Carried)
       → ReliesCarried g c s last kept slot word end → ReliesSettled g c s last kept slot (settled_by word how end)
   by_carried how is last kept slot word (carried.On carry) r = r
   by_carried (Incremental chunk) is last kept slot word carried.Carried r = (is, r)
@@ -151,7 +151,7 @@ module _ {K P : Type 0} (g : Setting K P) (c : Coding K P) (hashed : IsHashed g 
   by_carried how is last kept slot word (carried.Unfit table) r = r
   by_carried how is last kept slot word (carried.Refused refused) r = tt
 
-  module _ (slot : Slot) (target : IsTarget g s slot.from slot.to) where
+  module _ (slot : SlotToCopy) (target : IsTarget g s slot.from slot.to) where
     -- a pair that stands marked is to be carried
     pub to_carry : (last kept : Option P) (p : P) → s.slot slot.from slot.index ≡ Marked p → last ≡ Some p → (word : ℕ) → word ≡ code g c (Marked p)
         → IsCarrying g c s last kept slot word (carries.Hashing slot.to)
@@ -178,7 +178,7 @@ module _ {K P : Type 0} (g : Setting K P) (c : Coding K P) (hashed : IsHashed g 
         let w : Word P = s.slot slot.from slot.index in
         subst (λ y. ReliesSettled g c s (or_last (named w) last) kept slot (look_at y slot (code g c w))) (sym (code_kind g c w)) (by_kind last kept w refl)
 
-  module _ (slot : Slot) (known : IsKnown g c hashed s m keeps slot) (last kept : Option P) where
+  module _ (slot : SlotToCopy) (known : IsKnown g c hashed s m keeps slot) (last kept : Option P) where
     pub settle_loaded : (settle : Settle) → ReliesSettle g c s last kept slot settle → (at : At) → settle_ask settle slot ≡ Load at
         → ReliesSettled g c s (told_last s at last) kept slot (at_word settle slot mode (word_of g c s at))
     settle_loaded settles.Looking r at e =

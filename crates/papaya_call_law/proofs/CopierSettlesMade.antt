@@ -1,23 +1,23 @@
 -- What the copy of a slot relies on after an exchange that was made.
 use Rattle.std.proofs.Common.{◌≡◌, ℕ, Option, Some, refl, sym, ap, ◌∙◌, subst}
-use Rattle.papaya_words.specs.declared.probe.ResizeMode.{ResizeMode}
-use Rattle.papaya_ask.specs.declared.ask.At.{At}
-use Rattle.papaya_ask.specs.declared.ask.At.TheVariants.{Slot as Slot_word}
-use Rattle.papaya_ask.specs.declared.ask.StepKind.TheVariants as kinds
-use Rattle.papaya_ask.specs.declared.copy_ask.CopyAsk.TheVariants.{Exchange as Ask_exchange}
-use Rattle.papaya_copy.specs.declared.settle.Settle.{Settle}
-use Rattle.papaya_copy.specs.declared.settle.Settle.TheVariants as settles
-use Rattle.papaya_copy.specs.declared.settle.Slot.{Slot}
-use Rattle.papaya_copy.specs.Carry.{at_exchanged as carry_at_exchanged}
-use Rattle.papaya_copy.specs.Settle.{at_exchanged, marked_as, settle_ask, settle_kind}
-use Rattle.papaya_law.specs.Allows.{Allows}
-use Rattle.papaya_law.specs.Code.{Coding, IsHashed, code}
-use Rattle.papaya_law.specs.Copying.{IsSettled}
-use Rattle.papaya_law.specs.Exchange.{Closed, Marked, Copied, Setting, State, Exchange, Close, after}
-use Rattle.papaya_law.specs.Invariant.{IsKeeping}
-use Rattle.papaya_law.specs.Meaning.{map_after}
-use Rattle.papaya_law.proofs.Later.{lasts}
-use Rattle.papaya_law.proofs.Slots.{put_there}
+use Rattle.papaya_words.specs.declared.resize_mode.ResizeMode.{ResizeMode}
+use Rattle.papaya_call.specs.declared.ask.At.{At}
+use Rattle.papaya_call.specs.declared.ask.At.TheVariants.{Slot as Slot_word}
+use Rattle.papaya_call.specs.declared.ask.StepKind.TheVariants as kinds
+use Rattle.papaya_call.specs.declared.copy_ask.CopyAsk.TheVariants.{Exchange as Ask_exchange}
+use Rattle.papaya_call.specs.declared.copy.settle.Settle.{Settle}
+use Rattle.papaya_call.specs.declared.copy.settle.Settle.TheVariants as settles
+use Rattle.papaya_call.specs.declared.copy.settle.SlotToCopy.{SlotToCopy}
+use Rattle.papaya_call.specs.Carry.{at_exchanged as carry_at_exchanged}
+use Rattle.papaya_call.specs.Settle.{at_exchanged, marked_as, settle_ask, settle_kind}
+use Rattle.papaya_words_law.specs.Allows.{Allows}
+use Rattle.papaya_words_law.specs.Code.{Coding, IsHashed, code}
+use Rattle.papaya_words_law.specs.Copying.{IsSettled}
+use Rattle.papaya_words_law.specs.Exchange.{Closed, Marked, Copied, Setting, State, Exchange, Close, after}
+use Rattle.papaya_words_law.specs.Invariant.{IsKeeping}
+use Rattle.papaya_words_law.specs.Meaning.{map_after}
+use Rattle.papaya_words_law.proofs.Later.{lasts}
+use Rattle.papaya_words_law.proofs.Slots.{put_there}
 use Rattle.papaya_call_law.specs.Copier.{IsCopyAsked, ReliesSettle, ReliesSettled, last_after}
 use Rattle.papaya_call_law.specs.Relies.{IsModeOf}
 use Rattle.papaya_call_law.specs.Told.{word_of}
@@ -25,7 +25,7 @@ use Rattle.papaya_call_law.proofs.CopierExchange.{IsKnown, marked_of}
 use Rattle.papaya_call_law.proofs.CopierSettles.{by_carried, carry_exchanged, keeps', later, to_carry, zero_next}
 
 module _ {K P : Type 0} (g : Setting K P) (c : Coding K P) (hashed : IsHashed g c) (s : State P) (m : K → Option P) (keeps : IsKeeping g s m)
-    (mode : ResizeMode) (moded : IsModeOf mode g.blocking) (e : Exchange P) (may : Allows g s e) (slot : Slot)
+    (mode : ResizeMode) (moded : IsModeOf mode g.blocking) (e : Exchange P) (may : Allows g s e) (slot : SlotToCopy)
     (known : IsKnown g c hashed s m keeps slot) (last kept : Option P) where
   pub settle_exchanged : (settle : Settle) → ReliesSettle g c s last kept slot settle → (at : At) (old new : ℕ)
       → settle_ask settle slot ≡ Ask_exchange at old new → word_of g c s at ≡ old → IsCopyAsked c (settle_kind settle) at new s kept e

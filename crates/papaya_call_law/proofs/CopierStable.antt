@@ -1,34 +1,34 @@
 -- What a copier relies on stays so, whatever is exchanged.
 use Rattle.std.proofs.Common.{◌≡◌, ◌⊎◌, inl, inr, ⊎_elim, ℕ, Option, subst}
 use Rattle.papaya_words.specs.Word.{hint_of}
-use Rattle.papaya_law.specs.Class.{IsOn}
-use Rattle.papaya_law.specs.Code.{Coding, IsHashed}
-use Rattle.papaya_law.specs.Copying.{IsLinking, IsPutting}
-use Rattle.papaya_law.specs.Exchange.{Marked, Copied, Setting, State}
-use Rattle.papaya_law.specs.Later.{Becomes, IsLater, IsLasting}
-use Rattle.papaya_copy.specs.declared.copying.Aim.{Aim}
-use Rattle.papaya_copy.specs.declared.copying.Aim.TheVariants as aims
-use Rattle.papaya_copy.specs.declared.copying.Copying.{Copying}
-use Rattle.papaya_copy.specs.declared.copying.Copying.TheVariants as copyings
-use Rattle.papaya_copy.specs.Link.{follows}
-use Rattle.papaya_copy.specs.Step.{slot_of}
+use Rattle.papaya_words_law.specs.Class.{IsOn}
+use Rattle.papaya_words_law.specs.Code.{Coding, IsHashed}
+use Rattle.papaya_words_law.specs.Copying.{IsLinking, IsPutting}
+use Rattle.papaya_words_law.specs.Exchange.{Marked, Copied, Setting, State}
+use Rattle.papaya_words_law.specs.Later.{Becomes, IsLater, IsLasting}
+use Rattle.papaya_call.specs.declared.copy.copying.Aim.{Aim}
+use Rattle.papaya_call.specs.declared.copy.copying.Aim.TheVariants as aims
+use Rattle.papaya_call.specs.declared.copy.copying.Copying.{Copying}
+use Rattle.papaya_call.specs.declared.copy.copying.Copying.TheVariants as copyings
+use Rattle.papaya_call.specs.Link.{follows}
+use Rattle.papaya_call.specs.Step.{slot_of}
 use Rattle.papaya_call_law.specs.Copier.{HasCompared, HasPlaced, IsAimed, IsChunk, IsCursor, IsFor}
 use Rattle.papaya_call_law.specs.Copier.{IsMoving, IsSettledChunk, IsSource, ReliesAim, ReliesCarry}
 use Rattle.papaya_call_law.specs.Copier.{ReliesCopying, ReliesLink, ReliesSettle, ReliesStep}
-use Rattle.papaya_copy.specs.declared.carry.Carry.{Carry}
-use Rattle.papaya_copy.specs.declared.carry.Carry.TheVariants as carries
-use Rattle.papaya_copy.specs.declared.step.Chunk.{Chunk}
-use Rattle.papaya_copy.specs.declared.step.Cursor.{Cursor}
-use Rattle.papaya_copy.specs.declared.step.Step.{Step}
-use Rattle.papaya_copy.specs.declared.step.Step.TheVariants as steps
-use Rattle.papaya_copy.specs.declared.link.Link.{Link}
-use Rattle.papaya_ask.specs.declared.search.Place.{Place}
-use Rattle.papaya_copy.specs.declared.settle.Settle.{Settle}
-use Rattle.papaya_copy.specs.declared.settle.Settle.TheVariants as settles
-use Rattle.papaya_copy.specs.declared.settle.Slot.{Slot}
-use Rattle.papaya_law.proofs.CopierFacts.{putting_lasts}
-use Rattle.papaya_law.proofs.Hints.{hint_lasts}
-use Rattle.papaya_law.proofs.Later.{lasts, becomes_through}
+use Rattle.papaya_call.specs.declared.copy.carry.Carry.{Carry}
+use Rattle.papaya_call.specs.declared.copy.carry.Carry.TheVariants as carries
+use Rattle.papaya_call.specs.declared.copy.step.Chunk.{Chunk}
+use Rattle.papaya_call.specs.declared.copy.step.Cursor.{Cursor}
+use Rattle.papaya_call.specs.declared.copy.step.Step.{Step}
+use Rattle.papaya_call.specs.declared.copy.step.Step.TheVariants as steps
+use Rattle.papaya_call.specs.declared.copy.link.Link.{Link}
+use Rattle.papaya_call.specs.declared.search.Place.{Place}
+use Rattle.papaya_call.specs.declared.copy.settle.Settle.{Settle}
+use Rattle.papaya_call.specs.declared.copy.settle.Settle.TheVariants as settles
+use Rattle.papaya_call.specs.declared.copy.settle.SlotToCopy.{SlotToCopy}
+use Rattle.papaya_words_law.proofs.CopierFacts.{putting_lasts}
+use Rattle.papaya_words_law.proofs.Hints.{hint_lasts}
+use Rattle.papaya_words_law.proofs.Later.{lasts, becomes_through}
 
 module _ {K P : Type 0} (g : Setting K P) (c : Coding K P) (hashed : IsHashed g c) (s s' : State P) (zero_next : s.next 0 ≡ 0)
     (later : IsLater g s s') (on : (t : ℕ) → IsOn s.first s.next t → IsOn s'.first s'.next t) (last kept : Option P) where
@@ -106,7 +106,7 @@ module _ {K P : Type 0} (g : Setting K P) (c : Coding K P) (hashed : IsHashed g 
   for_stable p hash at f = record { hashed = f.hashed; len = f.len; limit = f.limit; slot = f.slot; within = f.within }
 
   -- it stands where it was put, and its hint is its own
-  placed_stable : (slot : Slot) (p : P) (hash : ℕ) (at : Place) → HasPlaced g c s slot p hash at → HasPlaced g c s' slot p hash at
+  placed_stable : (slot : SlotToCopy) (p : P) (hash : ℕ) (at : Place) → HasPlaced g c s slot p hash at → HasPlaced g c s' slot p hash at
   placed_stable slot p hash at r = record {
     fits = for_stable p hash at r.fits;
     stood = stood_stable slot.from slot.index p r.stood;
@@ -115,7 +115,7 @@ module _ {K P : Type 0} (g : Setting K P) (c : Coding K P) (hashed : IsHashed g 
     hint = hint_lasts g c hashed.coding s s' later at.table at.probe.i (hint_of (c.hash (g.key p))) r.hint;
   }
 
-  pub carry_stable : (slot : Slot) (p : P) (carry : Carry) → ReliesCarry g c s last kept slot p carry → ReliesCarry g c s' last kept slot p carry
+  pub carry_stable : (slot : SlotToCopy) (p : P) (carry : Carry) → ReliesCarry g c s last kept slot p carry → ReliesCarry g c s' last kept slot p carry
   carry_stable slot p (carries.Hashing table) r = (r.0, putting slot.from slot.index p table 0 r.1)
   carry_stable slot p (carries.Sizing hash table) r = (r.0, r.1, putting slot.from slot.index p table 0 r.2)
   carry_stable slot p (carries.Looking hash at) r = (r.0, for_stable p hash at r.1, putting slot.from slot.index p at.table at.probe.len r.2)
@@ -129,7 +129,7 @@ module _ {K P : Type 0} (g : Setting K P) (c : Coding K P) (hashed : IsHashed g 
       r = (r.0, r.1, r.2, putting slot.from slot.index p (follows link) (g.places (follows link)) r.3, link_stable link r.4)
   carry_stable slot p (carries.Aborting table) r = (r.0, r.1, putting slot.from slot.index p table (g.places table) r.2)
 
-  pub settle_stable : (slot : Slot) (settle : Settle) → ReliesSettle g c s last kept slot settle → ReliesSettle g c s' last kept slot settle
+  pub settle_stable : (slot : SlotToCopy) (settle : Settle) → ReliesSettle g c s last kept slot settle → ReliesSettle g c s' last kept slot settle
   settle_stable slot settles.Looking r = tt
   settle_stable slot settles.Closing r = tt
   settle_stable slot settles.Shutting r = subst (λ w. Becomes g w (s'.slot slot.from slot.index)) r (later.words slot.from slot.index)
@@ -149,7 +149,7 @@ module _ {K P : Type 0} (g : Setting K P) (c : Coding K P) (hashed : IsHashed g 
     },
   )
 
-  pub moving_stable : (slot : Slot) → IsMoving g c s slot → IsMoving g c s' slot
+  pub moving_stable : (slot : SlotToCopy) → IsMoving g c s slot → IsMoving g c s' slot
   moving_stable slot r = record {
     mode = r.mode;
     on = on slot.from r.on;

@@ -3,47 +3,47 @@ use Rattle.std.proofs.Common.{◌≡◌, cond, inl, inr, ⊎_elim, ℕ, ◌+◌,
 use Rattle.std.proofs.Common.{ltb-true, ltb-false, true, Option, Some, refl, sym, ap, ◌∙◌, subst}
 use Rattle.std.proofs.Common.{arith, eq-eqb, eqb-true}
 use Rattle.std.proofs.lemmas.Bool.{cases_lt, cond_both}
-use Rattle.papaya_words.specs.declared.probe.Refused.{Refused}
-use Rattle.papaya_words.specs.declared.probe.ResizeMode.{ResizeMode}
-use Rattle.papaya_words.specs.declared.probe.ResizeMode.TheVariants.{Incremental, Blocking}
-use Rattle.papaya_ask.specs.declared.ask.At.{At}
-use Rattle.papaya_ask.specs.declared.ask.At.TheVariants.{Root, Next, Aborted, Done}
-use Rattle.papaya_ask.specs.declared.ask.StepKind.TheVariants as kinds
-use Rattle.papaya_ask.specs.declared.copy_ask.CopyAsk.TheVariants.{Exchange as Ask_exchange, HashOf, Load, LoadHint, SamePair, SizeOf, WriteHint}
-use Rattle.papaya_copy.specs.declared.link.Link.TheVariants as links
-use Rattle.papaya_copy.specs.declared.link.Linked.{Linked}
-use Rattle.papaya_copy.specs.declared.link.Linked.TheVariants as linked
-use Rattle.papaya_copy.specs.declared.settle.Settle.TheVariants as settles
-use Rattle.papaya_copy.specs.declared.settle.Settled.{Settled}
-use Rattle.papaya_copy.specs.declared.settle.Settled.TheVariants as settled
-use Rattle.papaya_copy.specs.declared.step.Chunk.{Chunk}
-use Rattle.papaya_copy.specs.declared.step.Cursor.{Cursor}
-use Rattle.papaya_copy.specs.declared.step.Step.{Step}
-use Rattle.papaya_copy.specs.declared.step.Step.TheVariants as steps
-use Rattle.papaya_copy.specs.declared.step.Stepped.TheVariants as stepped
-use Rattle.papaya_copy.specs.Link.{follows, at_count as link_at_count}
-use Rattle.papaya_copy.specs.Link.{at_exchanged as link_at_exchanged, at_found as link_at_found}
-use Rattle.papaya_copy.specs.Link.{at_refused as link_at_refused}
-use Rattle.papaya_copy.specs.Settle.{at_count as settle_at_count}
-use Rattle.papaya_copy.specs.Settle.{at_exchanged as settle_at_exchanged}
-use Rattle.papaya_copy.specs.Settle.{at_found as settle_at_found, at_ok as settle_at_ok}
-use Rattle.papaya_copy.specs.Settle.{at_refused as settle_at_refused, at_word as settle_at_word}
-use Rattle.papaya_copy.specs.Settle.{at_yes as settle_at_yes}
-use Rattle.papaya_copy.specs.Step.{advanced, aimed, at_count, at_exchanged, at_found, at_hash}
-use Rattle.papaya_copy.specs.Step.{at_made, at_ok, at_refused, at_size, at_word, at_yes, chunk_at}
-use Rattle.papaya_copy.specs.Step.{chunk_read, first_cursor, linked_to, next_cursor, next_slot}
-use Rattle.papaya_copy.specs.Step.{settled_to, slot_of, step_ask, step_follows, step_kind}
-use Rattle.papaya_law.specs.Allows.{Allows}
-use Rattle.papaya_law.specs.Class.{IsOn}
-use Rattle.papaya_law.specs.Code.{Coding, IsHashed}
-use Rattle.papaya_law.specs.Copying.{IsSettled, IsTarget}
-use Rattle.papaya_law.specs.Exchange.{Setting, State, Exchange, Advance, after}
-use Rattle.papaya_law.specs.Hints.{IsHint}
-use Rattle.papaya_law.specs.Invariant.{IsKeeping}
-use Rattle.papaya_law.specs.Meaning.{map_after}
-use Rattle.papaya_law.proofs.Copies.{first_target, next_target}
-use Rattle.papaya_law.proofs.CopierFacts.{target_on}
-use Rattle.papaya_law.proofs.OneMap.{keeping_sound}
+use Rattle.papaya_words.specs.declared.refused.Refused.{Refused}
+use Rattle.papaya_words.specs.declared.resize_mode.ResizeMode.{ResizeMode}
+use Rattle.papaya_words.specs.declared.resize_mode.ResizeMode.TheVariants.{Incremental, Blocking}
+use Rattle.papaya_call.specs.declared.ask.At.{At}
+use Rattle.papaya_call.specs.declared.ask.At.TheVariants.{Root, Next, Aborted, Done}
+use Rattle.papaya_call.specs.declared.ask.StepKind.TheVariants as kinds
+use Rattle.papaya_call.specs.declared.copy_ask.CopyAsk.TheVariants.{Exchange as Ask_exchange, HashOf, Load, LoadHint, SamePair, SizeOf, WriteHint}
+use Rattle.papaya_call.specs.declared.copy.link.Link.TheVariants as links
+use Rattle.papaya_call.specs.declared.copy.link.Linked.{Linked}
+use Rattle.papaya_call.specs.declared.copy.link.Linked.TheVariants as linked
+use Rattle.papaya_call.specs.declared.copy.settle.Settle.TheVariants as settles
+use Rattle.papaya_call.specs.declared.copy.settle.Settled.{Settled}
+use Rattle.papaya_call.specs.declared.copy.settle.Settled.TheVariants as settled
+use Rattle.papaya_call.specs.declared.copy.step.Chunk.{Chunk}
+use Rattle.papaya_call.specs.declared.copy.step.Cursor.{Cursor}
+use Rattle.papaya_call.specs.declared.copy.step.Step.{Step}
+use Rattle.papaya_call.specs.declared.copy.step.Step.TheVariants as steps
+use Rattle.papaya_call.specs.declared.copy.step.Stepped.TheVariants as stepped
+use Rattle.papaya_call.specs.Link.{follows, at_count as link_at_count}
+use Rattle.papaya_call.specs.Link.{at_exchanged as link_at_exchanged, at_found as link_at_found}
+use Rattle.papaya_call.specs.Link.{at_refused as link_at_refused}
+use Rattle.papaya_call.specs.Settle.{at_count as settle_at_count}
+use Rattle.papaya_call.specs.Settle.{at_exchanged as settle_at_exchanged}
+use Rattle.papaya_call.specs.Settle.{at_found as settle_at_found, at_ok as settle_at_ok}
+use Rattle.papaya_call.specs.Settle.{at_refused as settle_at_refused, at_word as settle_at_word}
+use Rattle.papaya_call.specs.Settle.{at_yes as settle_at_yes}
+use Rattle.papaya_call.specs.Step.{advanced, aimed, at_count, at_exchanged, at_found, at_hash}
+use Rattle.papaya_call.specs.Step.{at_made, at_ok, at_refused, at_size, at_word, at_yes, chunk_at}
+use Rattle.papaya_call.specs.Step.{chunk_read, first_cursor, linked_to, next_cursor, next_slot}
+use Rattle.papaya_call.specs.Step.{settled_to, slot_of, step_ask, step_follows, step_kind}
+use Rattle.papaya_words_law.specs.Allows.{Allows}
+use Rattle.papaya_words_law.specs.Class.{IsOn}
+use Rattle.papaya_words_law.specs.Code.{Coding, IsHashed}
+use Rattle.papaya_words_law.specs.Copying.{IsSettled, IsTarget}
+use Rattle.papaya_words_law.specs.Exchange.{Setting, State, Exchange, Advance, after}
+use Rattle.papaya_words_law.specs.Hints.{IsHint}
+use Rattle.papaya_words_law.specs.Invariant.{IsKeeping}
+use Rattle.papaya_words_law.specs.Meaning.{map_after}
+use Rattle.papaya_words_law.proofs.Copies.{first_target, next_target}
+use Rattle.papaya_words_law.proofs.CopierFacts.{target_on}
+use Rattle.papaya_words_law.proofs.OneMap.{keeping_sound}
 use Rattle.papaya_call_law.specs.Copier.{IsAimed, IsChunk, IsCopyAsked, IsCursor, ReliesLinked, ReliesSettled, ReliesStep, ReliesStepped, last_after, told_last}
 use Rattle.papaya_call_law.specs.Relies.{IsCutAs, IsModeOf}
 use Rattle.papaya_call_law.specs.Told.{word_of}

@@ -1,41 +1,41 @@
 -- What a copier relies on stays so, whatever tables come later.
 use Rattle.std.proofs.Common.{◌≡◌, inl, inr, ⊎_elim, ℕ, ◌<◌, true, Option, refl, sym, ap, ◌∙◌, subst}
 use Rattle.papaya_words.specs.Word.{hint_of}
-use Rattle.papaya_law.specs.Class.{IsOn}
-use Rattle.papaya_law.specs.Code.{Coding, code}
-use Rattle.papaya_law.specs.Copying.{IsPutting, IsSettled}
-use Rattle.papaya_law.specs.Exchange.{Word, Empty, Closed, Live, Marked, Copied, Buried, Setting, State}
-use Rattle.papaya_law.specs.Grows.{Agrees}
-use Rattle.papaya_law.specs.Hints.{IsHint}
-use Rattle.papaya_law.specs.Invariant.{IsSound}
-use Rattle.papaya_law.specs.View.{look, foreign}
-use Rattle.papaya_copy.specs.declared.copying.Aim.{Aim}
-use Rattle.papaya_copy.specs.declared.copying.Aim.TheVariants as aims
-use Rattle.papaya_copy.specs.declared.copying.Copying.{Copying}
-use Rattle.papaya_copy.specs.declared.copying.Copying.TheVariants as copyings
-use Rattle.papaya_copy.specs.Link.{follows}
-use Rattle.papaya_copy.specs.Step.{slot_of}
+use Rattle.papaya_words_law.specs.Class.{IsOn}
+use Rattle.papaya_words_law.specs.Code.{Coding, code}
+use Rattle.papaya_words_law.specs.Copying.{IsPutting, IsSettled}
+use Rattle.papaya_words_law.specs.Exchange.{Word, Empty, Closed, Live, Marked, Copied, Buried, Setting, State}
+use Rattle.papaya_words_law.specs.Grows.{Agrees}
+use Rattle.papaya_words_law.specs.Hints.{IsHint}
+use Rattle.papaya_words_law.specs.Invariant.{IsSound}
+use Rattle.papaya_words_law.specs.View.{look, foreign}
+use Rattle.papaya_call.specs.declared.copy.copying.Aim.{Aim}
+use Rattle.papaya_call.specs.declared.copy.copying.Aim.TheVariants as aims
+use Rattle.papaya_call.specs.declared.copy.copying.Copying.{Copying}
+use Rattle.papaya_call.specs.declared.copy.copying.Copying.TheVariants as copyings
+use Rattle.papaya_call.specs.Link.{follows}
+use Rattle.papaya_call.specs.Step.{slot_of}
 use Rattle.papaya_call_law.specs.Copier.{HasCompared, HasPlaced, IsAimed, IsChunk, IsCursor}
 use Rattle.papaya_call_law.specs.Copier.{IsCutInto, IsFor, IsMoving, IsPassedBy, IsSettledChunk}
 use Rattle.papaya_call_law.specs.Copier.{IsSource, Measures, ReliesAim, ReliesCarry, ReliesCopying}
 use Rattle.papaya_call_law.specs.Copier.{ReliesLink, ReliesSettle, ReliesStep}
-use Rattle.papaya_copy.specs.declared.carry.Carry.{Carry}
-use Rattle.papaya_copy.specs.declared.carry.Carry.TheVariants as carries
-use Rattle.papaya_copy.specs.declared.step.Chunk.{Chunk}
-use Rattle.papaya_copy.specs.declared.step.Cursor.{Cursor}
-use Rattle.papaya_copy.specs.declared.step.Step.{Step}
-use Rattle.papaya_copy.specs.declared.step.Step.TheVariants as steps
-use Rattle.papaya_copy.specs.declared.link.Link.{Link}
-use Rattle.papaya_copy.specs.declared.link.Link.TheVariants as links
-use Rattle.papaya_ask.specs.declared.search.Place.{Place}
-use Rattle.papaya_copy.specs.declared.settle.Settle.{Settle}
-use Rattle.papaya_copy.specs.declared.settle.Settle.TheVariants as settles
-use Rattle.papaya_copy.specs.declared.settle.Slot.{Slot}
-use Rattle.papaya_law.proofs.Base.{linking_on}
-use Rattle.papaya_law.proofs.Carries.{has_carries, look_pair, settled_carries}
-use Rattle.papaya_law.proofs.CopierFacts.{taker_on, target_on}
-use Rattle.papaya_law.proofs.Hints.{hint_agrees}
-use Rattle.papaya_law.proofs.Grows.{becomes_carries, linking_carries, taker_carries, target_carries}
+use Rattle.papaya_call.specs.declared.copy.carry.Carry.{Carry}
+use Rattle.papaya_call.specs.declared.copy.carry.Carry.TheVariants as carries
+use Rattle.papaya_call.specs.declared.copy.step.Chunk.{Chunk}
+use Rattle.papaya_call.specs.declared.copy.step.Cursor.{Cursor}
+use Rattle.papaya_call.specs.declared.copy.step.Step.{Step}
+use Rattle.papaya_call.specs.declared.copy.step.Step.TheVariants as steps
+use Rattle.papaya_call.specs.declared.copy.link.Link.{Link}
+use Rattle.papaya_call.specs.declared.copy.link.Link.TheVariants as links
+use Rattle.papaya_call.specs.declared.search.Place.{Place}
+use Rattle.papaya_call.specs.declared.copy.settle.Settle.{Settle}
+use Rattle.papaya_call.specs.declared.copy.settle.Settle.TheVariants as settles
+use Rattle.papaya_call.specs.declared.copy.settle.SlotToCopy.{SlotToCopy}
+use Rattle.papaya_words_law.proofs.Base.{linking_on}
+use Rattle.papaya_words_law.proofs.Carries.{has_carries, look_pair, settled_carries}
+use Rattle.papaya_words_law.proofs.CopierFacts.{taker_on, target_on}
+use Rattle.papaya_words_law.proofs.Hints.{hint_agrees}
+use Rattle.papaya_words_law.proofs.Grows.{becomes_carries, linking_carries, taker_carries, target_carries}
 
 module _ {K P : Type 0} (g g' : Setting K P) (c : Coding K P) (s : State P) (sound : IsSound g s) (agrees : Agrees (IsOn s.first s.next) g g')
     (last kept : Option P) where
@@ -131,7 +131,7 @@ module _ {K P : Type 0} (g g' : Setting K P) (c : Coding K P) (s : State P) (sou
   }
 
   -- the slot's table is on the chain
-  module _ (slot : Slot) (on : IsOn s.first s.next slot.from) where
+  module _ (slot : SlotToCopy) (on : IsOn s.first s.next slot.from) where
     putting_carries : (p : P) (n j : ℕ) → IsPutting g s slot.from slot.index p n j → IsPutting g' s slot.from slot.index p n j
     putting_carries p n j r = record {
       stood = r.stood;
@@ -214,7 +214,7 @@ module _ {K P : Type 0} (g g' : Setting K P) (c : Coding K P) (s : State P) (sou
       },
     )
 
-  moving_carries : (slot : Slot) → IsMoving g c s slot → IsMoving g' c s slot
+  moving_carries : (slot : SlotToCopy) → IsMoving g c s slot → IsMoving g' c s slot
   moving_carries slot r = record {
     mode = agrees.blocking ∙ r.mode;
     on = r.on;

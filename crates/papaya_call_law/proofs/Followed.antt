@@ -2,23 +2,23 @@
 use Rattle.std.proofs.Common.{◌≡◌, ◌⊎◌, inl, inr, ℕ, ◌==◌, nat_lt, Bool, true, false, cond, Option, None, Some, refl, sym, ap, ◌∙◌, subst}
 use Rattle.std.proofs.lemmas.Bool.{cond_both}
 use Rattle.papaya_words.specs.Word.{kind_of, may_hold, pair_of}
-use Rattle.papaya_words.specs.declared.probe.ResizeMode.{ResizeMode}
-use Rattle.papaya_words.specs.declared.probe.ResizeMode.TheVariants.{Incremental, Blocking}
+use Rattle.papaya_words.specs.declared.resize_mode.ResizeMode.{ResizeMode}
+use Rattle.papaya_words.specs.declared.resize_mode.ResizeMode.TheVariants.{Incremental, Blocking}
 use Rattle.papaya_words.specs.declared.word.Kind.{Kind}
 use Rattle.papaya_words.specs.declared.word.Kind.TheVariants as word_kinds
-use Rattle.papaya_ask.specs.declared.ask.At.TheVariants.{Root}
-use Rattle.papaya_ask.specs.declared.ask.Ask.TheVariants.{Exchange, SizeOf}
-use Rattle.papaya_ask.specs.declared.ask.Answer.{Answer}
-use Rattle.papaya_ask.specs.declared.ask.Answer.TheVariants.{Word as Word_read, Exchanged}
-use Rattle.papaya_ask.specs.declared.ask.Answer.TheVariants.{Found as Found_instead, Yes, Op, Size}
-use Rattle.papaya_ask.specs.declared.ask.Answer.TheVariants.{Made as Made_number, Ok as Ok_done}
-use Rattle.papaya_ask.specs.declared.ask.Answer.TheVariants.{Refused as Was_refused}
-use Rattle.papaya_ask.specs.declared.ask.OpKind.{OpKind}
-use Rattle.papaya_ask.specs.declared.ask.OpKind.TheVariants as ops
-use Rattle.papaya_ask.specs.declared.ask.StepKind.TheVariants as kinds
-use Rattle.papaya_ask.specs.declared.call.Reply.TheVariants.{Absent, Replaced}
-use Rattle.papaya_ask.specs.declared.call.Task.{Task}
-use Rattle.papaya_ask.specs.declared.call.Task.TheVariants.{Get, Insert, RemoveIf, Compute}
+use Rattle.papaya_call.specs.declared.ask.At.TheVariants.{Root}
+use Rattle.papaya_call.specs.declared.ask.Ask.TheVariants.{Exchange, SizeOf}
+use Rattle.papaya_call.specs.declared.ask.Answer.{Answer}
+use Rattle.papaya_call.specs.declared.ask.Answer.TheVariants.{Word as Word_read, Exchanged}
+use Rattle.papaya_call.specs.declared.ask.Answer.TheVariants.{Found as Found_instead, Yes, Op, Size}
+use Rattle.papaya_call.specs.declared.ask.Answer.TheVariants.{Made as Made_number, Ok as Ok_done}
+use Rattle.papaya_call.specs.declared.ask.Answer.TheVariants.{Refused as Was_refused}
+use Rattle.papaya_call.specs.declared.ask.OpKind.{OpKind}
+use Rattle.papaya_call.specs.declared.ask.OpKind.TheVariants as ops
+use Rattle.papaya_call.specs.declared.ask.StepKind.TheVariants as kinds
+use Rattle.papaya_call.specs.declared.call.Reply.TheVariants.{Absent, Replaced}
+use Rattle.papaya_call.specs.declared.call.Task.{Task}
+use Rattle.papaya_call.specs.declared.call.Task.TheVariants.{Get, Insert, RemoveIf, Compute}
 use Rattle.papaya_call.specs.declared.compute.Choice.{Choice}
 use Rattle.papaya_call.specs.declared.compute.Choice.TheVariants.{Replace as To_replace, Remove as To_remove}
 use Rattle.papaya_call.specs.declared.compute.Gap.{Gap}
@@ -27,11 +27,11 @@ use Rattle.papaya_call.specs.declared.compute.Purpose.{Purpose}
 use Rattle.papaya_call.specs.declared.compute.Purpose.TheVariants.{Fill, Replace, Again}
 use Rattle.papaya_call.specs.declared.compute.Remembered.{Remembered}
 use Rattle.papaya_call.specs.declared.remove.Removal.{Removal}
-use Rattle.papaya_ask.specs.declared.search.Place.{Place}
-use Rattle.papaya_ask.specs.declared.search.Search.{Search}
-use Rattle.papaya_ask.specs.declared.search.Search.TheVariants.{Sizing, Looking, Reading, Comparing}
-use Rattle.papaya_ask.specs.declared.search.Probed.{Probed}
-use Rattle.papaya_ask.specs.declared.search.Probed.TheVariants as seen
+use Rattle.papaya_call.specs.declared.search.Place.{Place}
+use Rattle.papaya_call.specs.declared.search.Search.{Search}
+use Rattle.papaya_call.specs.declared.search.Search.TheVariants.{Sizing, Looking, Reading, Comparing}
+use Rattle.papaya_call.specs.declared.search.ProbeStep.{ProbeStep}
+use Rattle.papaya_call.specs.declared.search.ProbeStep.TheVariants as seen
 use Rattle.papaya_call.specs.declared.made.Made.{Made}
 use Rattle.papaya_call_law.proofs.Makings.{HoldsOfPairAsks, IsPairAsk, IsWriteAsk, exchanged_leads}
 use Rattle.papaya_call_law.proofs.Makings.{lost_leads, numbered_leads, pair_holds, paired_leads}
@@ -56,12 +56,12 @@ use Rattle.papaya_call.specs.Machine.{computes, decided, goes_as, judged, kind_a
 use Rattle.papaya_call.specs.Machine.{left, needed, passes, removes, served_kind, replaces, written}
 use Rattle.papaya_call.specs.Write.{claimed_by, served_ask, serves}
 use Rattle.papaya_call_law.specs.Relies.{change_in}
-use Rattle.papaya_ask.specs.Search.{at_size, at_word, at_yes, go_on, hinted, look, look_at, match_at, next_place}
+use Rattle.papaya_call.specs.Search.{at_size, at_word, at_yes, go_on, hinted, look, look_at, match_at, next_place}
 use Rattle.papaya_call_law.proofs.Standing.{computer_inserts, writer_inserts}
 use Rattle.papaya_call_law.proofs.Leads.{occupies_leads}
 
 -- what a search saw names no table but n
-abbrev IsSeenAt : ℕ → Probed → Type 0
+abbrev IsSeenAt : ℕ → ProbeStep → Type 0
 IsSeenAt n (seen.On search) = table_of search ≡ n
 IsSeenAt n (seen.Empty at) = at.table ≡ n
 IsSeenAt n (seen.Here at word) = at.table ≡ n
@@ -147,7 +147,7 @@ passes_at n task (Incremental chunk) fill t is = is
 passes_at n task Blocking fill t is = absent_at n task fill (After t) is
 
 -- what was seen leads to the same table
-goes_at : (n : ℕ) (task : Task) (mode : ResizeMode) (held : Remembered) (s : Probed) → IsSeenAt n s → IsAtTable n (goes_as task mode held s)
+goes_at : (n : ℕ) (task : Task) (mode : ResizeMode) (held : Remembered) (s : ProbeStep) → IsSeenAt n s → IsAtTable n (goes_as task mode held s)
 goes_at n task mode held (seen.On search) is = is
 goes_at n Get mode held (seen.Here at word) is = tt
 goes_at n (Insert false) mode held (seen.Here at word) is = occupies_leads (IsAtTable n) (kind_of word) at word tt is

@@ -1,11 +1,11 @@
 -- One further key: the numbers that stand at the places are what they were.
 use Rattle.std.proofs.Common.{◌≡◌, ℕ, Bool, refl}
-use Rattle.papaya_ask.specs.declared.ask.At.{At}
-use Rattle.papaya_ask.specs.declared.ask.At.TheVariants.{Root, Next, Aborted, Done, Slot, Made}
-use Rattle.papaya_law.specs.Exchange.{Setting, State}
-use Rattle.papaya_law.specs.Code.{Coding}
-use Rattle.papaya_law.specs.Further.{with_key, coding_with}
-use Rattle.papaya_law.proofs.Further.{key_code}
+use Rattle.papaya_call.specs.declared.ask.At.{At}
+use Rattle.papaya_call.specs.declared.ask.At.TheVariants.{Root, Next, Aborted, Done, Slot, Made}
+use Rattle.papaya_words_law.specs.Exchange.{Setting, State}
+use Rattle.papaya_words_law.specs.Code.{Coding}
+use Rattle.papaya_words_law.specs.Further.{with_key, coding_with}
+use Rattle.papaya_words_law.proofs.Further.{key_code}
 use Rattle.papaya_call_law.specs.Told.{word_of}
 
 module _ {K P : Type 0} (g : Setting K P) (matches : K → Bool) (hash : ℕ) where

@@ -2,13 +2,13 @@
 use Rattle.std.proofs.Common.{ℕ, ◌==◌, true, false, Option, None, Some}
 use Rattle.std.proofs.lemmas.Bool.{cond_both}
 use Rattle.papaya_words.specs.Word.{kind_of, pair_of}
-use Rattle.papaya_words.specs.declared.probe.ResizeMode.{ResizeMode}
-use Rattle.papaya_words.specs.declared.probe.ResizeMode.TheVariants.{Incremental, Blocking}
+use Rattle.papaya_words.specs.declared.resize_mode.ResizeMode.{ResizeMode}
+use Rattle.papaya_words.specs.declared.resize_mode.ResizeMode.TheVariants.{Incremental, Blocking}
 use Rattle.papaya_words.specs.declared.word.Kind.{Kind}
 use Rattle.papaya_words.specs.declared.word.Kind.TheVariants as word_kinds
-use Rattle.papaya_ask.specs.declared.call.Reply.TheVariants.{Absent, Found, Occupied}
-use Rattle.papaya_ask.specs.declared.call.Task.{Task}
-use Rattle.papaya_ask.specs.declared.call.Task.TheVariants.{Get, Insert, RemoveIf, Compute}
+use Rattle.papaya_call.specs.declared.call.Reply.TheVariants.{Absent, Found, Occupied}
+use Rattle.papaya_call.specs.declared.call.Task.{Task}
+use Rattle.papaya_call.specs.declared.call.Task.TheVariants.{Get, Insert, RemoveIf, Compute}
 use Rattle.papaya_call.specs.declared.compute.Choice.{Choice}
 use Rattle.papaya_call.specs.declared.compute.Choice.TheVariants.{Replace as To_replace, Remove as To_remove}
 use Rattle.papaya_call.specs.declared.compute.Gap.{Gap}
@@ -18,11 +18,11 @@ use Rattle.papaya_call.specs.declared.compute.Purpose.TheVariants.{Fill, Replace
 use Rattle.papaya_call.specs.declared.compute.Put.{Put}
 use Rattle.papaya_call.specs.declared.compute.Remembered.{Remembered}
 use Rattle.papaya_call.specs.declared.remove.Removal.{Removal}
-use Rattle.papaya_ask.specs.declared.search.Place.{Place}
-use Rattle.papaya_ask.specs.declared.search.Search.{Search}
-use Rattle.papaya_ask.specs.declared.search.Search.TheVariants.{Sizing}
-use Rattle.papaya_ask.specs.declared.search.Probed.{Probed}
-use Rattle.papaya_ask.specs.declared.search.Probed.TheVariants as seen
+use Rattle.papaya_call.specs.declared.search.Place.{Place}
+use Rattle.papaya_call.specs.declared.search.Search.{Search}
+use Rattle.papaya_call.specs.declared.search.Search.TheVariants.{Sizing}
+use Rattle.papaya_call.specs.declared.search.ProbeStep.{ProbeStep}
+use Rattle.papaya_call.specs.declared.search.ProbeStep.TheVariants as seen
 use Rattle.papaya_call.specs.declared.write.Write.{Write}
 use Rattle.papaya_call.specs.declared.machine.Machine.{Machine}
 use Rattle.papaya_call.specs.declared.machine.State.{State}
@@ -36,7 +36,7 @@ use Rattle.papaya_call.specs.Compute.{fills, lacks, provides, recalled, recalls}
 use Rattle.papaya_call.specs.Machine.{absent, at_root, beaten, beaten_as, beaten_by, computes}
 use Rattle.papaya_call.specs.Machine.{found, copied_from, goes_as, left, occupies, passes, removes}
 use Rattle.papaya_call.specs.Machine.{replaces}
-use Rattle.papaya_ask.specs.Search.{look as look_seen}
+use Rattle.papaya_call.specs.Search.{look as look_seen}
 use Rattle.papaya_call.specs.declared.need.Need.{Need}
 use Rattle.papaya_call.specs.declared.need.Need.TheVariants.{Room, Pair as Pair_at}
 
@@ -169,7 +169,7 @@ module _ (Holds : State → Type 0) (each : HoldsOfLeads Holds) where
   found_leads Compute held at word = computes_leads (kind_of word) held at word
 
   -- what a search saw
-  pub goes_leads : (task : Task) (mode : ResizeMode) (held : Remembered) (s : Probed) → Holds (goes_as task mode held s)
+  pub goes_leads : (task : Task) (mode : ResizeMode) (held : Remembered) (s : ProbeStep) → Holds (goes_as task mode held s)
   goes_leads task mode held (seen.On search) = each.searching search
   goes_leads task mode held (seen.Here at word) = found_leads task held at word
   goes_leads Get mode held (seen.Empty at) = absent_leads Get held.fill (At_place at)

@@ -3,12 +3,12 @@ use Rattle.std.proofs.Common.{◌≡◌, ⊎_elim, ℕ, ◌≤◌, Option, None,
 use Rattle.std.specs.List.{All}
 use Rattle.std.proofs.lemmas.List.Elements.{All-cons, All-nil}
 use Rattle.papaya_words.specs.Word.{kind_of, may_hold}
-use Rattle.papaya_words.specs.declared.probe.ResizeMode.{ResizeMode}
-use Rattle.papaya_ask.specs.declared.ask.Ask.{Ask}
-use Rattle.papaya_ask.specs.declared.ask.Answer.{Answer}
-use Rattle.papaya_ask.specs.declared.ask.Answer.TheVariants as answers
-use Rattle.papaya_ask.specs.declared.call.Task.TheVariants.{Get}
-use Rattle.papaya_ask.specs.declared.search.Search.TheVariants.{Sizing, Looking, Reading, Comparing}
+use Rattle.papaya_words.specs.declared.resize_mode.ResizeMode.{ResizeMode}
+use Rattle.papaya_call.specs.declared.ask.Ask.{Ask}
+use Rattle.papaya_call.specs.declared.ask.Answer.{Answer}
+use Rattle.papaya_call.specs.declared.ask.Answer.TheVariants as answers
+use Rattle.papaya_call.specs.declared.call.Task.TheVariants.{Get}
+use Rattle.papaya_call.specs.declared.search.Search.TheVariants.{Sizing, Looking, Reading, Comparing}
 use Rattle.papaya_call.specs.declared.made.Made.{Made}
 use Rattle.papaya_call.specs.Made.{nothing_made}
 use Rattle.papaya_call.specs.declared.machine.State.{State}
@@ -20,17 +20,17 @@ use Rattle.papaya_call.specs.declared.machine.State.TheVariants.{Leaving, Growin
 use Rattle.papaya_call.specs.declared.machine.Machine.{Machine}
 use Rattle.papaya_call.specs.Compute.{nothing}
 use Rattle.papaya_call.specs.Machine.{IsLookup, ask_of, after, started, at_root, left as state_left, goes_as}
-use Rattle.papaya_ask.specs.Search.{first_place, go_on, hinted, look_at, at_yes as search_compared}
+use Rattle.papaya_call.specs.Search.{first_place, go_on, hinted, look_at, at_yes as search_compared}
 use Rattle.papaya_call_law.specs.Loads.{IsAnswer, AreAnswers, IsBounded, asked, tables_entered, tables_hinted, tables_loaded}
-use Rattle.papaya_ask.specs.declared.ask.Ask.TheVariants.{LoadHint}
-use Rattle.papaya_ask.specs.declared.search.Probed.TheVariants.{On}
+use Rattle.papaya_call.specs.declared.ask.Ask.TheVariants.{LoadHint}
+use Rattle.papaya_call.specs.declared.search.ProbeStep.TheVariants.{On}
 use Rattle.papaya_call_law.proofs.LoadsLeft.{chosen}
 use Rattle.papaya_call_law.proofs.LoadsLists.{count, IsFrom, from_nil}
 use Rattle.papaya_call_law.proofs.LoadsSteps.{lookup, IsReader, IsBelow, left, AreKnown, IsStep}
 use Rattle.papaya_call_law.proofs.LoadsSteps.{leads_look, leads_on, leads_compared, step_root}
 use Rattle.papaya_call_law.proofs.LoadsSteps.{step_next, step_size, step_hint, step_read, step_load}
 use Rattle.papaya_call_law.proofs.LoadsSteps.{step_compare, step_ended}
-use Rattle.papaya_ask.specs.declared.search.Place.{Place}
+use Rattle.papaya_call.specs.declared.search.Place.{Place}
 
 module _ (limit : ℕ → ℕ) (hash initial : ℕ) (mode : ResizeMode) where
   -- the lookup in a state

@@ -1,10 +1,10 @@
 -- A pair is made of the key of the pair last loaded, where that is of the call's class.
 use Rattle.std.proofs.Common.{◌≡◌, ⊎_elim, ℕ, ◌==◌, eq-eqb, Bool, true, false, cond, Option, None, Some, List, refl, ◌∙◌}
 use Rattle.papaya_words.specs.Word.{pair_of}
-use Rattle.papaya_ask.specs.declared.ask.Ask.TheVariants.{MakePairOf}
-use Rattle.papaya_ask.specs.declared.call.Task.{Task}
-use Rattle.papaya_ask.specs.declared.call.Task.TheVariants.{Get, Insert, RemoveIf, Compute}
-use Rattle.papaya_ask.specs.declared.search.Search.TheVariants.{Sizing, Looking, Reading, Comparing}
+use Rattle.papaya_call.specs.declared.ask.Ask.TheVariants.{MakePairOf}
+use Rattle.papaya_call.specs.declared.call.Task.{Task}
+use Rattle.papaya_call.specs.declared.call.Task.TheVariants.{Get, Insert, RemoveIf, Compute}
+use Rattle.papaya_call.specs.declared.search.Search.TheVariants.{Sizing, Looking, Reading, Comparing}
 use Rattle.papaya_call.specs.declared.compute.Purpose.{Purpose}
 use Rattle.papaya_call.specs.declared.compute.Purpose.TheVariants.{Fill, Replace, Again}
 use Rattle.papaya_call.specs.declared.made.Made.{Made}
@@ -23,8 +23,8 @@ use Rattle.papaya_call.specs.Compute.{in_place_of}
 use Rattle.papaya_call.specs.Made.{number_ask, of_ask, own_ask, pair_ask}
 use Rattle.papaya_call.specs.Machine.{asks, ask_of}
 use Rattle.papaya_call.specs.Write.{served_ask, serves}
-use Rattle.papaya_law.specs.Exchange.{Setting, Exchange}
-use Rattle.papaya_law.specs.Code.{Coding, IsHashed}
+use Rattle.papaya_words_law.specs.Exchange.{Setting, Exchange}
+use Rattle.papaya_words_law.specs.Code.{Coding, IsHashed}
 use Rattle.papaya_call_law.specs.Told.{LoadedPairs}
 use Rattle.papaya_call_law.specs.Relies.{MayRemove, Relies, ReliesPurpose, ReliesStage, ReliesWriting}
 use Rattle.papaya_call_law.proofs.ReliesLearnPairs.{removal_number}

@@ -1,23 +1,23 @@
 -- What a machine has yet to add after an answer is what the map grew by.
 use Rattle.std.proofs.Common.{◌≡◌, ⊎_elim, ℕ, ◌+◌, ℤ, pos, negsuc, ◌==◌, Bool, true, false, cond, Option, None, Some, List, ◌∷◌, [], refl, sym, ap, ◌∙◌, subst}
 use Rattle.papaya_words.specs.Word.{pair_of, live_word}
-use Rattle.papaya_words.specs.declared.probe.Refused.{Refused}
-use Rattle.papaya_words.specs.declared.probe.ResizeMode.{ResizeMode}
-use Rattle.papaya_ask.specs.declared.ask.Answer.{Answer}
-use Rattle.papaya_ask.specs.declared.ask.Answer.TheVariants.{Exchanged, Found as Found_instead, Yes, Op, Ok as Ok_done, Refused as Was_refused}
-use Rattle.papaya_ask.specs.declared.ask.At.TheVariants.{Root, Slot, Made as Made_word}
-use Rattle.papaya_ask.specs.declared.ask.OpKind.{OpKind}
-use Rattle.papaya_ask.specs.declared.ask.OpKind.TheVariants as ops
-use Rattle.papaya_ask.specs.declared.ask.StepKind.TheVariants as kinds
-use Rattle.papaya_ask.specs.declared.call.Reply.TheVariants.{Replaced}
-use Rattle.papaya_ask.specs.declared.call.Task.{Task}
-use Rattle.papaya_ask.specs.declared.call.Task.TheVariants.{Get, Insert, RemoveIf, Compute}
+use Rattle.papaya_words.specs.declared.refused.Refused.{Refused}
+use Rattle.papaya_words.specs.declared.resize_mode.ResizeMode.{ResizeMode}
+use Rattle.papaya_call.specs.declared.ask.Answer.{Answer}
+use Rattle.papaya_call.specs.declared.ask.Answer.TheVariants.{Exchanged, Found as Found_instead, Yes, Op, Ok as Ok_done, Refused as Was_refused}
+use Rattle.papaya_call.specs.declared.ask.At.TheVariants.{Root, Slot, Made as Made_word}
+use Rattle.papaya_call.specs.declared.ask.OpKind.{OpKind}
+use Rattle.papaya_call.specs.declared.ask.OpKind.TheVariants as ops
+use Rattle.papaya_call.specs.declared.ask.StepKind.TheVariants as kinds
+use Rattle.papaya_call.specs.declared.call.Reply.TheVariants.{Replaced}
+use Rattle.papaya_call.specs.declared.call.Task.{Task}
+use Rattle.papaya_call.specs.declared.call.Task.TheVariants.{Get, Insert, RemoveIf, Compute}
 use Rattle.papaya_call.specs.declared.compute.Gap.{Gap}
 use Rattle.papaya_call.specs.declared.compute.Remembered.{Remembered}
 use Rattle.papaya_call.specs.declared.remove.Removal.{Removal}
-use Rattle.papaya_ask.specs.declared.search.Place.{Place}
-use Rattle.papaya_ask.specs.declared.search.Search.TheVariants.{Sizing, Looking, Reading, Comparing}
-use Rattle.papaya_ask.specs.declared.search.Probed.{Probed}
+use Rattle.papaya_call.specs.declared.search.Place.{Place}
+use Rattle.papaya_call.specs.declared.search.Search.TheVariants.{Sizing, Looking, Reading, Comparing}
+use Rattle.papaya_call.specs.declared.search.ProbeStep.{ProbeStep}
 use Rattle.papaya_call.specs.declared.made.Made.{Made}
 use Rattle.papaya_call_law.proofs.Makings.{HoldsOfPairAsks, pair_holds, pairing_leads, unserved_leads, write_holds, write_then, write_then_is}
 use Rattle.papaya_call.specs.declared.machine.Machine.{Machine}
@@ -27,8 +27,8 @@ use Rattle.papaya_call.specs.declared.machine.State.TheVariants.{Writing, Offeri
 use Rattle.papaya_call.specs.declared.machine.State.TheVariants.{Pairing, Putting, Burying}
 use Rattle.papaya_call.specs.declared.machine.State.TheVariants.{Counting, Noting, Uncounting}
 use Rattle.papaya_call.specs.declared.machine.State.TheVariants.{Leaving, Growing, Ended}
-use Rattle.papaya_law.specs.Exchange.{Setting, State, Exchange}
-use Rattle.papaya_law.specs.Code.{Coding, code}
+use Rattle.papaya_words_law.specs.Exchange.{Setting, State, Exchange}
+use Rattle.papaya_words_law.specs.Code.{Coding, code}
 use Rattle.papaya_call.specs.declared.made.Number.{Number}
 use Rattle.papaya_call.specs.declared.made.Number.TheVariants.{Wanted, Free, Taken}
 use Rattle.papaya_call.specs.Made.{number_ask, number_kind, of_ask, own_ask}
@@ -36,11 +36,11 @@ use Rattle.papaya_call.specs.Compute.{chosen, in_place_of, offered}
 use Rattle.papaya_call.specs.Machine.{after, agreed, ask_of, asks, decided, goes_as, judged, kind_asked, kind_of_ask, served_kind}
 use Rattle.papaya_call_law.specs.Owed.{owed_by, grows_by, grows_of}
 use Rattle.papaya_call.specs.Remove.{grave_word}
-use Rattle.papaya_ask.specs.Search.{hinted, look as look_seen, at_yes as search_compared}
+use Rattle.papaya_call.specs.Search.{hinted, look as look_seen, at_yes as search_compared}
 use Rattle.papaya_call_law.specs.Told.{IsAsked, IsTold, IsUnmade, IsSaying, LoadedPairs, told_of}
 use Rattle.papaya_call.specs.declared.write.Write.{Write}
 use Rattle.papaya_call.specs.Write.{claimed_by, served_ask, serves}
-use Rattle.papaya_ask.specs.declared.ask.Ask.TheVariants.{Exchange as Ask_exchange}
+use Rattle.papaya_call.specs.declared.ask.Ask.TheVariants.{Exchange as Ask_exchange}
 use Rattle.std.proofs.lemmas.Bool.{cond_both}
 use Rattle.papaya_call_law.proofs.Leads.{HoldsOfLeads, beaten_leads, goes_leads, left_leads, provides_leads, root_leads}
 use Rattle.papaya_call_law.proofs.ReliesLearn.{by_test}
@@ -109,7 +109,7 @@ leads_owe = record {
 }
 
 -- what a search saw
-goes_owes : (task : Task) (mode : ResizeMode) (held : Remembered) (s : Probed) → owed_in (goes_as task mode held s) ≡ pos 0
+goes_owes : (task : Task) (mode : ResizeMode) (held : Remembered) (s : ProbeStep) → owed_in (goes_as task mode held s) ≡ pos 0
 goes_owes task mode held s = goes_leads (λ stage. owed_in stage ≡ pos 0) leads_owe task mode held s
 
 -- nor does what a closure answered

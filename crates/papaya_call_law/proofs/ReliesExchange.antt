@@ -4,17 +4,17 @@ use Rattle.std.proofs.Common.{cond, MatchBool, Option, None, Some, MatchOption, 
 use Rattle.std.proofs.Common.{sym, ap, ◌∙◌, subst}
 use Rattle.papaya_words.specs.Word.{kind_of, live_word, buried_word}
 use Rattle.papaya_words.specs.declared.word.Kind.TheVariants as word_kinds
-use Rattle.papaya_ask.specs.declared.ask.Ask.TheVariants.{Exchange as Ask_exchange}
-use Rattle.papaya_ask.specs.declared.ask.At.{At}
-use Rattle.papaya_ask.specs.declared.ask.At.TheVariants.{Root, Next, Aborted, Done, Slot, Made as Made_word}
-use Rattle.papaya_ask.specs.declared.ask.StepKind.{StepKind}
-use Rattle.papaya_ask.specs.declared.ask.StepKind.TheVariants as kinds
-use Rattle.papaya_ask.specs.declared.call.Task.{Task}
-use Rattle.papaya_ask.specs.declared.call.Task.TheVariants.{Get, Insert, RemoveIf, Compute}
+use Rattle.papaya_call.specs.declared.ask.Ask.TheVariants.{Exchange as Ask_exchange}
+use Rattle.papaya_call.specs.declared.ask.At.{At}
+use Rattle.papaya_call.specs.declared.ask.At.TheVariants.{Root, Next, Aborted, Done, Slot, Made as Made_word}
+use Rattle.papaya_call.specs.declared.ask.StepKind.{StepKind}
+use Rattle.papaya_call.specs.declared.ask.StepKind.TheVariants as kinds
+use Rattle.papaya_call.specs.declared.call.Task.{Task}
+use Rattle.papaya_call.specs.declared.call.Task.TheVariants.{Get, Insert, RemoveIf, Compute}
 use Rattle.papaya_call.specs.declared.compute.Put.{Put}
 use Rattle.papaya_call.specs.declared.remove.Removal.{Removal}
-use Rattle.papaya_ask.specs.declared.search.Place.{Place}
-use Rattle.papaya_ask.specs.declared.search.Search.TheVariants.{Sizing, Looking, Reading, Comparing}
+use Rattle.papaya_call.specs.declared.search.Place.{Place}
+use Rattle.papaya_call.specs.declared.search.Search.TheVariants.{Sizing, Looking, Reading, Comparing}
 use Rattle.papaya_call.specs.declared.made.Made.{Made}
 use Rattle.papaya_call_law.proofs.Makings.{IsMakeAsk, make_asks}
 use Rattle.papaya_call_law.proofs.ReliesServed.{served_pair}
@@ -26,12 +26,12 @@ use Rattle.papaya_call.specs.declared.machine.State.TheVariants.{Writing, Offeri
 use Rattle.papaya_call.specs.declared.machine.State.TheVariants.{Pairing, Putting, Burying}
 use Rattle.papaya_call.specs.declared.machine.State.TheVariants.{Counting, Noting, Uncounting}
 use Rattle.papaya_call.specs.declared.machine.State.TheVariants.{Leaving, Growing, Ended}
-use Rattle.papaya_law.specs.Exchange.{Word, Live, Buried, Setting, State, Exchange, Open, Claim, Replace, Bury, Take, after, run, slot_put, start, walk}
-use Rattle.papaya_law.specs.View.{look, beyond, IsPassed, IsReached}
-use Rattle.papaya_law.specs.Allows.{AllAllowed, Allows, MayClaim, MayReplace, MayBury}
-use Rattle.papaya_law.specs.Code.{Coding, IsOfKind, code}
-use Rattle.papaya_law.specs.Invariant.{named}
-use Rattle.papaya_law.specs.Later.{Becomes, IsOfKey}
+use Rattle.papaya_words_law.specs.Exchange.{Word, Live, Buried, Setting, State, Exchange, Open, Claim, Replace, Bury, Take, after, run, slot_put, start, walk}
+use Rattle.papaya_words_law.specs.View.{look, beyond, IsPassed, IsReached}
+use Rattle.papaya_words_law.specs.Allows.{AllAllowed, Allows, MayClaim, MayReplace, MayBury}
+use Rattle.papaya_words_law.specs.Code.{Coding, IsOfKind, code}
+use Rattle.papaya_words_law.specs.Invariant.{named}
+use Rattle.papaya_words_law.specs.Later.{Becomes, IsOfKey}
 use Rattle.papaya_call.specs.declared.compute.Remembered.{Remembered}
 use Rattle.papaya_call.specs.declared.made.Number.{Number}
 use Rattle.papaya_call.specs.declared.made.Number.TheVariants.{Wanted, Free, Taken}
@@ -40,14 +40,14 @@ use Rattle.papaya_call.specs.Made.{number_ask, number_kind}
 use Rattle.papaya_call.specs.Machine.{asks, kind_asked, served_kind}
 use Rattle.papaya_call.specs.Write.{served_ask, serves}
 use Rattle.papaya_call_law.specs.Told.{IsAsked, IsWritten, LoadedPairs, word_of}
-use Rattle.papaya_law.specs.Code.{IsHashed}
+use Rattle.papaya_words_law.specs.Code.{IsHashed}
 use Rattle.papaya_call.specs.Remove.{grave_word}
 use Rattle.papaya_call_law.specs.Relies.{IsAt, IsOwnPair, IsPairAt, IsPairFor, MayRemove, MayWrite}
 use Rattle.papaya_call_law.specs.Relies.{Relies, ReliesLoaded, ReliesNumber, ReliesStage}
 use Rattle.papaya_call_law.specs.Relies.{ReliesWriting}
-use Rattle.papaya_law.proofs.Codes.{code_empty, code_pair}
-use Rattle.papaya_law.proofs.CodeViews.{word_of_kind}
-use Rattle.papaya_law.proofs.Slots.{look_same, put_there, put_elsewhere}
+use Rattle.papaya_words_law.proofs.Codes.{code_empty, code_pair}
+use Rattle.papaya_words_law.proofs.CodeViews.{word_of_kind}
+use Rattle.papaya_words_law.proofs.Slots.{look_same, put_there, put_elsewhere}
 use Rattle.papaya_call_law.proofs.NewWords.{pair_of-live_word}
 use Rattle.papaya_call_law.proofs.ReliesLearnMoments.{come_reached}
 

@@ -1,22 +1,22 @@
 -- What a call that exchanges a slot has made, and what a call that shows a pair was told of.
 use Rattle.std.proofs.Common.{◌≡◌, inl, inr, ℕ, Option, None, Some, List, refl, subst}
-use Rattle.papaya_ask.specs.declared.ask.At.TheVariants.{Slot}
-use Rattle.papaya_ask.specs.declared.ask.Ask.TheVariants.{Exchange as Ask_exchange, SameKey, ShowNone, ShowPair}
+use Rattle.papaya_call.specs.declared.ask.At.TheVariants.{Slot}
+use Rattle.papaya_call.specs.declared.ask.Ask.TheVariants.{Exchange as Ask_exchange, SameKey, ShowNone, ShowPair}
 use Rattle.papaya_call.specs.declared.remove.Removal.{Removal}
 use Rattle.papaya_words.specs.Word.{kind_of, pair_of}
 use Rattle.papaya_words.specs.declared.word.Kind.TheVariants as word_kinds
-use Rattle.papaya_law.specs.Code.{IsOfKind}
-use Rattle.papaya_law.specs.Exchange.{Live}
-use Rattle.papaya_law.specs.Invariant.{named}
-use Rattle.papaya_law.specs.View.{Foreign, Here, held, view}
+use Rattle.papaya_words_law.specs.Code.{IsOfKind}
+use Rattle.papaya_words_law.specs.Exchange.{Live}
+use Rattle.papaya_words_law.specs.Invariant.{named}
+use Rattle.papaya_words_law.specs.View.{Foreign, Here, held, view}
 use Rattle.papaya_call_law.specs.Relies.{MayRemove, WasAtMoment}
-use Rattle.papaya_law.specs.Code.{IsHashed}
-use Rattle.papaya_law.proofs.Codes.{code_pair}
-use Rattle.papaya_law.proofs.CodeViews.{word_of_kind}
+use Rattle.papaya_words_law.specs.Code.{IsHashed}
+use Rattle.papaya_words_law.proofs.Codes.{code_pair}
+use Rattle.papaya_words_law.proofs.CodeViews.{word_of_kind}
 use Rattle.std.proofs.Common.{true, cond, sym, ap, ◌∙◌, subst}
-use Rattle.papaya_ask.specs.declared.call.Task.{Task}
-use Rattle.papaya_ask.specs.declared.call.Task.TheVariants.{Get, Insert, RemoveIf, Compute}
-use Rattle.papaya_ask.specs.declared.search.Search.TheVariants.{Sizing, Looking, Reading, Comparing}
+use Rattle.papaya_call.specs.declared.call.Task.{Task}
+use Rattle.papaya_call.specs.declared.call.Task.TheVariants.{Get, Insert, RemoveIf, Compute}
+use Rattle.papaya_call.specs.declared.search.Search.TheVariants.{Sizing, Looking, Reading, Comparing}
 use Rattle.papaya_call.specs.declared.made.Made.{Made}
 use Rattle.papaya_call_law.proofs.Makings.{IsPairAsk, IsWriteAsk, pair_asks, pair_made as pair_of_grown, pairing_asks, write_asks}
 use Rattle.papaya_call_law.proofs.ReliesServed.{pair_made, served_pair}
@@ -29,15 +29,15 @@ use Rattle.papaya_call.specs.declared.machine.State.TheVariants.{Writing, Offeri
 use Rattle.papaya_call.specs.declared.machine.State.TheVariants.{Pairing, Putting, Burying}
 use Rattle.papaya_call.specs.declared.machine.State.TheVariants.{Counting, Noting, Uncounting}
 use Rattle.papaya_call.specs.declared.machine.State.TheVariants.{Leaving, Growing, Ended}
-use Rattle.papaya_law.specs.Exchange.{Setting, Exchange}
-use Rattle.papaya_ask.specs.declared.call.Reply.{Reply}
-use Rattle.papaya_ask.specs.declared.ask.Ask.TheVariants.{Done}
+use Rattle.papaya_words_law.specs.Exchange.{Setting, Exchange}
+use Rattle.papaya_call.specs.declared.call.Reply.{Reply}
+use Rattle.papaya_call.specs.declared.ask.Ask.TheVariants.{Done}
 use Rattle.papaya_call_law.specs.Relies.{IsReply, change_in, change_of_reply}
-use Rattle.papaya_law.specs.Code.{Coding}
-use Rattle.papaya_ask.specs.declared.ask.Answer.TheVariants.{Op, Made as Made_number, Refused as Was_refused}
-use Rattle.papaya_ask.specs.declared.ask.OpKind.{OpKind}
-use Rattle.papaya_ask.specs.declared.ask.OpKind.TheVariants as ops
-use Rattle.papaya_ask.specs.declared.call.Reply.TheVariants.{Refused as Reply_refused}
+use Rattle.papaya_words_law.specs.Code.{Coding}
+use Rattle.papaya_call.specs.declared.ask.Answer.TheVariants.{Op, Made as Made_number, Refused as Was_refused}
+use Rattle.papaya_call.specs.declared.ask.OpKind.{OpKind}
+use Rattle.papaya_call.specs.declared.ask.OpKind.TheVariants as ops
+use Rattle.papaya_call.specs.declared.call.Reply.TheVariants.{Refused as Reply_refused}
 use Rattle.papaya_call.specs.declared.compute.Gap.{Gap}
 use Rattle.papaya_call.specs.declared.compute.Gap.TheVariants.{NoRoot, At, After}
 use Rattle.papaya_call.specs.declared.compute.Purpose.{Purpose}
@@ -46,7 +46,7 @@ use Rattle.papaya_call.specs.declared.made.Grown.{Grown}
 use Rattle.papaya_call.specs.declared.made.Grown.TheVariants.{On, Pair}
 use Rattle.papaya_call.specs.Made.{grown, paired as pair_done}
 use Rattle.papaya_call.specs.Compute.{in_place_of, provides}
-use Rattle.papaya_words.specs.declared.probe.Refused.{Refused as Cause}
+use Rattle.papaya_words.specs.declared.refused.Refused.{Refused as Cause}
 use Rattle.papaya_call.specs.Machine.{HasClosure, IsComputer, IsStanding, IsStandingState, IsWriter, after, ask_of, asks, paired}
 use Rattle.papaya_call_law.specs.Says.{HasShownNone, Inserts, MakesPair, StandsOn, said_in, said_to_choose, said_to_fill, show}
 use Rattle.papaya_call.specs.declared.compute.Choice.{Choice}

@@ -1,9 +1,9 @@
 -- A hint that a machine writes may be there.
 use Rattle.std.proofs.Common.{◌≡◌, ℕ, List, sym, ap, ◌∙◌, subst}
 use Rattle.papaya_words.specs.Word.{hint_of}
-use Rattle.papaya_ask.specs.declared.ask.Ask.TheVariants.{WriteHint}
-use Rattle.papaya_ask.specs.declared.call.Task.{Task}
-use Rattle.papaya_ask.specs.declared.search.Search.TheVariants.{Sizing, Looking, Reading, Comparing}
+use Rattle.papaya_call.specs.declared.ask.Ask.TheVariants.{WriteHint}
+use Rattle.papaya_call.specs.declared.call.Task.{Task}
+use Rattle.papaya_call.specs.declared.search.Search.TheVariants.{Sizing, Looking, Reading, Comparing}
 use Rattle.papaya_call.specs.declared.made.Made.{Made}
 use Rattle.papaya_call_law.proofs.Makings.{IsPairAsk, IsWriteAsk, pairing_asks, write_asks}
 use Rattle.papaya_call.specs.declared.machine.Machine.{Machine}
@@ -14,9 +14,9 @@ use Rattle.papaya_call.specs.declared.machine.State.TheVariants.{Pairing, Puttin
 use Rattle.papaya_call.specs.declared.machine.State.TheVariants.{Counting, Noting, Uncounting}
 use Rattle.papaya_call.specs.declared.machine.State.TheVariants.{Leaving, Growing, Ended}
 use Rattle.papaya_call.specs.Machine.{asks, ask_of}
-use Rattle.papaya_law.specs.Exchange.{Setting, Exchange}
-use Rattle.papaya_law.specs.Code.{Coding}
-use Rattle.papaya_law.specs.Hints.{IsHint}
+use Rattle.papaya_words_law.specs.Exchange.{Setting, Exchange}
+use Rattle.papaya_words_law.specs.Code.{Coding}
+use Rattle.papaya_words_law.specs.Hints.{IsHint}
 use Rattle.papaya_call_law.specs.Told.{LoadedPairs}
 use Rattle.papaya_call_law.specs.Relies.{now, Relies, ReliesStage}
 

@@ -4,23 +4,23 @@ use Rattle.std.proofs.Common.{cond, MatchBool, MatchOption, Option, None, Some, 
 use Rattle.std.proofs.Common.{append-nil, refl, sym, ap, ◌∙◌, subst, arith}
 use Rattle.std.proofs.lemmas.Bool.{cases_lt, cond_both, eqb-false}
 use Rattle.papaya_words.specs.Word.{pair_of, live_word}
-use Rattle.papaya_words.specs.declared.probe.Refused.{Refused}
-use Rattle.papaya_words.specs.declared.probe.Refused.TheVariants.{Capacity, Limit}
-use Rattle.papaya_ask.specs.declared.ask.Ask.TheVariants.{Exchange as Ask_exchange}
-use Rattle.papaya_ask.specs.declared.ask.Answer.{Answer}
-use Rattle.papaya_ask.specs.declared.ask.Answer.TheVariants.{Word as Word_read, Exchanged}
-use Rattle.papaya_ask.specs.declared.ask.Answer.TheVariants.{Found as Found_instead, Yes, Op, Size}
-use Rattle.papaya_ask.specs.declared.ask.Answer.TheVariants.{Made as Made_number, Ok as Ok_done}
-use Rattle.papaya_ask.specs.declared.ask.Answer.TheVariants.{Refused as Was_refused}
-use Rattle.papaya_ask.specs.declared.ask.OpKind.{OpKind}
-use Rattle.papaya_ask.specs.declared.call.Reply.TheVariants.{Absent, Inserted, Removed, Refused as Reply_refused}
-use Rattle.papaya_ask.specs.declared.call.Task.{Task}
-use Rattle.papaya_ask.specs.declared.call.Task.TheVariants.{Get, Insert, RemoveIf, Compute}
+use Rattle.papaya_words.specs.declared.refused.Refused.{Refused}
+use Rattle.papaya_words.specs.declared.refused.Refused.TheVariants.{Capacity, Limit}
+use Rattle.papaya_call.specs.declared.ask.Ask.TheVariants.{Exchange as Ask_exchange}
+use Rattle.papaya_call.specs.declared.ask.Answer.{Answer}
+use Rattle.papaya_call.specs.declared.ask.Answer.TheVariants.{Word as Word_read, Exchanged}
+use Rattle.papaya_call.specs.declared.ask.Answer.TheVariants.{Found as Found_instead, Yes, Op, Size}
+use Rattle.papaya_call.specs.declared.ask.Answer.TheVariants.{Made as Made_number, Ok as Ok_done}
+use Rattle.papaya_call.specs.declared.ask.Answer.TheVariants.{Refused as Was_refused}
+use Rattle.papaya_call.specs.declared.ask.OpKind.{OpKind}
+use Rattle.papaya_call.specs.declared.call.Reply.TheVariants.{Absent, Inserted, Removed, Refused as Reply_refused}
+use Rattle.papaya_call.specs.declared.call.Task.{Task}
+use Rattle.papaya_call.specs.declared.call.Task.TheVariants.{Get, Insert, RemoveIf, Compute}
 use Rattle.papaya_call.specs.declared.compute.Gap.TheVariants.{NoRoot, After}
 use Rattle.papaya_call.specs.declared.compute.Purpose.{Purpose}
 use Rattle.papaya_call.specs.declared.compute.Remembered.{Remembered}
-use Rattle.papaya_ask.specs.declared.search.Place.{Place}
-use Rattle.papaya_ask.specs.declared.search.Search.TheVariants.{Sizing, Looking, Reading, Comparing}
+use Rattle.papaya_call.specs.declared.search.Place.{Place}
+use Rattle.papaya_call.specs.declared.search.Search.TheVariants.{Sizing, Looking, Reading, Comparing}
 use Rattle.papaya_call.specs.declared.made.Made.{Made}
 use Rattle.papaya_call.specs.declared.remove.Removal.{Removal}
 use Rattle.papaya_call.specs.declared.write.Write.{Write}
@@ -31,12 +31,12 @@ use Rattle.papaya_call.specs.declared.machine.State.TheVariants.{Writing, Offeri
 use Rattle.papaya_call.specs.declared.machine.State.TheVariants.{Pairing, Putting, Burying}
 use Rattle.papaya_call.specs.declared.machine.State.TheVariants.{Counting, Noting, Uncounting}
 use Rattle.papaya_call.specs.declared.machine.State.TheVariants.{Leaving, Growing, Ended}
-use Rattle.papaya_law.specs.Exchange.{Setting, State, Exchange, Take, run, start}
-use Rattle.papaya_law.specs.Allows.{AllAllowed}
-use Rattle.papaya_ask.specs.declared.ask.At.TheVariants.{Root, Slot}
-use Rattle.papaya_ask.specs.declared.ask.StepKind.{StepKind}
-use Rattle.papaya_ask.specs.declared.ask.StepKind.TheVariants as kinds
-use Rattle.papaya_law.specs.Code.{Coding, code}
+use Rattle.papaya_words_law.specs.Exchange.{Setting, State, Exchange, Take, run, start}
+use Rattle.papaya_words_law.specs.Allows.{AllAllowed}
+use Rattle.papaya_call.specs.declared.ask.At.TheVariants.{Root, Slot}
+use Rattle.papaya_call.specs.declared.ask.StepKind.{StepKind}
+use Rattle.papaya_call.specs.declared.ask.StepKind.TheVariants as kinds
+use Rattle.papaya_words_law.specs.Code.{Coding, code}
 use Rattle.papaya_call.specs.Compute.{in_place_of, lacks, offered, provides, with_pair}
 use Rattle.papaya_call.specs.declared.made.Grown.{Grown}
 use Rattle.papaya_call.specs.declared.made.Grown.TheVariants.{On, Pair}
@@ -49,15 +49,15 @@ use Rattle.papaya_call.specs.Machine.{kind_of_ask, left, made_decided, made_to_p
 use Rattle.papaya_call.specs.Machine.{numbered, paired as paired_state, paired_held, refuses}
 use Rattle.papaya_call.specs.Machine.{served_kind, write_lost, write_made, write_taken, write_told}
 use Rattle.papaya_call.specs.Machine.{written}
-use Rattle.papaya_ask.specs.Search.{first_place, hinted, look as look_seen, at_yes}
+use Rattle.papaya_call.specs.Search.{first_place, hinted, look as look_seen, at_yes}
 use Rattle.papaya_call_law.specs.Told.{IsAsked, IsOfLast, IsSaying, IsTold, IsUnmade, LoadedPairs}
-use Rattle.papaya_law.specs.Code.{IsHashed}
+use Rattle.papaya_words_law.specs.Code.{IsHashed}
 use Rattle.papaya_call.specs.Write.{made_to_write, served_ask, serves, with_pair_at, write_grown, write_kind}
 use Rattle.papaya_call.specs.Remove.{grave_word}
 use Rattle.papaya_call_law.specs.Relies.{IsAt, IsModeOf, Relies, ReliesFill, MayNeed, ReliesLoaded}
 use Rattle.papaya_call_law.specs.Relies.{ReliesNumber, ReliesLeaving, ReliesStage, ReliesWriting}
 use Rattle.papaya_call_law.specs.Relies.{HasComeTo, HasMet, HasClaimed}
-use Rattle.papaya_law.proofs.Codes.{code_pair}
+use Rattle.papaya_words_law.proofs.Codes.{code_pair}
 use Rattle.papaya_call_law.proofs.ReliesLearnMoments.{no_root, next_come, over_last, root_come}
 use Rattle.papaya_call_law.proofs.ReliesLearnPlaces.{first}
 use Rattle.papaya_call_law.proofs.ReliesLearnLook.{compared, hints, looks, told_word}
@@ -66,7 +66,7 @@ use Rattle.papaya_call_law.proofs.ReliesLearnLoaded.{KeysLast, loaded_answered, 
 use Rattle.papaya_call_law.proofs.ReliesLearnPairs.{IsNewFor, ReliesTold, grown_is, paired_relies, taken_relies, told_relies, writing_more, writing_paired}
 use Rattle.papaya_call_law.proofs.ReliesServed.{served_pair}
 use Rattle.papaya_call_law.proofs.ReliesStable.{relies_stable, state_later}
-use Rattle.papaya_law.proofs.Kept.{key_stable}
+use Rattle.papaya_words_law.proofs.Kept.{key_stable}
 use Rattle.papaya_call_law.proofs.ReliesLearnComputes.{decided_loaded, decided_relies, lacks_relies}
 use Rattle.papaya_call_law.proofs.ReliesLearnComputes.{offered_relies, pair_relies, provides_relies}
 use Rattle.papaya_call_law.proofs.ReliesLearnComputes.{purpose_more, purpose_new}

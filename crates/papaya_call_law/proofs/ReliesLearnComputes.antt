@@ -1,10 +1,10 @@
 -- A compute: where the answers of its closure lead it, and what is made and remembered of them.
 use Rattle.std.proofs.Common.{◌≡◌, inl, inr, ℕ, ◌<◌, ◌==◌, Bool, true, false, MatchBool, Option, None, Some, List, ◌∷◌, refl, eqb-true, arith}
 use Rattle.std.proofs.lemmas.Bool.{cond_both}
-use Rattle.papaya_ask.specs.declared.ask.OpKind.{OpKind}
-use Rattle.papaya_ask.specs.declared.ask.OpKind.TheVariants as ops
-use Rattle.papaya_ask.specs.declared.call.Task.{Task}
-use Rattle.papaya_ask.specs.declared.call.Task.TheVariants.{Get, Insert, RemoveIf, Compute}
+use Rattle.papaya_call.specs.declared.ask.OpKind.{OpKind}
+use Rattle.papaya_call.specs.declared.ask.OpKind.TheVariants as ops
+use Rattle.papaya_call.specs.declared.call.Task.{Task}
+use Rattle.papaya_call.specs.declared.call.Task.TheVariants.{Get, Insert, RemoveIf, Compute}
 use Rattle.papaya_call.specs.declared.compute.Choice.{Choice}
 use Rattle.papaya_call.specs.declared.compute.Choice.TheVariants.{Replace as To_replace, Remove as To_remove}
 use Rattle.papaya_call.specs.declared.compute.Gap.{Gap}
@@ -14,13 +14,13 @@ use Rattle.papaya_call.specs.declared.compute.Purpose.TheVariants.{Fill, Replace
 use Rattle.papaya_call.specs.declared.compute.Remembered.{Remembered}
 use Rattle.papaya_call.specs.declared.machine.State.TheVariants.{Showing, Pairing, Putting, Burying}
 use Rattle.papaya_call.specs.declared.remove.Removal.{Removal}
-use Rattle.papaya_ask.specs.declared.search.Place.{Place}
+use Rattle.papaya_call.specs.declared.search.Place.{Place}
 use Rattle.papaya_call.specs.declared.made.Made.{Made}
 use Rattle.papaya_call.specs.declared.made.Of.{Of}
 use Rattle.papaya_call.specs.declared.write.Write.{Write}
 use Rattle.papaya_call.specs.Made.{serves_at}
-use Rattle.papaya_law.specs.Exchange.{Setting, Exchange}
-use Rattle.papaya_law.specs.Code.{Coding, IsHashed}
+use Rattle.papaya_words_law.specs.Exchange.{Setting, Exchange}
+use Rattle.papaya_words_law.specs.Code.{Coding, IsHashed}
 use Rattle.papaya_words.specs.Word.{pair_of}
 use Rattle.papaya_call.specs.Compute.{chosen, fills, in_place_of, lacks, offered, provides, recalled, recalls, with_choice, with_pair}
 use Rattle.papaya_call.specs.Machine.{HasClosure, IsComputer, decided, decided_held}

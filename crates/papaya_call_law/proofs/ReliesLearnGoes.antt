@@ -2,24 +2,24 @@
 use Rattle.std.proofs.Common.{◌≡◌, ◌⊎◌, inl, inr, ⊎_elim, ℕ, true, false, cond, None, Some, List, ◌++◌, refl, sym, ap, ◌∙◌, subst}
 use Rattle.papaya_words.specs.Word.{kind_of, pair_of}
 use Rattle.papaya_words.specs.declared.word.Kind.TheVariants as kinds
-use Rattle.papaya_words.specs.declared.probe.ResizeMode.{ResizeMode}
-use Rattle.papaya_words.specs.declared.probe.ResizeMode.TheVariants.{Incremental, Blocking}
-use Rattle.papaya_ask.specs.declared.call.Task.{Task}
-use Rattle.papaya_ask.specs.declared.call.Task.TheVariants.{Get, Insert, RemoveIf, Compute}
+use Rattle.papaya_words.specs.declared.resize_mode.ResizeMode.{ResizeMode}
+use Rattle.papaya_words.specs.declared.resize_mode.ResizeMode.TheVariants.{Incremental, Blocking}
+use Rattle.papaya_call.specs.declared.call.Task.{Task}
+use Rattle.papaya_call.specs.declared.call.Task.TheVariants.{Get, Insert, RemoveIf, Compute}
 use Rattle.papaya_call.specs.declared.compute.Gap.TheVariants.{At, After}
 use Rattle.papaya_call.specs.declared.compute.Remembered.{Remembered}
-use Rattle.papaya_ask.specs.declared.search.Place.{Place}
-use Rattle.papaya_ask.specs.declared.search.Probed.{Probed}
-use Rattle.papaya_ask.specs.declared.search.Probed.TheVariants as seen
-use Rattle.papaya_law.specs.Exchange.{Word, Live, Marked, Copied, Setting, State, Exchange, run, start}
-use Rattle.papaya_law.specs.View.{Foreign, Here, Leaving, Gone, own, held, view}
-use Rattle.papaya_law.specs.Allows.{AllAllowed}
-use Rattle.papaya_law.specs.Code.{Coding, code}
+use Rattle.papaya_call.specs.declared.search.Place.{Place}
+use Rattle.papaya_call.specs.declared.search.ProbeStep.{ProbeStep}
+use Rattle.papaya_call.specs.declared.search.ProbeStep.TheVariants as seen
+use Rattle.papaya_words_law.specs.Exchange.{Word, Live, Marked, Copied, Setting, State, Exchange, run, start}
+use Rattle.papaya_words_law.specs.View.{Foreign, Here, Leaving, Gone, own, held, view}
+use Rattle.papaya_words_law.specs.Allows.{AllAllowed}
+use Rattle.papaya_words_law.specs.Code.{Coding, code}
 use Rattle.papaya_call.specs.Machine.{goes_as, computes, found, occupies, removes, replaces}
 use Rattle.papaya_call_law.specs.Told.{LoadedPairs}
-use Rattle.papaya_law.specs.Code.{IsHashed}
+use Rattle.papaya_words_law.specs.Code.{IsHashed}
 use Rattle.papaya_call_law.specs.Relies.{HadPair, HasMet, IsAt, IsMovingFrom, IsModeOf, MayRemove, ReliesChoice, ReliesFill, ReliesStage, WasAtMoment}
-use Rattle.papaya_law.proofs.Codes.{code_kind, code_pair}
+use Rattle.papaya_words_law.proofs.Codes.{code_kind, code_pair}
 use Rattle.papaya_call_law.proofs.ReliesLearnComputes.{lacks_relies, recalls_relies, replaceable}
 use Rattle.papaya_call_law.proofs.ReliesLearnMoments.{empty_here, over_blocking}
 use Rattle.papaya_call_law.proofs.ReliesLearnPlaces.{ReliesProbed, sees}
@@ -133,7 +133,7 @@ module _ {K P : Type 0} (g : Setting K P) (c : Coding K P) (hashed : IsHashed g 
   module _ (loaded : LoadedPairs P) (held : Remembered) (fill : ReliesFill g c begun since k loaded held.fill)
       (choice : ReliesChoice g c begun since k loaded held.choice) where
     -- what the search saw leads where the machine relies on what holds
-    pub goes_relies : (task : Task) (mode : ResizeMode) → IsModeOf mode g.blocking → (s : Probed) → ReliesProbed g c hashed begun since k loaded s
+    pub goes_relies : (task : Task) (mode : ResizeMode) → IsModeOf mode g.blocking → (s : ProbeStep) → ReliesProbed g c hashed begun since k loaded s
         → ReliesStage g c begun since k loaded task (goes_as task mode held s)
     goes_relies task mode is (seen.On _) r = r
     goes_relies task mode is (seen.Here at word) r = finds at word r.0 r.2 r.3 loaded r.1 held choice task r.4

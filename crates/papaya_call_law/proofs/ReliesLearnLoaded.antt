@@ -1,7 +1,7 @@
 -- What the call has made stays so: with more pairs loaded, and after other exchanges.
 use Rattle.std.proofs.Common.{◌≡◌, inl, inr, ⊎_elim, ℕ, Option, None, Some, List, ◌∷◌, refl, true, subst, sym}
-use Rattle.papaya_ask.specs.declared.ask.OpKind.{OpKind}
-use Rattle.papaya_ask.specs.declared.ask.OpKind.TheVariants as ops
+use Rattle.papaya_call.specs.declared.ask.OpKind.{OpKind}
+use Rattle.papaya_call.specs.declared.ask.OpKind.TheVariants as ops
 use Rattle.papaya_call.specs.declared.compute.Choice.{Choice}
 use Rattle.papaya_call.specs.declared.compute.Choice.TheVariants.{Replace as To_replace, Remove as To_remove}
 use Rattle.papaya_call.specs.declared.compute.Remembered.{Remembered}
@@ -9,9 +9,9 @@ use Rattle.papaya_call.specs.declared.made.Made.{Made}
 use Rattle.papaya_call.specs.declared.made.Number.{Number}
 use Rattle.papaya_call.specs.declared.made.Of.{Of}
 use Rattle.papaya_call.specs.Made.{answered}
-use Rattle.papaya_law.specs.Exchange.{Setting, Exchange}
-use Rattle.papaya_law.specs.Code.{Coding}
-use Rattle.papaya_law.specs.Later.{IsOfKey}
+use Rattle.papaya_words_law.specs.Exchange.{Setting, Exchange}
+use Rattle.papaya_words_law.specs.Code.{Coding}
+use Rattle.papaya_words_law.specs.Later.{IsOfKey}
 use Rattle.papaya_call_law.specs.Told.{IsOneOf, LoadedPairs}
 use Rattle.papaya_call_law.specs.Relies.{now, IsOwnPair, IsPairAt, ReliesChoice, ReliesFill, ReliesLoaded, ReliesNumber, ReliesOf}
 

@@ -3,26 +3,26 @@ use Rattle.std.proofs.Common.{◌≡◌, ◌⊎◌, inl, inr, ⊎_elim, ℕ, Boo
 use Rattle.std.proofs.lemmas.Bool.{cond_both}
 use Rattle.papaya_words.specs.Word.{kind_of, may_hold}
 use Rattle.papaya_words.specs.declared.word.Kind.TheVariants as kinds
-use Rattle.papaya_ask.specs.declared.search.Place.{Place}
-use Rattle.papaya_ask.specs.declared.search.Search.TheVariants.{Comparing, Reading}
-use Rattle.papaya_ask.specs.declared.search.Probed.TheVariants as seen
-use Rattle.papaya_law.specs.Exchange.{Word, Empty, Closed, Live, Marked, Copied, Buried, Setting, State, Exchange, run, start}
-use Rattle.papaya_law.specs.View.{View, Foreign, Here, Leaving, Gone, look, held, beyond, view}
-use Rattle.papaya_law.specs.Allows.{AllAllowed}
-use Rattle.papaya_law.specs.Code.{Coding, code, kind}
-use Rattle.papaya_law.specs.Invariant.{named}
-use Rattle.papaya_law.specs.Later.{Becomes}
-use Rattle.papaya_ask.specs.Search.{go_on, hinted, look_at, look as look_seen, match_at, at_yes}
+use Rattle.papaya_call.specs.declared.search.Place.{Place}
+use Rattle.papaya_call.specs.declared.search.Search.TheVariants.{Comparing, Reading}
+use Rattle.papaya_call.specs.declared.search.ProbeStep.TheVariants as seen
+use Rattle.papaya_words_law.specs.Exchange.{Word, Empty, Closed, Live, Marked, Copied, Buried, Setting, State, Exchange, run, start}
+use Rattle.papaya_words_law.specs.View.{View, Foreign, Here, Leaving, Gone, look, held, beyond, view}
+use Rattle.papaya_words_law.specs.Allows.{AllAllowed}
+use Rattle.papaya_words_law.specs.Code.{Coding, code, kind}
+use Rattle.papaya_words_law.specs.Invariant.{named}
+use Rattle.papaya_words_law.specs.Later.{Becomes}
+use Rattle.papaya_call.specs.Search.{go_on, hinted, look_at, look as look_seen, match_at, at_yes}
 use Rattle.papaya_call_law.specs.Told.{LoadedPairs, or_last}
-use Rattle.papaya_law.specs.Code.{IsHashed}
+use Rattle.papaya_words_law.specs.Code.{IsHashed}
 use Rattle.papaya_call_law.specs.Relies.{HasMet, IsAt}
-use Rattle.papaya_law.proofs.Codes.{code_kind}
-use Rattle.papaya_law.proofs.CodeViews.{other_key, past_buried}
-use Rattle.papaya_law.proofs.Later.{Sees, later_itself, sees_later}
+use Rattle.papaya_words_law.proofs.Codes.{code_kind}
+use Rattle.papaya_words_law.proofs.CodeViews.{other_key, past_buried}
+use Rattle.papaya_words_law.proofs.Later.{Sees, later_itself, sees_later}
 use Rattle.papaya_call_law.proofs.ReliesLearnMoments.{found_here}
 use Rattle.papaya_call_law.proofs.ReliesLearnPlaces.{ReliesProbed, goes_on, sees}
-use Rattle.papaya_law.specs.Hints.{IsHint}
-use Rattle.papaya_law.proofs.Hints.{hint_passes}
+use Rattle.papaya_words_law.specs.Hints.{IsHint}
+use Rattle.papaya_words_law.proofs.Hints.{hint_passes}
 
 -- the machine was told of the pair that a word names
 abbrev pub told_word : {P : Type 0} → Word P → LoadedPairs P → LoadedPairs P

@@ -2,16 +2,16 @@
 use Rattle.std.proofs.Common.{◌≡◌, ◌⊎◌, inl, inr, ⊎_elim, ℕ, ◌<◌, true, false, Option, None, Some}
 use Rattle.std.proofs.Common.{List, [], ◌++◌, append_assoc, append-nil, refl, sym, ap, ◌∙◌, subst}
 use Rattle.std.proofs.lemmas.Bool.{cases_Bool}
-use Rattle.papaya_law.specs.Exchange.{Live, Buried, Setting, State, Exchange, run, start}
-use Rattle.papaya_law.specs.View.{Free, Here, Leaving, look, beyond, IsPassed, IsReached}
-use Rattle.papaya_law.specs.Allows.{AllAllowed}
-use Rattle.papaya_law.specs.Code.{Coding}
-use Rattle.papaya_law.specs.Meaning.{map_left, map_of, IsAtMoment, IsLawful}
+use Rattle.papaya_words_law.specs.Exchange.{Live, Buried, Setting, State, Exchange, run, start}
+use Rattle.papaya_words_law.specs.View.{Free, Here, Leaving, look, beyond, IsPassed, IsReached}
+use Rattle.papaya_words_law.specs.Allows.{AllAllowed}
+use Rattle.papaya_words_law.specs.Code.{Coding}
+use Rattle.papaya_words_law.specs.Meaning.{map_left, map_of, IsAtMoment, IsLawful}
 use Rattle.papaya_call_law.specs.Relies.{HasComeTo, WasAtMoment}
-use Rattle.papaya_law.proofs.Burials.{buried_between}
-use Rattle.papaya_law.proofs.Moments.{run-append, map_of-append, allowed_first, allowed_rest}
-use Rattle.papaya_law.proofs.Onward.{next_reached}
-use Rattle.papaya_law.proofs.OneMap.{means_map, root_is_reached, lasting, reader_found, reader_empty, reader_over}
+use Rattle.papaya_words_law.proofs.Burials.{buried_between}
+use Rattle.papaya_words_law.proofs.Moments.{run-append, map_of-append, allowed_first, allowed_rest}
+use Rattle.papaya_words_law.proofs.Onward.{next_reached}
+use Rattle.papaya_words_law.proofs.OneMap.{means_map, root_is_reached, lasting, reader_found, reader_empty, reader_over}
 
 module _ {K P : Type 0} (g : Setting K P) (c : Coding K P) (law : IsLawful g) (begun since : List (Exchange P))
     (may : AllAllowed g start (begun ++ since)) (k : K) where

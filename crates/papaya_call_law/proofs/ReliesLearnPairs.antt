@@ -4,8 +4,8 @@ use Rattle.std.proofs.Common.{true, false, cond, MatchBool, MatchOption, Option,
 use Rattle.std.proofs.Common.{◌∷◌, ◌++◌, refl, sym, ap, ◌∙◌, subst}
 use Rattle.std.proofs.lemmas.Bool.{cond_both}
 use Rattle.papaya_words.specs.Word.{pair_of}
-use Rattle.papaya_ask.specs.declared.call.Task.{Task}
-use Rattle.papaya_ask.specs.declared.call.Task.TheVariants.{Get, Insert, RemoveIf, Compute}
+use Rattle.papaya_call.specs.declared.call.Task.{Task}
+use Rattle.papaya_call.specs.declared.call.Task.TheVariants.{Get, Insert, RemoveIf, Compute}
 use Rattle.papaya_call.specs.declared.compute.Remembered.{Remembered}
 use Rattle.papaya_call.specs.declared.made.Grown.{Grown}
 use Rattle.papaya_call.specs.declared.made.Made.{Made}
@@ -15,11 +15,11 @@ use Rattle.papaya_call.specs.declared.remove.Removal.{Removal}
 use Rattle.papaya_call.specs.declared.write.Write.{Write}
 use Rattle.papaya_call.specs.Made.{grown, grown_as, of_grown, own_grown, paired, taken, taken_as, told, told_as, told_limit, wanted}
 use Rattle.papaya_call.specs.Write.{made_of, with_pair_at}
-use Rattle.papaya_law.specs.Exchange.{Setting, State, Exchange, run, start}
-use Rattle.papaya_law.specs.Code.{Coding, IsHashed}
-use Rattle.papaya_law.specs.Later.{IsOfKey}
-use Rattle.papaya_law.proofs.Codes.{code_pair}
-use Rattle.papaya_law.proofs.Kept.{becomes_keeps}
+use Rattle.papaya_words_law.specs.Exchange.{Setting, State, Exchange, run, start}
+use Rattle.papaya_words_law.specs.Code.{Coding, IsHashed}
+use Rattle.papaya_words_law.specs.Later.{IsOfKey}
+use Rattle.papaya_words_law.proofs.Codes.{code_pair}
+use Rattle.papaya_words_law.proofs.Kept.{becomes_keeps}
 use Rattle.papaya_call_law.specs.Told.{IsOfLast, LoadedPairs}
 use Rattle.papaya_call_law.specs.Relies.{IsPairAt, MayRemove, MayWrite, ReliesLoaded, ReliesNumber, ReliesWriting}
 use Rattle.papaya_call_law.proofs.ReliesLearnLoaded.{at_newest, loaded_more, loaded_number, loaded_of, loaded_own, own_newest}

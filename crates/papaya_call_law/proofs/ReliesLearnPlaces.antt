@@ -4,16 +4,16 @@ use Rattle.std.proofs.Common.{ltb-false, true, Some, List, ◌++◌, refl, sym, 
 use Rattle.std.proofs.lemmas.Bool.{cases_lt, cond_both}
 use Rattle.papaya_words.specs.Probe.{place}
 use Rattle.papaya_words.proofs.Places.{place-next}
-use Rattle.papaya_ask.specs.declared.search.Place.{Place}
-use Rattle.papaya_ask.specs.declared.search.Search.TheVariants.{Looking}
-use Rattle.papaya_ask.specs.declared.search.Probed.{Probed}
-use Rattle.papaya_ask.specs.declared.search.Probed.TheVariants as seen
-use Rattle.papaya_law.specs.Exchange.{Word, Empty, Live, Marked, Setting, State, Exchange, run, start}
-use Rattle.papaya_law.specs.View.{look, beyond, view, IsPassed}
-use Rattle.papaya_law.specs.Code.{Coding}
-use Rattle.papaya_ask.specs.Search.{first_place, next_place, go_on}
+use Rattle.papaya_call.specs.declared.search.Place.{Place}
+use Rattle.papaya_call.specs.declared.search.Search.TheVariants.{Looking}
+use Rattle.papaya_call.specs.declared.search.ProbeStep.{ProbeStep}
+use Rattle.papaya_call.specs.declared.search.ProbeStep.TheVariants as seen
+use Rattle.papaya_words_law.specs.Exchange.{Word, Empty, Live, Marked, Setting, State, Exchange, run, start}
+use Rattle.papaya_words_law.specs.View.{look, beyond, view, IsPassed}
+use Rattle.papaya_words_law.specs.Code.{Coding}
+use Rattle.papaya_call.specs.Search.{first_place, next_place, go_on}
 use Rattle.papaya_call_law.specs.Told.{LoadedPairs}
-use Rattle.papaya_law.specs.Code.{IsHashed}
+use Rattle.papaya_words_law.specs.Code.{IsHashed}
 use Rattle.papaya_call_law.specs.Relies.{HasComeTo, HasMet, IsAt, ReliesSearch}
 
 module _ {K P : Type 0} (g : Setting K P) (c : Coding K P) (hashed : IsHashed g c) (begun since : List (Exchange P)) (k : K) where
@@ -22,7 +22,7 @@ module _ {K P : Type 0} (g : Setting K P) (c : Coding K P) (hashed : IsHashed g 
   now = run (begun ++ since) start
 
   -- what a search saw: the Empty slot that it came to, or a pair of the key that was not copied
-  abbrev pub ReliesProbed : LoadedPairs P → Probed → Type 0
+  abbrev pub ReliesProbed : LoadedPairs P → ProbeStep → Type 0
   ReliesProbed loaded (seen.On search) = ReliesSearch g c begun since k loaded search
   ReliesProbed loaded (seen.Empty at) = IsAt g c begun since k at × (now.slot at.table at.probe.i ≡ Empty)
   ReliesProbed loaded (seen.Here at word) = (p : P) × (loaded.last ≡ Some p) × (h : HasMet g c begun since k at word p) × (g.same k (g.key p) ≡ true)

@@ -3,24 +3,24 @@ use Rattle.std.proofs.Common.{◌≡◌, inl, ℕ, Bool, true, false, None, Some
 use Rattle.papaya_words.specs.Word.{kind_of}
 use Rattle.papaya_words.specs.declared.word.Kind.{Kind}
 use Rattle.papaya_words.specs.declared.word.Kind.TheVariants as word_kinds
-use Rattle.papaya_ask.specs.declared.ask.StepKind.TheVariants as kinds
-use Rattle.papaya_ask.specs.declared.call.Reply.TheVariants.{Removed}
-use Rattle.papaya_ask.specs.declared.call.Task.{Task}
-use Rattle.papaya_ask.specs.declared.call.Task.TheVariants.{Get, Insert, RemoveIf, Compute}
+use Rattle.papaya_call.specs.declared.ask.StepKind.TheVariants as kinds
+use Rattle.papaya_call.specs.declared.call.Reply.TheVariants.{Removed}
+use Rattle.papaya_call.specs.declared.call.Task.{Task}
+use Rattle.papaya_call.specs.declared.call.Task.TheVariants.{Get, Insert, RemoveIf, Compute}
 use Rattle.papaya_call.specs.declared.remove.Removal.{Removal}
 use Rattle.papaya_call.specs.declared.machine.Machine.{Machine}
 use Rattle.papaya_call.specs.declared.machine.State.TheVariants.{Ended}
-use Rattle.papaya_law.specs.Exchange.{Live, Setting, State, Exchange, run, start}
-use Rattle.papaya_law.specs.Allows.{AllAllowed, Allows}
-use Rattle.papaya_law.specs.Code.{Coding, IsOfKind, code}
-use Rattle.papaya_law.specs.Invariant.{named}
-use Rattle.papaya_law.specs.Later.{Becomes}
+use Rattle.papaya_words_law.specs.Exchange.{Live, Setting, State, Exchange, run, start}
+use Rattle.papaya_words_law.specs.Allows.{AllAllowed, Allows}
+use Rattle.papaya_words_law.specs.Code.{Coding, IsOfKind, code}
+use Rattle.papaya_words_law.specs.Invariant.{named}
+use Rattle.papaya_words_law.specs.Later.{Becomes}
 use Rattle.papaya_call.specs.Machine.{HasClosure, agreed, beaten_as, beaten_by, goes, judged}
-use Rattle.papaya_ask.specs.Search.{look as look_seen}
+use Rattle.papaya_call.specs.Search.{look as look_seen}
 use Rattle.papaya_call_law.specs.Told.{LoadedPairs}
-use Rattle.papaya_law.specs.Code.{IsHashed}
+use Rattle.papaya_words_law.specs.Code.{IsHashed}
 use Rattle.papaya_call_law.specs.Relies.{MayRemove, ReliesStage, WasAtMoment}
-use Rattle.papaya_law.proofs.CodeViews.{word_of_kind}
+use Rattle.papaya_words_law.proofs.CodeViews.{word_of_kind}
 use Rattle.papaya_call_law.proofs.ReliesExchange.{may_bury}
 use Rattle.papaya_call_law.proofs.ReliesLearnGoes.{had_pair}
 use Rattle.papaya_call_law.proofs.ReliesLearnLook.{became_of}

@@ -3,31 +3,31 @@ use Rattle.std.proofs.Common.{◌≡◌, ⊎_elim, ℕ, ◌<◌, ◌==◌, eqb-t
 use Rattle.std.proofs.Common.{MatchBool, Option, Some, List, [], ◌∷◌, ◌++◌, append_assoc, refl, sym}
 use Rattle.std.proofs.Common.{ap, ◌∙◌, subst}
 use Rattle.papaya_words.specs.Word.{pair_of, hint_of}
-use Rattle.papaya_ask.specs.declared.ask.At.TheVariants.{Root, Slot}
-use Rattle.papaya_ask.specs.declared.ask.StepKind.{StepKind}
-use Rattle.papaya_ask.specs.declared.ask.StepKind.TheVariants as kinds
-use Rattle.papaya_ask.specs.declared.call.Reply.TheVariants.{Replaced}
-use Rattle.papaya_ask.specs.declared.call.Task.{Task}
-use Rattle.papaya_ask.specs.declared.call.Task.TheVariants.{Get, Insert, RemoveIf, Compute}
+use Rattle.papaya_call.specs.declared.ask.At.TheVariants.{Root, Slot}
+use Rattle.papaya_call.specs.declared.ask.StepKind.{StepKind}
+use Rattle.papaya_call.specs.declared.ask.StepKind.TheVariants as kinds
+use Rattle.papaya_call.specs.declared.call.Reply.TheVariants.{Replaced}
+use Rattle.papaya_call.specs.declared.call.Task.{Task}
+use Rattle.papaya_call.specs.declared.call.Task.TheVariants.{Get, Insert, RemoveIf, Compute}
 use Rattle.papaya_call.specs.declared.compute.Put.{Put}
 use Rattle.papaya_call.specs.declared.machine.State.TheVariants.{Counting, Ended}
-use Rattle.papaya_ask.specs.declared.search.Place.{Place}
+use Rattle.papaya_call.specs.declared.search.Place.{Place}
 use Rattle.papaya_call.specs.declared.write.Write.{Write}
-use Rattle.papaya_law.specs.Exchange.{Live, Setting, State, Exchange, Open, Claim, after, run, start}
-use Rattle.papaya_law.specs.Allows.{AllAllowed, Allows}
-use Rattle.papaya_law.specs.Code.{Coding, code}
+use Rattle.papaya_words_law.specs.Exchange.{Live, Setting, State, Exchange, Open, Claim, after, run, start}
+use Rattle.papaya_words_law.specs.Allows.{AllAllowed, Allows}
+use Rattle.papaya_words_law.specs.Code.{Coding, code}
 use Rattle.papaya_call.specs.Machine.{IsComputer, written}
 use Rattle.papaya_call_law.specs.Told.{IsAsked, LoadedPairs}
-use Rattle.papaya_law.specs.Code.{IsHashed}
+use Rattle.papaya_words_law.specs.Code.{IsHashed}
 use Rattle.papaya_call_law.specs.Relies.{HasClaimed, HasComeTo, IsOwnPair, IsPairAt, IsPairFor, MayWrite, ReliesStage, ReliesWriting}
 use Rattle.papaya_call.specs.Write.{claimed_by, write_kind}
-use Rattle.papaya_law.proofs.Hints.{hint_fills}
-use Rattle.papaya_law.proofs.Moments.{run-append, allowed_append}
-use Rattle.papaya_law.proofs.Slots.{put_there}
+use Rattle.papaya_words_law.proofs.Hints.{hint_fills}
+use Rattle.papaya_words_law.proofs.Moments.{run-append, allowed_append}
+use Rattle.papaya_words_law.proofs.Slots.{put_there}
 use Rattle.papaya_call_law.proofs.ReliesStable.{at_stable}
 use Rattle.papaya_call_law.proofs.ReliesExchange.{live_same, may_claim, may_replace}
 use Rattle.papaya_call_law.proofs.ReliesLearnMoments.{root_come}
-use Rattle.papaya_law.specs.Hints.{IsHint}
+use Rattle.papaya_words_law.specs.Hints.{IsHint}
 
 module _ {K P : Type 0} (g : Setting K P) (c : Coding K P) (hashed : IsHashed g c) (begun since : List (Exchange P))
     (may : AllAllowed g start (begun ++ since)) (k : K) where

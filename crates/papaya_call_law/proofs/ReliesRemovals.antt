@@ -1,14 +1,14 @@
 -- While no table has a next one, a removal is never refused: it makes nothing, and it needs no next table.
 use Rattle.std.proofs.Common.{◌≡◌, ⊎_elim, ℕ, ◌<◌, List, ◌++◌, subst, arith}
-use Rattle.papaya_words.specs.declared.probe.Refused.{Refused}
-use Rattle.papaya_words.specs.declared.probe.Refused.TheVariants.{Capacity, Limit, RemoveNothing}
-use Rattle.papaya_ask.specs.declared.ask.Answer.{Answer}
-use Rattle.papaya_ask.specs.declared.ask.Answer.TheVariants.{Op}
-use Rattle.papaya_ask.specs.declared.ask.Ask.TheVariants.{Done as Ask_done}
-use Rattle.papaya_ask.specs.declared.ask.OpKind.TheVariants as ops
-use Rattle.papaya_ask.specs.declared.call.Reply.{Reply}
-use Rattle.papaya_ask.specs.declared.call.Reply.TheVariants.{Refused as Reply_refused}
-use Rattle.papaya_ask.specs.declared.call.Task.TheVariants.{RemoveIf}
+use Rattle.papaya_words.specs.declared.refused.Refused.{Refused}
+use Rattle.papaya_words.specs.declared.refused.Refused.TheVariants.{Capacity, Limit, RemoveNothing}
+use Rattle.papaya_call.specs.declared.ask.Answer.{Answer}
+use Rattle.papaya_call.specs.declared.ask.Answer.TheVariants.{Op}
+use Rattle.papaya_call.specs.declared.ask.Ask.TheVariants.{Done as Ask_done}
+use Rattle.papaya_call.specs.declared.ask.OpKind.TheVariants as ops
+use Rattle.papaya_call.specs.declared.call.Reply.{Reply}
+use Rattle.papaya_call.specs.declared.call.Reply.TheVariants.{Refused as Reply_refused}
+use Rattle.papaya_call.specs.declared.call.Task.TheVariants.{RemoveIf}
 use Rattle.papaya_call.specs.declared.compute.Gap.{Gap}
 use Rattle.papaya_call.specs.declared.machine.Machine.{Machine}
 use Rattle.papaya_call.specs.declared.machine.State.{State as Stage}
@@ -17,16 +17,16 @@ use Rattle.papaya_call.specs.declared.machine.State.TheVariants.{Writing, Offeri
 use Rattle.papaya_call.specs.declared.machine.State.TheVariants.{Pairing, Putting, Burying}
 use Rattle.papaya_call.specs.declared.machine.State.TheVariants.{Counting, Noting, Uncounting}
 use Rattle.papaya_call.specs.declared.machine.State.TheVariants.{Leaving, Growing, Ended}
-use Rattle.papaya_law.specs.Exchange.{Setting, State, Exchange, run, start}
-use Rattle.papaya_law.specs.Allows.{AllAllowed}
-use Rattle.papaya_law.specs.Code.{Coding}
-use Rattle.papaya_law.specs.Invariant.{IsKeeping}
-use Rattle.papaya_law.specs.Meaning.{IsLawful, map_left}
+use Rattle.papaya_words_law.specs.Exchange.{Setting, State, Exchange, run, start}
+use Rattle.papaya_words_law.specs.Allows.{AllAllowed}
+use Rattle.papaya_words_law.specs.Code.{Coding}
+use Rattle.papaya_words_law.specs.Invariant.{IsKeeping}
+use Rattle.papaya_words_law.specs.Meaning.{IsLawful, map_left}
 use Rattle.papaya_call.specs.Machine.{after, ask_of}
 use Rattle.papaya_call_law.specs.Relies.{IsMovingFrom, Relies, ReliesStage}
 use Rattle.papaya_call_law.specs.Told.{LoadedPairs}
-use Rattle.papaya_law.proofs.OneMap.{keeping}
-use Rattle.papaya_law.proofs.Onward.{leaving_further, gone_further}
+use Rattle.papaya_words_law.proofs.OneMap.{keeping}
+use Rattle.papaya_words_law.proofs.Onward.{leaving_further, gone_further}
 use Rattle.papaya_call_law.proofs.ReliesReplyRefused.{IsMaking, IsOver, machine_reason}
 use Rattle.papaya_call.specs.declared.need.Need.{Need}
 use Rattle.papaya_call.specs.declared.need.Need.TheVariants.{Room, Pair as Pair_at}

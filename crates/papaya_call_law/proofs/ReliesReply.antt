@@ -1,24 +1,24 @@
 -- What a call has changed after each answer.
 use Rattle.std.proofs.Common.{◌≡◌, inl, inr, ⊎_elim, ℕ, ◌+◌, ◌==◌, Bool, true, false, cond, Option, None, Some, List, [], ◌∷◌, refl, sym, ap, ◌∙◌, subst}
 use Rattle.papaya_words.specs.Word.{pair_of, live_word}
-use Rattle.papaya_words.specs.declared.probe.Refused.{Refused}
-use Rattle.papaya_words.specs.declared.probe.ResizeMode.{ResizeMode}
-use Rattle.papaya_ask.specs.declared.ask.Answer.{Answer}
-use Rattle.papaya_ask.specs.declared.ask.Answer.TheVariants.{Exchanged, Found as Found_instead, Yes, Op, Ok as Ok_done, Refused as Was_refused}
-use Rattle.papaya_ask.specs.declared.ask.At.TheVariants.{Root, Slot, Made as Made_word}
-use Rattle.papaya_ask.specs.declared.ask.OpKind.{OpKind}
-use Rattle.papaya_ask.specs.declared.ask.OpKind.TheVariants as ops
-use Rattle.papaya_ask.specs.declared.ask.StepKind.TheVariants as kinds
-use Rattle.papaya_ask.specs.declared.call.Reply.{Reply}
-use Rattle.papaya_ask.specs.declared.call.Reply.TheVariants.{Replaced}
-use Rattle.papaya_ask.specs.declared.call.Task.{Task}
-use Rattle.papaya_ask.specs.declared.call.Task.TheVariants.{Get, Insert, RemoveIf, Compute}
+use Rattle.papaya_words.specs.declared.refused.Refused.{Refused}
+use Rattle.papaya_words.specs.declared.resize_mode.ResizeMode.{ResizeMode}
+use Rattle.papaya_call.specs.declared.ask.Answer.{Answer}
+use Rattle.papaya_call.specs.declared.ask.Answer.TheVariants.{Exchanged, Found as Found_instead, Yes, Op, Ok as Ok_done, Refused as Was_refused}
+use Rattle.papaya_call.specs.declared.ask.At.TheVariants.{Root, Slot, Made as Made_word}
+use Rattle.papaya_call.specs.declared.ask.OpKind.{OpKind}
+use Rattle.papaya_call.specs.declared.ask.OpKind.TheVariants as ops
+use Rattle.papaya_call.specs.declared.ask.StepKind.TheVariants as kinds
+use Rattle.papaya_call.specs.declared.call.Reply.{Reply}
+use Rattle.papaya_call.specs.declared.call.Reply.TheVariants.{Replaced}
+use Rattle.papaya_call.specs.declared.call.Task.{Task}
+use Rattle.papaya_call.specs.declared.call.Task.TheVariants.{Get, Insert, RemoveIf, Compute}
 use Rattle.papaya_call.specs.declared.compute.Gap.{Gap}
 use Rattle.papaya_call.specs.declared.compute.Remembered.{Remembered}
 use Rattle.papaya_call.specs.declared.remove.Removal.{Removal}
-use Rattle.papaya_ask.specs.declared.search.Place.{Place}
-use Rattle.papaya_ask.specs.declared.search.Search.TheVariants.{Sizing, Looking, Reading, Comparing}
-use Rattle.papaya_ask.specs.declared.search.Probed.{Probed}
+use Rattle.papaya_call.specs.declared.search.Place.{Place}
+use Rattle.papaya_call.specs.declared.search.Search.TheVariants.{Sizing, Looking, Reading, Comparing}
+use Rattle.papaya_call.specs.declared.search.ProbeStep.{ProbeStep}
 use Rattle.papaya_call.specs.declared.made.Made.{Made}
 use Rattle.papaya_call_law.proofs.Makings.{IsPairAsk, IsWriteAsk, pairing_asks, pairing_leads, unserved_leads, write_asks, write_then, write_then_is}
 use Rattle.papaya_call.specs.declared.write.Write.{Write}
@@ -29,23 +29,23 @@ use Rattle.papaya_call.specs.declared.machine.State.TheVariants.{Writing, Offeri
 use Rattle.papaya_call.specs.declared.machine.State.TheVariants.{Pairing, Putting, Burying}
 use Rattle.papaya_call.specs.declared.machine.State.TheVariants.{Counting, Noting, Uncounting}
 use Rattle.papaya_call.specs.declared.machine.State.TheVariants.{Leaving, Growing, Ended}
-use Rattle.papaya_law.specs.Exchange.{Setting, State, Exchange}
-use Rattle.papaya_law.specs.Code.{Coding, code}
+use Rattle.papaya_words_law.specs.Exchange.{Setting, State, Exchange}
+use Rattle.papaya_words_law.specs.Code.{Coding, code}
 use Rattle.papaya_call.specs.declared.made.Number.{Number}
 use Rattle.papaya_call.specs.declared.made.Number.TheVariants.{Wanted, Free, Taken}
 use Rattle.papaya_call.specs.Made.{number_ask, number_kind, of_ask, own_ask}
 use Rattle.papaya_call.specs.Compute.{in_place_of, offered}
 use Rattle.papaya_call.specs.Machine.{after, ask_of, asks, decided, goes_as, judged, kind_asked, kind_of_ask, served_kind}
-use Rattle.papaya_ask.specs.Search.{hinted, look as look_seen, at_yes as search_compared}
+use Rattle.papaya_call.specs.Search.{hinted, look as look_seen, at_yes as search_compared}
 use Rattle.papaya_call_law.specs.Told.{IsAsked, IsSaying, IsTold, IsUnmade, LoadedPairs, told_of}
-use Rattle.papaya_law.specs.Code.{IsHashed}
+use Rattle.papaya_words_law.specs.Code.{IsHashed}
 use Rattle.papaya_call.specs.Remove.{grave_word}
 use Rattle.papaya_call_law.specs.Relies.{IsReply, Relies, ReliesStage, change_in, change_after, change_of_kind, change_of_reply}
 use Rattle.papaya_call_law.proofs.Leads.{HoldsOfLeads, beaten_leads, goes_leads, left_leads, provides_leads, root_leads}
 use Rattle.papaya_call_law.proofs.NewWords.{pair_of-live_word}
 use Rattle.papaya_call_law.proofs.ReliesLearn.{by_test}
 use Rattle.papaya_call.specs.Write.{claimed_by, served_ask, serves}
-use Rattle.papaya_ask.specs.declared.ask.Ask.TheVariants.{Exchange as Ask_exchange, Done as Ask_done}
+use Rattle.papaya_call.specs.declared.ask.Ask.TheVariants.{Exchange as Ask_exchange, Done as Ask_done}
 use Rattle.std.proofs.lemmas.Bool.{cond_both}
 
 -- nothing is changed yet
@@ -71,7 +71,7 @@ leads_unchanged = record {
 }
 
 -- nor where what a search saw does
-goes_unchanged : (task : Task) (mode : ResizeMode) (held : Remembered) (s : Probed) → change_in (goes_as task mode held s) ≡ None
+goes_unchanged : (task : Task) (mode : ResizeMode) (held : Remembered) (s : ProbeStep) → change_in (goes_as task mode held s) ≡ None
 goes_unchanged task mode held s = goes_leads IsUnchanged leads_unchanged task mode held s
 
 -- nor where the closure of a removal answered

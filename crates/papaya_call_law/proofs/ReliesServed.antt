@@ -1,15 +1,15 @@
 -- A pair that an insertion made and that serves at a place was made for it: of the call's own key where the place is empty, and else of the key that is there.
 use Rattle.std.proofs.Common.{◌≡◌, ℕ, ◌==◌, eqb-true, Bool, true, false, cond, MatchBool, Option, None, Some, List, refl, subst}
 use Rattle.std.proofs.lemmas.Bool.{and_parts}
-use Rattle.papaya_ask.specs.declared.search.Place.{Place}
+use Rattle.papaya_call.specs.declared.search.Place.{Place}
 use Rattle.papaya_call.specs.declared.compute.Remembered.{Remembered}
 use Rattle.papaya_call.specs.declared.made.Made.{Made}
 use Rattle.papaya_call.specs.declared.made.Of.{Of}
 use Rattle.papaya_call.specs.declared.write.Write.{Write}
 use Rattle.papaya_call.specs.Made.{serves_at}
 use Rattle.papaya_call.specs.Write.{served_of, serves}
-use Rattle.papaya_law.specs.Exchange.{Setting, Exchange}
-use Rattle.papaya_law.specs.Code.{Coding}
+use Rattle.papaya_words_law.specs.Exchange.{Setting, Exchange}
+use Rattle.papaya_words_law.specs.Code.{Coding}
 use Rattle.papaya_call_law.specs.Told.{LoadedPairs}
 use Rattle.papaya_call_law.specs.Relies.{IsMadePair, IsOwnPair, IsPairAt, IsPairFor, ReliesFill, ReliesLoaded, ReliesOf}
 

@@ -1,25 +1,25 @@
 -- What a machine relies on stays so, whatever others exchange.
 use Rattle.std.proofs.Common.{◌≡◌, inl, inr, ⊎_elim, ℕ, Option, Some, List, ◌++◌, append_assoc, refl, sym, ap, ◌∙◌, subst}
-use Rattle.papaya_ask.specs.declared.call.Task.{Task}
-use Rattle.papaya_ask.specs.declared.call.Task.TheVariants.{Get, Insert, RemoveIf, Compute}
-use Rattle.papaya_ask.specs.declared.search.Place.{Place}
+use Rattle.papaya_call.specs.declared.call.Task.{Task}
+use Rattle.papaya_call.specs.declared.call.Task.TheVariants.{Get, Insert, RemoveIf, Compute}
+use Rattle.papaya_call.specs.declared.search.Place.{Place}
 use Rattle.papaya_call.specs.declared.machine.Machine.{Machine}
-use Rattle.papaya_law.specs.Exchange.{Setting, Exchange, run, start}
-use Rattle.papaya_law.specs.View.{look}
-use Rattle.papaya_law.specs.Allows.{AllAllowed}
-use Rattle.papaya_law.specs.Later.{IsLater, IsLasting}
-use Rattle.papaya_law.specs.Code.{Coding}
+use Rattle.papaya_words_law.specs.Exchange.{Setting, Exchange, run, start}
+use Rattle.papaya_words_law.specs.View.{look}
+use Rattle.papaya_words_law.specs.Allows.{AllAllowed}
+use Rattle.papaya_words_law.specs.Later.{IsLater, IsLasting}
+use Rattle.papaya_words_law.specs.Code.{Coding}
 use Rattle.papaya_call_law.specs.Told.{LoadedPairs}
-use Rattle.papaya_law.specs.Code.{IsHashed}
+use Rattle.papaya_words_law.specs.Code.{IsHashed}
 use Rattle.papaya_call_law.specs.Relies.{now, HasComeTo, IsAt, HasMet, WasAtMoment, IsMovingFrom, ReliesNeed, ReliesLeaving, Relies, HasClaimed}
-use Rattle.papaya_law.proofs.Later.{Sees, becomes_through, sees_later}
-use Rattle.papaya_law.proofs.Kept.{key_stable}
-use Rattle.papaya_law.proofs.OneMap.{lasting, later}
+use Rattle.papaya_words_law.proofs.Later.{Sees, becomes_through, sees_later}
+use Rattle.papaya_words_law.proofs.Kept.{key_stable}
+use Rattle.papaya_words_law.proofs.OneMap.{lasting, later}
 use Rattle.papaya_call_law.proofs.ReliesCarried.{relies_carried}
 use Rattle.papaya_call.specs.declared.need.Need.{Need}
 use Rattle.papaya_call.specs.declared.need.Need.TheVariants.{Room, Pair as Pair_at}
 use Rattle.papaya_words.specs.Word.{hint_of}
-use Rattle.papaya_law.proofs.Hints.{hint_lasts}
+use Rattle.papaya_words_law.proofs.Hints.{hint_lasts}
 use Rattle.papaya_call.specs.declared.write.Claimed.{Claimed}
 
 module _ {K P : Type 0} (g : Setting K P) (c : Coding K P) (h : IsHashed g c) (begun since es : List (Exchange P))

@@ -1,30 +1,30 @@
 -- What a machine relies on stays so, whatever tables come later.
 use Rattle.std.proofs.Common.{◌≡◌, ◌⊎◌, inl, inr, ⊎_elim, ℕ, ◌<◌, Option, None, Some, List, ◌++◌, refl, sym, ap, ◌∙◌, subst}
 use Rattle.papaya_words.specs.Word.{hint_of}
-use Rattle.papaya_ask.specs.declared.call.Task.{Task}
-use Rattle.papaya_ask.specs.declared.call.Task.TheVariants.{Get, Insert, RemoveIf, Compute}
-use Rattle.papaya_ask.specs.declared.search.Place.{Place}
+use Rattle.papaya_call.specs.declared.call.Task.{Task}
+use Rattle.papaya_call.specs.declared.call.Task.TheVariants.{Get, Insert, RemoveIf, Compute}
+use Rattle.papaya_call.specs.declared.search.Place.{Place}
 use Rattle.papaya_call.specs.declared.machine.Machine.{Machine}
-use Rattle.papaya_law.specs.Exchange.{Word, Empty, Closed, Live, Marked, Copied, Buried, Setting, Exchange, start}
-use Rattle.papaya_law.specs.View.{Leaving as View_leaving, Gone, held, beyond, look, IsPassed}
-use Rattle.papaya_law.specs.Class.{IsOn}
-use Rattle.papaya_law.specs.Allows.{AllAllowed}
-use Rattle.papaya_law.specs.Meaning.{map_left, map_of}
-use Rattle.papaya_law.specs.Invariant.{IsSound}
-use Rattle.papaya_law.specs.Code.{Coding, code}
-use Rattle.papaya_law.specs.Later.{IsOfKey}
-use Rattle.papaya_law.specs.Grows.{Agrees}
+use Rattle.papaya_words_law.specs.Exchange.{Word, Empty, Closed, Live, Marked, Copied, Buried, Setting, Exchange, start}
+use Rattle.papaya_words_law.specs.View.{Leaving as View_leaving, Gone, held, beyond, look, IsPassed}
+use Rattle.papaya_words_law.specs.Class.{IsOn}
+use Rattle.papaya_words_law.specs.Allows.{AllAllowed}
+use Rattle.papaya_words_law.specs.Meaning.{map_left, map_of}
+use Rattle.papaya_words_law.specs.Invariant.{IsSound}
+use Rattle.papaya_words_law.specs.Code.{Coding, code}
+use Rattle.papaya_words_law.specs.Later.{IsOfKey}
+use Rattle.papaya_words_law.specs.Grows.{Agrees}
 use Rattle.papaya_call_law.specs.Told.{LoadedPairs}
-use Rattle.papaya_law.specs.Code.{IsHashed}
+use Rattle.papaya_words_law.specs.Code.{IsHashed}
 use Rattle.papaya_call_law.specs.Relies.{now, HasComeTo, IsAt, HasMet, WasAtMoment, IsMovingFrom, ReliesNeed, ReliesLeaving, Relies, HasClaimed}
-use Rattle.papaya_law.proofs.Carries.{look_agrees, view_agrees, passed_carries}
-use Rattle.papaya_law.proofs.Grows.{becomes_carries, map_of_carries, reached_carries}
-use Rattle.papaya_law.proofs.OneMap.{sound}
+use Rattle.papaya_words_law.proofs.Carries.{look_agrees, view_agrees, passed_carries}
+use Rattle.papaya_words_law.proofs.Grows.{becomes_carries, map_of_carries, reached_carries}
+use Rattle.papaya_words_law.proofs.OneMap.{sound}
 use Rattle.papaya_call_law.proofs.ReliesCarried.{relies_carried}
 use Rattle.papaya_call_law.proofs.ReliesNames.{OnChain, come_on}
 use Rattle.papaya_call.specs.declared.need.Need.{Need}
 use Rattle.papaya_call.specs.declared.need.Need.TheVariants.{Room, Pair as Pair_at}
-use Rattle.papaya_law.proofs.Hints.{hint_agrees}
+use Rattle.papaya_words_law.proofs.Hints.{hint_agrees}
 use Rattle.papaya_call.specs.declared.write.Claimed.{Claimed}
 
 module _ {K P : Type 0} (g g' : Setting K P) (c : Coding K P) (h : IsHashed g c) (begun since : List (Exchange P))

@@ -1,18 +1,18 @@
 -- What an answer overwrites of what a compute stands on, and what its exchanges stand on.
 use Rattle.std.proofs.Common.{◌≡◌, ◌⊎◌, inl, inr, ⊎_elim, ℕ, ◌<◌, ◌^◌, ◌==◌, Bool, true, false, cond, Option, None, Some, refl, sym, ap, ◌∙◌, subst}
 use Rattle.papaya_words.specs.Word.{pair_of, live_word}
-use Rattle.papaya_ask.specs.declared.ask.At.TheVariants.{Slot}
-use Rattle.papaya_ask.specs.declared.ask.Ask.TheVariants.{Exchange, ShowPair}
-use Rattle.papaya_ask.specs.declared.ask.Answer.TheVariants.{Op}
-use Rattle.papaya_ask.specs.declared.ask.OpKind.TheVariants as ops
-use Rattle.papaya_ask.specs.declared.ask.StepKind.TheVariants as kinds
-use Rattle.papaya_ask.specs.declared.call.Reply.{Reply}
-use Rattle.papaya_ask.specs.declared.call.Reply.TheVariants.{Absent, Found, Inserted, Replaced}
-use Rattle.papaya_ask.specs.declared.call.Reply.TheVariants.{Occupied, Removed, Kept, Aborted}
-use Rattle.papaya_ask.specs.declared.call.Reply.TheVariants.{Done as Reply_done}
-use Rattle.papaya_ask.specs.declared.call.Reply.TheVariants.{Refused as Reply_refused}
-use Rattle.papaya_ask.specs.declared.call.Task.{Task}
-use Rattle.papaya_ask.specs.declared.call.Task.TheVariants.{Compute}
+use Rattle.papaya_call.specs.declared.ask.At.TheVariants.{Slot}
+use Rattle.papaya_call.specs.declared.ask.Ask.TheVariants.{Exchange, ShowPair}
+use Rattle.papaya_call.specs.declared.ask.Answer.TheVariants.{Op}
+use Rattle.papaya_call.specs.declared.ask.OpKind.TheVariants as ops
+use Rattle.papaya_call.specs.declared.ask.StepKind.TheVariants as kinds
+use Rattle.papaya_call.specs.declared.call.Reply.{Reply}
+use Rattle.papaya_call.specs.declared.call.Reply.TheVariants.{Absent, Found, Inserted, Replaced}
+use Rattle.papaya_call.specs.declared.call.Reply.TheVariants.{Occupied, Removed, Kept, Aborted}
+use Rattle.papaya_call.specs.declared.call.Reply.TheVariants.{Done as Reply_done}
+use Rattle.papaya_call.specs.declared.call.Reply.TheVariants.{Refused as Reply_refused}
+use Rattle.papaya_call.specs.declared.call.Task.{Task}
+use Rattle.papaya_call.specs.declared.call.Task.TheVariants.{Compute}
 use Rattle.papaya_call.specs.declared.compute.Choice.{Choice}
 use Rattle.papaya_call.specs.declared.compute.Choice.TheVariants.{Replace as To_replace, Remove as To_remove}
 use Rattle.papaya_call.specs.declared.compute.Gap.{Gap}
@@ -22,7 +22,7 @@ use Rattle.papaya_call.specs.declared.compute.Purpose.TheVariants.{Fill, Replace
 use Rattle.papaya_call.specs.declared.compute.Remembered.{Remembered}
 use Rattle.papaya_call.specs.declared.compute.Put.{Put}
 use Rattle.papaya_call.specs.declared.remove.Removal.{Removal}
-use Rattle.papaya_ask.specs.declared.search.Search.TheVariants.{Sizing, Looking, Reading, Comparing}
+use Rattle.papaya_call.specs.declared.search.Search.TheVariants.{Sizing, Looking, Reading, Comparing}
 use Rattle.papaya_call.specs.declared.made.Made.{Made}
 use Rattle.papaya_call_law.proofs.Makings.{IsPairAsk, IsWriteAsk, pair_made, pairing_asks, write_asks}
 use Rattle.papaya_call.specs.declared.write.Write.{Write}

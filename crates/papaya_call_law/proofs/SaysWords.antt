@@ -2,19 +2,19 @@
 use Rattle.std.proofs.Common.{◌≡◌, ⊎_elim, ℕ, ◌<◌, ◌≤◌, ◌==◌, eqb-true, true, false, Option, None, Some, refl, ap, subst, arith}
 use Rattle.std.proofs.lemmas.Bool.{cond_both, cases_lt}
 use Rattle.papaya_words.specs.Word.{kind_of, pair_of}
-use Rattle.papaya_words.specs.declared.probe.ResizeMode.{ResizeMode}
-use Rattle.papaya_words.specs.declared.probe.ResizeMode.TheVariants.{Incremental, Blocking}
+use Rattle.papaya_words.specs.declared.resize_mode.ResizeMode.{ResizeMode}
+use Rattle.papaya_words.specs.declared.resize_mode.ResizeMode.TheVariants.{Incremental, Blocking}
 use Rattle.papaya_words.specs.declared.word.Kind.{Kind}
 use Rattle.papaya_words.specs.declared.word.Kind.TheVariants as word_kinds
-use Rattle.papaya_ask.specs.declared.ask.Answer.{Answer}
-use Rattle.papaya_ask.specs.declared.ask.Answer.TheVariants.{Word as Word_read, Exchanged}
-use Rattle.papaya_ask.specs.declared.ask.Answer.TheVariants.{Found as Found_instead, Yes, Op}
-use Rattle.papaya_ask.specs.declared.ask.Answer.TheVariants.{Made as Made_number}
-use Rattle.papaya_ask.specs.declared.ask.Answer.TheVariants.{Refused as Was_refused}
-use Rattle.papaya_ask.specs.declared.ask.OpKind.TheVariants as ops
-use Rattle.papaya_ask.specs.declared.call.Reply.TheVariants.{Absent, Replaced}
-use Rattle.papaya_ask.specs.declared.call.Task.{Task}
-use Rattle.papaya_ask.specs.declared.call.Task.TheVariants.{Get, Insert, RemoveIf, Compute}
+use Rattle.papaya_call.specs.declared.ask.Answer.{Answer}
+use Rattle.papaya_call.specs.declared.ask.Answer.TheVariants.{Word as Word_read, Exchanged}
+use Rattle.papaya_call.specs.declared.ask.Answer.TheVariants.{Found as Found_instead, Yes, Op}
+use Rattle.papaya_call.specs.declared.ask.Answer.TheVariants.{Made as Made_number}
+use Rattle.papaya_call.specs.declared.ask.Answer.TheVariants.{Refused as Was_refused}
+use Rattle.papaya_call.specs.declared.ask.OpKind.TheVariants as ops
+use Rattle.papaya_call.specs.declared.call.Reply.TheVariants.{Absent, Replaced}
+use Rattle.papaya_call.specs.declared.call.Task.{Task}
+use Rattle.papaya_call.specs.declared.call.Task.TheVariants.{Get, Insert, RemoveIf, Compute}
 use Rattle.papaya_call.specs.declared.compute.Choice.{Choice}
 use Rattle.papaya_call.specs.declared.compute.Choice.TheVariants.{Replace as To_replace, Remove as To_remove}
 use Rattle.papaya_call.specs.declared.compute.Gap.{Gap}
@@ -23,10 +23,10 @@ use Rattle.papaya_call.specs.declared.compute.Purpose.{Purpose}
 use Rattle.papaya_call.specs.declared.compute.Purpose.TheVariants.{Fill, Replace, Again}
 use Rattle.papaya_call.specs.declared.compute.Remembered.{Remembered}
 use Rattle.papaya_call.specs.declared.remove.Removal.{Removal}
-use Rattle.papaya_ask.specs.declared.search.Place.{Place}
-use Rattle.papaya_ask.specs.declared.search.Search.TheVariants.{Sizing}
-use Rattle.papaya_ask.specs.declared.search.Probed.{Probed}
-use Rattle.papaya_ask.specs.declared.search.Probed.TheVariants as seen
+use Rattle.papaya_call.specs.declared.search.Place.{Place}
+use Rattle.papaya_call.specs.declared.search.Search.TheVariants.{Sizing}
+use Rattle.papaya_call.specs.declared.search.ProbeStep.{ProbeStep}
+use Rattle.papaya_call.specs.declared.search.ProbeStep.TheVariants as seen
 use Rattle.papaya_call.specs.declared.made.Made.{Made}
 use Rattle.papaya_call_law.proofs.Makings.{exchanged_leads, lost_leads, numbered_leads, refuses_leads, told_leads}
 use Rattle.papaya_call.specs.declared.write.Write.{Write}
@@ -42,7 +42,7 @@ use Rattle.papaya_call.specs.declared.made.Grown.{Grown}
 use Rattle.papaya_call.specs.declared.made.Grown.TheVariants.{On, Pair}
 use Rattle.papaya_call.specs.Made.{grown, serves_at, told}
 use Rattle.papaya_call.specs.Machine.{absent, after, at_root, beaten_as, beaten_by, computes, goes_as, left, paired, paired_held, removes, replaces, written}
-use Rattle.papaya_ask.specs.Search.{look as look_seen, at_word as search_loaded, at_yes as search_compared}
+use Rattle.papaya_call.specs.Search.{look as look_seen, at_word as search_loaded, at_yes as search_compared}
 use Rattle.papaya_call_law.specs.Says.{ShowsIn, ShowsPairs}
 use Rattle.papaya_call_law.proofs.Leads.{occupies_leads}
 use Rattle.papaya_call.specs.Write.{claimed_by, serves}
@@ -113,7 +113,7 @@ replaces_shows choice word_kinds.Buried at word = tt
 replaces_shows choice word_kinds.Closed at word = tt
 
 -- what a search leads to
-goes_shows : (task : Task) (mode : ResizeMode) (held : Remembered) (s : Probed) → ShowsIn held.choice (goes_as task mode held s)
+goes_shows : (task : Task) (mode : ResizeMode) (held : Remembered) (s : ProbeStep) → ShowsIn held.choice (goes_as task mode held s)
 goes_shows task mode held (seen.On way) = tt
 goes_shows Get mode held (seen.Here at word) = tt
 goes_shows (Insert false) mode held (seen.Here at word) = occupies_leads (ShowsIn held.choice) (kind_of word) at word tt tt

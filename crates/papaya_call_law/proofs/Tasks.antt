@@ -1,10 +1,10 @@
 -- A machine keeps its task and its hash.
 use Rattle.std.proofs.Common.{◌≡◌, refl}
-use Rattle.papaya_ask.specs.declared.ask.Answer.{Answer}
-use Rattle.papaya_ask.specs.declared.ask.Answer.TheVariants.{Word as Word_read, Exchanged}
-use Rattle.papaya_ask.specs.declared.ask.Answer.TheVariants.{Found as Found_instead, Yes, Op, Size}
-use Rattle.papaya_ask.specs.declared.ask.Answer.TheVariants.{Made as Made_number, Ok as Ok_done}
-use Rattle.papaya_ask.specs.declared.ask.Answer.TheVariants.{Refused as Was_refused}
+use Rattle.papaya_call.specs.declared.ask.Answer.{Answer}
+use Rattle.papaya_call.specs.declared.ask.Answer.TheVariants.{Word as Word_read, Exchanged}
+use Rattle.papaya_call.specs.declared.ask.Answer.TheVariants.{Found as Found_instead, Yes, Op, Size}
+use Rattle.papaya_call.specs.declared.ask.Answer.TheVariants.{Made as Made_number, Ok as Ok_done}
+use Rattle.papaya_call.specs.declared.ask.Answer.TheVariants.{Refused as Was_refused}
 use Rattle.papaya_call.specs.declared.machine.Machine.{Machine}
 use Rattle.papaya_call.specs.Machine.{after}
 

@@ -3,50 +3,50 @@ use Rattle.std.specs.Prelude.{◌≡◌, ◌⊎◌, ℕ, ◌+◌, ◌*◌, ◌<�
 use Rattle.papaya_words.specs.Chunks.{chunk_of}
 use Rattle.papaya_words.specs.Word.{hint_of, kind_of, pair_of}
 use Rattle.papaya_words.specs.declared.word.Kind.TheVariants as word_kinds
-use Rattle.papaya_ask.specs.declared.ask.At.{At}
-use Rattle.papaya_ask.specs.declared.ask.At.TheVariants.{Root, Next, Aborted, Done, Slot as Slot_word, Made}
-use Rattle.papaya_ask.specs.declared.ask.StepKind.{StepKind}
-use Rattle.papaya_ask.specs.declared.ask.StepKind.TheVariants as kinds
-use Rattle.papaya_copy.specs.declared.carry.Carried.{Carried}
-use Rattle.papaya_copy.specs.declared.carry.Carried.TheVariants as carried
-use Rattle.papaya_copy.specs.declared.carry.Carry.{Carry}
-use Rattle.papaya_copy.specs.declared.carry.Carry.TheVariants as carries
-use Rattle.papaya_ask.specs.declared.copy_ask.CopyAsk.{CopyAsk}
-use Rattle.papaya_ask.specs.declared.copy_ask.CopyAsk.TheVariants as asks
-use Rattle.papaya_copy.specs.declared.copying.Aim.{Aim}
-use Rattle.papaya_copy.specs.declared.copying.Aim.TheVariants as aims
-use Rattle.papaya_copy.specs.declared.copying.Copied.{Copied as Copied_end}
-use Rattle.papaya_copy.specs.declared.copying.Copied.TheVariants as copied
-use Rattle.papaya_copy.specs.declared.copying.Copying.{Copying}
-use Rattle.papaya_copy.specs.declared.copying.Copying.TheVariants as copyings
-use Rattle.papaya_copy.specs.declared.link.Link.{Link}
-use Rattle.papaya_copy.specs.declared.link.Link.TheVariants as links
-use Rattle.papaya_copy.specs.declared.link.Linked.{Linked}
-use Rattle.papaya_copy.specs.declared.link.Linked.TheVariants as linked
-use Rattle.papaya_ask.specs.declared.search.Place.{Place}
-use Rattle.papaya_copy.specs.declared.settle.Settle.{Settle}
-use Rattle.papaya_copy.specs.declared.settle.Settle.TheVariants as settles
-use Rattle.papaya_copy.specs.declared.settle.Settled.{Settled}
-use Rattle.papaya_copy.specs.declared.settle.Settled.TheVariants as settled
-use Rattle.papaya_copy.specs.declared.settle.Slot.{Slot}
-use Rattle.papaya_copy.specs.declared.step.Chunk.{Chunk}
-use Rattle.papaya_copy.specs.declared.step.Cursor.{Cursor}
-use Rattle.papaya_copy.specs.declared.step.Step.{Step}
-use Rattle.papaya_copy.specs.declared.step.Step.TheVariants as steps
-use Rattle.papaya_copy.specs.declared.step.Stepped.{Stepped}
-use Rattle.papaya_copy.specs.declared.step.Stepped.TheVariants as stepped
-use Rattle.papaya_copy.specs.Link.{follows}
-use Rattle.papaya_copy.specs.Step.{slot_of}
-use Rattle.papaya_law.specs.Class.{IsOn}
-use Rattle.papaya_law.specs.Code.{Coding, code}
-use Rattle.papaya_law.specs.Copying.{IsLinking, IsPutting, IsSettled, IsTaker, IsTarget}
-use Rattle.papaya_law.specs.Hints.{IsHint}
-use Rattle.papaya_law.specs.Exchange.{Word, Closed, Live, Marked, Copied, Setting, State, Exchange}
-use Rattle.papaya_law.specs.Exchange.{Link as Link_to, Mark, Close, Place as Place_pair, Finish}
-use Rattle.papaya_law.specs.Exchange.{Advance, Promote, Abort}
-use Rattle.papaya_law.specs.Invariant.{named}
-use Rattle.papaya_law.specs.Later.{Becomes}
-use Rattle.papaya_law.specs.View.{look, HasWord}
+use Rattle.papaya_call.specs.declared.ask.At.{At}
+use Rattle.papaya_call.specs.declared.ask.At.TheVariants.{Root, Next, Aborted, Done, Slot as Slot_word, Made}
+use Rattle.papaya_call.specs.declared.ask.StepKind.{StepKind}
+use Rattle.papaya_call.specs.declared.ask.StepKind.TheVariants as kinds
+use Rattle.papaya_call.specs.declared.copy.carry.Carried.{Carried}
+use Rattle.papaya_call.specs.declared.copy.carry.Carried.TheVariants as carried
+use Rattle.papaya_call.specs.declared.copy.carry.Carry.{Carry}
+use Rattle.papaya_call.specs.declared.copy.carry.Carry.TheVariants as carries
+use Rattle.papaya_call.specs.declared.copy_ask.CopyAsk.{CopyAsk}
+use Rattle.papaya_call.specs.declared.copy_ask.CopyAsk.TheVariants as asks
+use Rattle.papaya_call.specs.declared.copy.copying.Aim.{Aim}
+use Rattle.papaya_call.specs.declared.copy.copying.Aim.TheVariants as aims
+use Rattle.papaya_call.specs.declared.copy.copying.Copied.{Copied as Copied_end}
+use Rattle.papaya_call.specs.declared.copy.copying.Copied.TheVariants as copied
+use Rattle.papaya_call.specs.declared.copy.copying.Copying.{Copying}
+use Rattle.papaya_call.specs.declared.copy.copying.Copying.TheVariants as copyings
+use Rattle.papaya_call.specs.declared.copy.link.Link.{Link}
+use Rattle.papaya_call.specs.declared.copy.link.Link.TheVariants as links
+use Rattle.papaya_call.specs.declared.copy.link.Linked.{Linked}
+use Rattle.papaya_call.specs.declared.copy.link.Linked.TheVariants as linked
+use Rattle.papaya_call.specs.declared.search.Place.{Place}
+use Rattle.papaya_call.specs.declared.copy.settle.Settle.{Settle}
+use Rattle.papaya_call.specs.declared.copy.settle.Settle.TheVariants as settles
+use Rattle.papaya_call.specs.declared.copy.settle.Settled.{Settled}
+use Rattle.papaya_call.specs.declared.copy.settle.Settled.TheVariants as settled
+use Rattle.papaya_call.specs.declared.copy.settle.SlotToCopy.{SlotToCopy}
+use Rattle.papaya_call.specs.declared.copy.step.Chunk.{Chunk}
+use Rattle.papaya_call.specs.declared.copy.step.Cursor.{Cursor}
+use Rattle.papaya_call.specs.declared.copy.step.Step.{Step}
+use Rattle.papaya_call.specs.declared.copy.step.Step.TheVariants as steps
+use Rattle.papaya_call.specs.declared.copy.step.Stepped.{Stepped}
+use Rattle.papaya_call.specs.declared.copy.step.Stepped.TheVariants as stepped
+use Rattle.papaya_call.specs.Link.{follows}
+use Rattle.papaya_call.specs.Step.{slot_of}
+use Rattle.papaya_words_law.specs.Class.{IsOn}
+use Rattle.papaya_words_law.specs.Code.{Coding, code}
+use Rattle.papaya_words_law.specs.Copying.{IsLinking, IsPutting, IsSettled, IsTaker, IsTarget}
+use Rattle.papaya_words_law.specs.Hints.{IsHint}
+use Rattle.papaya_words_law.specs.Exchange.{Word, Closed, Live, Marked, Copied, Setting, State, Exchange}
+use Rattle.papaya_words_law.specs.Exchange.{Link as Link_to, Mark, Close, Place as Place_pair, Finish}
+use Rattle.papaya_words_law.specs.Exchange.{Advance, Promote, Abort}
+use Rattle.papaya_words_law.specs.Invariant.{named}
+use Rattle.papaya_words_law.specs.Later.{Becomes}
+use Rattle.papaya_words_law.specs.View.{look, HasWord}
 use Rattle.papaya_call_law.specs.Told.{or_last}
 
 -- a made table has a greater number
@@ -159,7 +159,7 @@ module _ {K P : Type 0} (g : Setting K P) (c : Coding K P) (s : State P) where
   IsAllDone from to = (x : ℕ) → x < g.size from → s.done to (g.chunk_of x) ≡ true
 
   -- without blocking: the pair of the slot is marked or copied, and goes to the next table first
-  pub record IsMoving (slot : Slot) : Type 0 where
+  pub record IsMoving (slot : SlotToCopy) : Type 0 where
     pub mode : g.blocking ≡ false
     pub on : IsOn s.first s.next slot.from
     pub within : slot.index < g.size slot.from
@@ -177,7 +177,7 @@ module _ {K P : Type 0} (g : Setting K P) (c : Coding K P) (s : State P) where
     pub within : at.probe.len < g.places at.table
 
   -- the pair of the marked word came to a table that takes it; with blocking that is the target
-  pub record HasCarried (slot : Slot) (word : ℕ) : Type 0 where
+  pub record HasCarried (slot : SlotToCopy) (word : ℕ) : Type 0 where
     pub pair : P
     pub table : ℕ
     pub marked : word ≡ code g c (Marked pair)
@@ -188,7 +188,7 @@ module _ {K P : Type 0} (g : Setting K P) (c : Coding K P) (s : State P) where
     pub here : g.blocking ≡ true → table ≡ slot.to
 
   -- p was put into this place of a table that takes it, and its key's hint may be written there
-  pub record HasPlaced (slot : Slot) (p : P) (hash : ℕ) (at : Place) : Type 0 where
+  pub record HasPlaced (slot : SlotToCopy) (p : P) (hash : ℕ) (at : Place) : Type 0 where
     pub fits : IsFor p hash at
     pub stood : (s.slot slot.from slot.index ≡ Marked p)
         ⊎ (s.slot slot.from slot.index ≡ Copied p)
@@ -209,7 +209,7 @@ module _ {K P : Type 0} (g : Setting K P) (c : Coding K P) (s : State P)
     pub became : Becomes g was (s.slot at.table at.probe.i)
 
   -- how far the carry of p is
-  abbrev pub ReliesCarry : Slot → P → Carry → Type 0
+  abbrev pub ReliesCarry : SlotToCopy → P → Carry → Type 0
   ReliesCarry slot p (carries.Hashing table) = (last ≡ Some p)
       × IsPutting g s slot.from slot.index p table 0
   ReliesCarry slot p (carries.Sizing hash table) = (kept ≡ Some p) × (hash ≡ c.hash (g.key p))
@@ -232,13 +232,13 @@ module _ {K P : Type 0} (g : Setting K P) (c : Coding K P) (s : State P)
       × IsPutting g s slot.from slot.index p table (g.places table)
 
   -- the marked word names the pair that is carried; with blocking it is carried to the target alone
-  pub record IsCarrying (slot : Slot) (word : ℕ) (carry : Carry) : Type 0 where
+  pub record IsCarrying (slot : SlotToCopy) (word : ℕ) (carry : Carry) : Type 0 where
     pub pair : P
     pub marked : word ≡ code g c (Marked pair)
     pub here : g.blocking ≡ true → carried_to carry ≡ slot.to
     pub relies : ReliesCarry slot pair carry
 
-  abbrev pub ReliesSettle : Slot → Settle → Type 0
+  abbrev pub ReliesSettle : SlotToCopy → Settle → Type 0
   ReliesSettle slot settles.Looking = Unit {0}
   ReliesSettle slot settles.Closing = Unit {0}
   ReliesSettle slot settles.Shutting = s.slot slot.from slot.index ≡ Closed
@@ -275,18 +275,18 @@ module _ {K P : Type 0} (g : Setting K P) (c : Coding K P) (s : State P)
   ReliesLinked after (linked.Refused refused) = Unit {0}
 
   -- with blocking, this table was given up, to which copies went
-  abbrev pub IsUnfit : Slot → ℕ → Type 0
+  abbrev pub IsUnfit : SlotToCopy → ℕ → Type 0
   IsUnfit slot table = (table ≡ slot.to) × (g.blocking ≡ true) × (s.aborted table ≡ true)
 
   -- the carry of the pair of this word
-  abbrev pub ReliesCarried : Slot → ℕ → Carried → Type 0
+  abbrev pub ReliesCarried : SlotToCopy → ℕ → Carried → Type 0
   ReliesCarried slot word (carried.On carry) = IsCarrying slot word carry
   ReliesCarried slot word carried.Carried = HasCarried g c s slot word
   ReliesCarried slot word (carried.Unfit table) = IsUnfit slot table
   ReliesCarried slot word (carried.Refused refused) = Unit {0}
 
   -- the copy of this slot
-  abbrev pub ReliesSettled : Slot → Settled → Type 0
+  abbrev pub ReliesSettled : SlotToCopy → Settled → Type 0
   ReliesSettled slot (settled.On settle) = ReliesSettle slot settle
   ReliesSettled slot settled.Settled = IsSettled g s slot.to (s.slot slot.from slot.index)
   ReliesSettled slot (settled.Unfit table) = IsUnfit slot table

@@ -1,22 +1,22 @@
 -- What a backend may count on that holds no more than what a machine was told of last.
 use Rattle.std.specs.Prelude.{◌≡◌, ◌⊎◌, ℕ, ◌+◌, ◌==◌, if◌then◌else◌, Option, None, Some}
-use Rattle.papaya_ask.specs.declared.ask.At.TheVariants.{Root, Next, Aborted, Done as Done_word, Slot, Made as Made_word}
-use Rattle.papaya_ask.specs.declared.ask.Ask.{Ask}
-use Rattle.papaya_ask.specs.declared.ask.Ask.TheVariants.{Load, Exchange, LoadHint, WriteHint}
-use Rattle.papaya_ask.specs.declared.ask.Ask.TheVariants.{SameKey, ShowNone, ShowPair, SizeOf}
-use Rattle.papaya_ask.specs.declared.ask.Ask.TheVariants.{MakeKey, MakeValue, MakePair, MakePairOf}
-use Rattle.papaya_ask.specs.declared.ask.Ask.TheVariants.{MakeTable, AddToShard, Done}
-use Rattle.papaya_ask.specs.declared.ask.Answer.{Answer}
-use Rattle.papaya_ask.specs.declared.ask.Answer.TheVariants.{Word as Word_read, Exchanged, Found as Found_instead}
-use Rattle.papaya_ask.specs.declared.ask.StepKind.{StepKind}
-use Rattle.papaya_ask.specs.declared.ask.StepKind.TheVariants as kinds
-use Rattle.papaya_ask.specs.declared.call.Task.{Task}
+use Rattle.papaya_call.specs.declared.ask.At.TheVariants.{Root, Next, Aborted, Done as Done_word, Slot, Made as Made_word}
+use Rattle.papaya_call.specs.declared.ask.Ask.{Ask}
+use Rattle.papaya_call.specs.declared.ask.Ask.TheVariants.{Load, Exchange, LoadHint, WriteHint}
+use Rattle.papaya_call.specs.declared.ask.Ask.TheVariants.{SameKey, ShowNone, ShowPair, SizeOf}
+use Rattle.papaya_call.specs.declared.ask.Ask.TheVariants.{MakeKey, MakeValue, MakePair, MakePairOf}
+use Rattle.papaya_call.specs.declared.ask.Ask.TheVariants.{MakeTable, AddToShard, Done}
+use Rattle.papaya_call.specs.declared.ask.Answer.{Answer}
+use Rattle.papaya_call.specs.declared.ask.Answer.TheVariants.{Word as Word_read, Exchanged, Found as Found_instead}
+use Rattle.papaya_call.specs.declared.ask.StepKind.{StepKind}
+use Rattle.papaya_call.specs.declared.ask.StepKind.TheVariants as kinds
+use Rattle.papaya_call.specs.declared.call.Task.{Task}
 use Rattle.papaya_call.specs.declared.compute.Gap.{Gap}
 use Rattle.papaya_call.specs.declared.compute.Gap.TheVariants.{NoRoot, At, After}
 use Rattle.papaya_call.specs.declared.compute.Purpose.{Purpose}
 use Rattle.papaya_call.specs.declared.compute.Purpose.TheVariants.{Fill, Replace, Again}
-use Rattle.papaya_ask.specs.declared.search.Search.{Search}
-use Rattle.papaya_ask.specs.declared.search.Search.TheVariants.{Sizing, Looking, Reading, Comparing}
+use Rattle.papaya_call.specs.declared.search.Search.{Search}
+use Rattle.papaya_call.specs.declared.search.Search.TheVariants.{Sizing, Looking, Reading, Comparing}
 use Rattle.papaya_call.specs.declared.machine.State.{State}
 use Rattle.papaya_call.specs.declared.machine.State.TheVariants.{Searching, Writing, Offering}
 use Rattle.papaya_call.specs.declared.machine.State.TheVariants.{Showing, Pairing, Putting}

@@ -1,27 +1,27 @@
 -- What an answer tells a machine of the words.
 use Rattle.std.specs.Prelude.{◌≡◌, ◌⊎◌, ℕ, ◌+◌, ◌<◌, ◌==◌, cond, Bool, Option, None, Some, List, [], ◌∷◌, MatchBool}
 use Rattle.papaya_words.specs.Word.{pair_of}
-use Rattle.papaya_words.specs.declared.probe.Refused.{Refused}
-use Rattle.papaya_ask.specs.declared.ask.At.{At}
-use Rattle.papaya_ask.specs.declared.ask.At.TheVariants.{Root, Next, Aborted, Done, Slot, Made as Made_word}
-use Rattle.papaya_ask.specs.declared.ask.Ask.{Ask}
-use Rattle.papaya_ask.specs.declared.ask.Ask.TheVariants.{Load, Exchange as Ask_exchange, LoadHint}
-use Rattle.papaya_ask.specs.declared.ask.Ask.TheVariants.{WriteHint, SameKey, ShowNone, ShowPair}
-use Rattle.papaya_ask.specs.declared.ask.Ask.TheVariants.{SizeOf, MakeKey, MakeValue, MakePair}
-use Rattle.papaya_ask.specs.declared.ask.Ask.TheVariants.{MakePairOf, MakeTable, AddToShard}
-use Rattle.papaya_ask.specs.declared.ask.Ask.TheVariants.{Done as Ask_done}
-use Rattle.papaya_ask.specs.declared.ask.Answer.{Answer}
-use Rattle.papaya_ask.specs.declared.ask.Answer.TheVariants.{Word as Word_read, Exchanged}
-use Rattle.papaya_ask.specs.declared.ask.Answer.TheVariants.{Found as Found_instead, Yes, Op, Size}
-use Rattle.papaya_ask.specs.declared.ask.Answer.TheVariants.{Made as Made_number, Ok as Ok_done}
-use Rattle.papaya_ask.specs.declared.ask.Answer.TheVariants.{Refused as Was_refused}
-use Rattle.papaya_ask.specs.declared.ask.OpKind.{OpKind}
-use Rattle.papaya_ask.specs.declared.ask.StepKind.{StepKind}
-use Rattle.papaya_ask.specs.declared.ask.StepKind.TheVariants as kinds
-use Rattle.papaya_law.specs.Exchange.{Live, Setting, State, Exchange, Open, Claim, Replace, Bury, Take}
-use Rattle.papaya_law.specs.Invariant.{named}
-use Rattle.papaya_law.specs.Code.{Coding, code}
-use Rattle.papaya_law.specs.Hints.{IsHint}
+use Rattle.papaya_words.specs.declared.refused.Refused.{Refused}
+use Rattle.papaya_call.specs.declared.ask.At.{At}
+use Rattle.papaya_call.specs.declared.ask.At.TheVariants.{Root, Next, Aborted, Done, Slot, Made as Made_word}
+use Rattle.papaya_call.specs.declared.ask.Ask.{Ask}
+use Rattle.papaya_call.specs.declared.ask.Ask.TheVariants.{Load, Exchange as Ask_exchange, LoadHint}
+use Rattle.papaya_call.specs.declared.ask.Ask.TheVariants.{WriteHint, SameKey, ShowNone, ShowPair}
+use Rattle.papaya_call.specs.declared.ask.Ask.TheVariants.{SizeOf, MakeKey, MakeValue, MakePair}
+use Rattle.papaya_call.specs.declared.ask.Ask.TheVariants.{MakePairOf, MakeTable, AddToShard}
+use Rattle.papaya_call.specs.declared.ask.Ask.TheVariants.{Done as Ask_done}
+use Rattle.papaya_call.specs.declared.ask.Answer.{Answer}
+use Rattle.papaya_call.specs.declared.ask.Answer.TheVariants.{Word as Word_read, Exchanged}
+use Rattle.papaya_call.specs.declared.ask.Answer.TheVariants.{Found as Found_instead, Yes, Op, Size}
+use Rattle.papaya_call.specs.declared.ask.Answer.TheVariants.{Made as Made_number, Ok as Ok_done}
+use Rattle.papaya_call.specs.declared.ask.Answer.TheVariants.{Refused as Was_refused}
+use Rattle.papaya_call.specs.declared.ask.OpKind.{OpKind}
+use Rattle.papaya_call.specs.declared.ask.StepKind.{StepKind}
+use Rattle.papaya_call.specs.declared.ask.StepKind.TheVariants as kinds
+use Rattle.papaya_words_law.specs.Exchange.{Live, Setting, State, Exchange, Open, Claim, Replace, Bury, Take}
+use Rattle.papaya_words_law.specs.Invariant.{named}
+use Rattle.papaya_words_law.specs.Code.{Coding, code}
+use Rattle.papaya_words_law.specs.Hints.{IsHint}
 
 -- The pairs that a machine has been told of: the one that the word last loaded names, and those
 -- that it made, the newest first.

@@ -4,10 +4,10 @@
 ghost use Rattle.std.specs.Prelude.{◌≡◌, ℕ, ◌<◌};
 ghost use Rattle.papaya_call_law.specs.Alone.{HasMetNone, IsCurrent, IsPrompt, IsSeeker, IsUnmatched, left};
 ghost use Rattle.papaya_call.specs.Machine.{IsLookup, after, ask_of};
-ghost use Rattle.papaya_ask.specs.declared.call.Reply.TheVariants.{Absent};
+ghost use Rattle.papaya_call.specs.declared.call.Reply.TheVariants.{Absent};
 
-use papaya_ask::ask::{Answer, Ask, At};
-use papaya_ask::call::Reply;
+use papaya_call::ask::{Answer, Ask, At};
+use papaya_call::call::Reply;
 use papaya_call::machine::Machine;
 
 /// Each answer brings a call nearer to its end, while no table has a next one. The words that the

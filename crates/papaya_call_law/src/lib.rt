@@ -1,11 +1,17 @@
-//! The facts on which a machine relies while others exchange words, and so its replies.
+//! The laws of machines: the facts on which they rely while others exchange words; their replies.
+//! It uses `papaya_call` and the law of exchanges in `papaya_words_law`.
+//! Every proof about a backend builds on it: of schedules, of one caller and of threads.
 //!
-//! The law of exchanges and the machines meet here. A backend that answers truly needs only these
-//! laws and never looks into a machine: [`relies`] for any schedule, [`alone`] for a call whose
-//! words nobody else changes, [`loads`] for how much a lookup loads.
+//! A backend that answers truly needs only these laws and never looks into a machine: [`relies`]
+//! for a call on one table under any schedule, [`chain`] for a call over many, [`alone`] for a call
+//! whose words nobody else changes, and [`loads`] for how much a lookup loads. [`copies`],
+//! [`resizers`] and [`scanners`] are the laws of the other machines.
 #![tactic(auto)]
 
 pub mod alone;
+pub mod chain;
 pub mod copies;
 pub mod loads;
 pub mod relies;
+pub mod resizers;
+pub mod scanners;

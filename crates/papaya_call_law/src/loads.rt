@@ -1,8 +1,8 @@
 //! A bound on what a lookup loads. The function has an empty body; its contract is the bound.
 ghost use Rattle.std.specs.Prelude.{ℕ, List, Option};
-ghost use Rattle.papaya_words.specs.declared.probe.ResizeMode.{ResizeMode};
-ghost use Rattle.papaya_ask.specs.declared.ask.Answer.{Answer};
-ghost use Rattle.papaya_ask.specs.declared.call.Task.TheVariants.{Get};
+ghost use Rattle.papaya_words.specs.declared.resize_mode.ResizeMode.{ResizeMode};
+ghost use Rattle.papaya_call.specs.declared.ask.Answer.{Answer};
+ghost use Rattle.papaya_call.specs.declared.call.Task.TheVariants.{Get};
 ghost use Rattle.papaya_call.specs.Machine.{started};
 ghost use Rattle.papaya_call_law.specs.Loads.{AreAnswers, IsBounded, asked};
 

@@ -5,16 +5,16 @@
 //! machine. The functions have empty bodies; their contracts are the laws.
 ghost use Rattle.std.specs.Prelude.{◌≡◌, ◌⊎◌, ℕ, Bool, true, ◌<◌, ◌^◌, ◌++◌, List, [], Option, None, Some};
 ghost use Rattle.papaya_words.specs.Word.{pair_of};
-ghost use Rattle.papaya_words.specs.declared.probe.Refused.{Refused};
-ghost use Rattle.papaya_words.specs.declared.probe.ResizeMode.{ResizeMode};
+ghost use Rattle.papaya_words.specs.declared.refused.Refused.{Refused};
+ghost use Rattle.papaya_words.specs.declared.resize_mode.ResizeMode.{ResizeMode};
 ghost use Rattle.papaya_call_law.specs.Followed.{IsAtTable, IsCounting, MayAsk, table_asked, told_table};
-ghost use Rattle.papaya_law.specs.Allows.{AllAllowed, Allows};
-ghost use Rattle.papaya_law.specs.Class.{IsOn};
-ghost use Rattle.papaya_law.specs.Code.{Coding};
-ghost use Rattle.papaya_law.specs.Exchange.{Setting, State, Exchange, after as state_after, run, start};
-ghost use Rattle.papaya_law.specs.Further.{coding_with, with_key};
-ghost use Rattle.papaya_law.specs.Hints.{IsHint};
-ghost use Rattle.papaya_law.specs.Grows.{Agrees};
+ghost use Rattle.papaya_words_law.specs.Allows.{AllAllowed, Allows};
+ghost use Rattle.papaya_words_law.specs.Class.{IsOn};
+ghost use Rattle.papaya_words_law.specs.Code.{Coding};
+ghost use Rattle.papaya_words_law.specs.Exchange.{Setting, State, Exchange, after as state_after, run, start};
+ghost use Rattle.papaya_words_law.specs.Further.{coding_with, with_key};
+ghost use Rattle.papaya_words_law.specs.Hints.{IsHint};
+ghost use Rattle.papaya_words_law.specs.Grows.{Agrees};
 ghost use Rattle.papaya_call.specs.Machine.{IsStanding, IsWriter, ask_of, kind_of_ask, after, started};
 ghost use Rattle.papaya_call_law.specs.Owed.{owed_by, grows_by};
 ghost use Rattle.papaya_call_law.specs.Relies.{Relies, IsAtLimit, IsModeOf, IsReply, WasAtMoment, change_in, change_of_reply, change_after};
@@ -23,10 +23,10 @@ ghost use Rattle.papaya_call_law.specs.Says.{Inserts, IsPaired, IsSaidBy, IsSaid
 ghost use Rattle.papaya_call_law.specs.Says.{IsSaidExchange, KeepsFill, MakesPair};
 ghost use Rattle.papaya_call_law.specs.Says.{Removes, Said, ShowsPairs, StandsOn, said_in, said_in_reply, show};
 ghost use Rattle.papaya_call_law.specs.Told.{IsOneOf, IsAsked, IsTold, IsWritten, LoadedPairs, nothing_loaded, word_of};
-ghost use Rattle.papaya_law.specs.Code.{IsHashed};
+ghost use Rattle.papaya_words_law.specs.Code.{IsHashed};
 
-use papaya_ask::ask::{Answer, Ask, At, OpKind, StepKind};
-use papaya_ask::call::{Reply, Task};
+use papaya_call::ask::{Answer, Ask, At, OpKind, StepKind};
+use papaya_call::call::{Reply, Task};
 use papaya_call::machine::Machine;
 
 /// A call that begins relies on the exchanges as they are.

@@ -4,7 +4,7 @@ use crate::key_steps::Calls;
 use crate::sets::{CASES, goes};
 use papaya_set::seq::HashSet;
 use papaya_testing::same::{FIRST, LAST};
-use papaya_words::probe::Refused;
+use papaya_words::refused::Refused;
 use std::alloc::Global;
 use std::hash::{BuildHasher, BuildHasherDefault, FoldHasher};
 use std::process::Abort;

@@ -1,7 +1,6 @@
 // Results of calls, as values.
-use papaya_keys::compute::Compute;
-use papaya_keys::occupied::{NotInserted, OccupiedError};
-use papaya_words::probe::Refused;
+use papaya_words::refused::Refused;
+use papaya_words_keys::results::{Compute, NotInserted, OccupiedError};
 
 /// The result of a call.
 #[derive(Clone, Copy, PartialEq)]

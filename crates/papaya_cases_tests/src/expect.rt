@@ -1,6 +1,6 @@
 // The comparisons of the tests.
 use crate::answers::Answer;
-use papaya_words::probe::ResizeMode;
+use papaya_words::resize_mode::ResizeMode;
 use std::fmt::Debug;
 use std::process::Abort;
 

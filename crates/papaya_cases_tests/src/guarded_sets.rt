@@ -1,7 +1,8 @@
 // The cases on sets that threads share, by their calls with a guard: of the set's collector, or of
 // another one. If both collectors have the same number, the calls work as usual. Otherwise each
 // fails and changes nothing.
-use crate::answers::Answer::{self, Is, Number, Walked};
+use crate::answers::Answer;
+use crate::answers::Answer::{Is, Number, Walked};
 use crate::expect::{MODES, is};
 use crate::key_steps::Calls;
 use crate::key_steps::Step::{
@@ -9,10 +10,10 @@ use crate::key_steps::Step::{
 };
 use crate::sets::{CASES, Case, goes};
 use crate::shared_sets::Shared;
-use papaya_keys::guard::{Collector, Guard};
 use papaya_set::set::HashSet;
 use papaya_testing::same::{FIRST, Same};
-use papaya_words::probe::Refused;
+use papaya_words::refused::Refused;
+use papaya_words_keys::guard::{Collector, Guard};
 use std::process::Abort;
 use std::sync::Wait;
 use std::test::Fail;

@@ -2,10 +2,10 @@
 use crate::expect::is;
 use crate::labels::{Labelled, seven};
 use papaya_call::answers::Operation;
-use papaya_keys::compute::Compute;
 use papaya_map::map;
 use papaya_seq::seq;
-use papaya_words::probe::Refused;
+use papaya_words::refused::Refused;
+use papaya_words_keys::results::Compute;
 use std::alloc::Global;
 use std::process::Abort;
 use std::sync::Wait;

@@ -1,6 +1,6 @@
 // Calls of sets as values, and the code that makes them.
 use crate::answers::{Answer, said};
-use papaya_words::probe::Refused;
+use papaya_words::refused::Refused;
 
 /// A call of a set, or several calls of one kind.
 #[derive(Clone, Copy)]

@@ -1,5 +1,6 @@
-//! The cases of papaya's own tests as lists of calls: maps and sets, for one caller and shared
-//! by threads.
+//! Tests that port those of 0.2.5, for both maps and both sets.
+//! It uses `papaya_seq`, `papaya_map` and `papaya_set`.
+//! No crate builds on it.
 #![tactic(auto)]
 
 #[cfg(test)]

@@ -1,17 +1,17 @@
 // The cases of papaya's own tests of the map that `papaya-run` cannot express. Each begins with a
 // new map.
+use crate::answers::Answer;
 use crate::answers::Answer::{
-    self, Aborted, Absent, Done, Is, Kept, NotMade, Number, Occupied, Pair, Removed, Updated,
-    Walked,
+    Aborted, Absent, Done, Is, Kept, NotMade, Number, Occupied, Pair, Removed, Updated, Walked,
 };
 use crate::expect::answers;
 use crate::steps::Agrees::{Always, Never, To};
 use crate::steps::Step::{
-    self, Compute, Contains, Get, GetBelow, GetKeyValue, GetOrInsert, GetOrInsertWith, Insert,
+    Compute, Contains, Get, GetBelow, GetKeyValue, GetOrInsert, GetOrInsertWith, Insert,
     InsertBelow, Len, Remove, RemoveBelow, RemoveIf, RetainBelow, TryInsert, TryInsertWith, Update,
     UpdateBelow, UpdateOrInsert, UpdateOrInsertWith, Walk,
 };
-use crate::steps::{Calls, answer};
+use crate::steps::{Calls, Step, answer};
 use std::process::Abort;
 
 /// Calls, each with its result.

@@ -1,21 +1,21 @@
 // Each call on one key, with each of its requests for memory refused in turn, at each stage of the
 // growth of a map. The heap of `tests/refused.py` is set to refuse.
-use crate::answers::Answer::{
-    self, Aborted, Absent, Kept, NotMade, Number, Occupied, Pair, Updated,
-};
+use crate::answers::Answer;
+use crate::answers::Answer::{Aborted, Absent, Kept, NotMade, Number, Occupied, Pair, Updated};
 use crate::expect::is;
 use crate::shared::Shared;
 use crate::steps::Agrees::{Always, Never};
 use crate::steps::Step::{
-    self, Compute, Get, GetBelow, GetOrInsert, GetOrInsertWith, Insert, InsertBelow, Len, Remove,
+    Compute, Get, GetBelow, GetOrInsert, GetOrInsertWith, Insert, InsertBelow, Len, Remove,
     RemoveIf, TryInsert, TryInsertWith, Update, UpdateOrInsert, UpdateOrInsertWith,
 };
-use crate::steps::{Calls, answer};
+use crate::steps::{Calls, Step, answer};
 use papaya_map::map;
 use papaya_seq::seq;
 use papaya_testing::same::FIRST;
-use papaya_testing::tries::{Outcome, Ready, Trial, fails_at, tries};
-use papaya_words::probe::{Refused, ResizeMode};
+use papaya_testing::tries::{ReadyCall, Trial, TryResult, fails_at, tries};
+use papaya_words::refused::Refused;
+use papaya_words::resize_mode::ResizeMode;
 use std::alloc::Global;
 use std::process::Abort;
 use std::sync::Wait;
@@ -104,7 +104,7 @@ struct OnKey<'m, C> {
     row: Row,
 }
 
-impl<C: Calls> Ready for OnKey<'_, C> {
+impl<C: Calls> ReadyCall for OnKey<'_, C> {
     fn is_made(&mut self) -> Result<bool, Refused> {
         let (call, wanted, old, new) = self.row;
         match answer(self.map, call) {
@@ -119,10 +119,10 @@ impl<C: Calls> Ready for OnKey<'_, C> {
 }
 
 /// Fills a map, and makes the call with the request of this number refused.
-fn tries_on<C: Calls>(alloc: Global, map: &mut C, keys: u64, row: Row, number: usize) -> Outcome {
+fn tries_on<C: Calls>(alloc: Global, map: &mut C, keys: u64, row: Row, number: usize) -> TryResult {
     let filled = answer(map, InsertBelow(keys, 0)) == Number(keys);
     if !filled || answer(map, Insert(OLD, VALUE)) != Absent {
-        return Outcome::Fails;
+        return TryResult::Fails;
     }
     tries(alloc, &mut OnKey { map, keys, row }, number)
 }
@@ -136,7 +136,7 @@ struct Alone {
 }
 
 impl Trial for Alone {
-    fn with_refused(&self, number: usize) -> Result<Outcome, Refused> {
+    fn with_refused(&self, number: usize) -> Result<TryResult, Refused> {
         let Start { mode, keys } = self.start;
         let mut map = seq::HashMap::with_parts(self.alloc, mode, 0, 1, FIRST, None)?;
         Ok(tries_on(self.alloc, &mut map, keys, self.row, number))
@@ -153,7 +153,7 @@ struct Together<'r, R> {
 }
 
 impl<R: Wait> Trial for Together<'_, R> {
-    fn with_refused(&self, number: usize) -> Result<Outcome, Refused> {
+    fn with_refused(&self, number: usize) -> Result<TryResult, Refused> {
         let Start { mode, keys } = self.start;
         let map = map::HashMap::with_parts(self.rt, self.alloc, mode, 0, 4, FIRST, None)?;
         let mut shared = Shared {
@@ -248,7 +248,7 @@ struct Long {
 }
 
 impl Trial for Long {
-    fn with_refused(&self, number: usize) -> Result<Outcome, Refused> {
+    fn with_refused(&self, number: usize) -> Result<TryResult, Refused> {
         let (mode, capacity, keys, slots) = self.length;
         let mut map = seq::HashMap::with_parts(self.alloc, mode, capacity, 1, FIRST, None)?;
         let [insertion, ..] = AT_NEW;
@@ -256,7 +256,7 @@ impl Trial for Long {
         Ok(if map.slots() == slots {
             outcome
         } else {
-            Outcome::Fails
+            TryResult::Fails
         })
     }
 }

@@ -1,7 +1,9 @@
 // Threads that look up the keys of a set while room is reserved.
-use crate::answers::Answer::{self, Done, Number};
+use crate::answers::Answer;
+use crate::answers::Answer::{Done, Number};
 use crate::expect::MODES;
-use crate::key_steps::Step::{self, GetBelow, InsertBelow, Reserve};
+use crate::key_steps::Step;
+use crate::key_steps::Step::{GetBelow, InsertBelow, Reserve};
 use crate::sets::{Case, goes};
 use crate::shared_sets::Shared;
 use papaya_set::set::HashSet;

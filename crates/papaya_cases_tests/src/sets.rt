@@ -1,12 +1,13 @@
 // The cases of papaya's own tests of the set. Each begins with a new set.
-use crate::answers::Answer::{self, Absent, Done, Is, Number, Walked};
+use crate::answers::Answer;
+use crate::answers::Answer::{Absent, Done, Is, Number, Walked};
 use crate::expect::answers;
 use crate::key_steps::Step::{
-    self, Clear, Contains, Extend, ExtendRef, Get, GetBelow, Insert, InsertBelow, Len, Remove,
+    Clear, Contains, Extend, ExtendRef, Get, GetBelow, Insert, InsertBelow, Len, Remove,
     RemoveBelow, Reserve, RetainFrom, Walk,
 };
-use crate::key_steps::{Calls, answer};
-use papaya_words::probe::Refused;
+use crate::key_steps::{Calls, Step, answer};
+use papaya_words::refused::Refused;
 use std::process::Abort;
 
 /// Calls, each with its result.

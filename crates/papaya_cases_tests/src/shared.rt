@@ -5,7 +5,7 @@ use crate::maps::{CASES, goes};
 use crate::steps::{Agrees, Calls, by_parity};
 use papaya_map::map::HashMap;
 use papaya_testing::same::{FIRST, LAST};
-use papaya_words::probe::Refused;
+use papaya_words::refused::Refused;
 use std::alloc::Global;
 use std::hash::{BuildHasher, BuildHasherDefault, FoldHasher};
 use std::process::Abort;

@@ -1,7 +1,7 @@
 // Calls of maps as values, and the code that makes them.
 use crate::answers::{Answer, said};
 use papaya_call::answers::Operation;
-use papaya_words::probe::Refused;
+use papaya_words::refused::Refused;
 
 /// The result of a removal's closure.
 #[derive(Clone, Copy)]

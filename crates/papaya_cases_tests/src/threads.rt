@@ -1,10 +1,11 @@
 // Threads that remove the same keys of a map.
-use crate::answers::Answer::{self, Number};
+use crate::answers::Answer;
+use crate::answers::Answer::Number;
 use crate::expect::{MODES, is};
 use crate::maps::goes;
 use crate::shared::Shared;
-use crate::steps::Step::{self, GetBelow, InsertBelow, Len, RemoveBelow};
-use crate::steps::answer;
+use crate::steps::Step::{GetBelow, InsertBelow, Len, RemoveBelow};
+use crate::steps::{Step, answer};
 use papaya_map::map::HashMap;
 use std::hash::BuildHasherDefault;
 use std::process::Abort;

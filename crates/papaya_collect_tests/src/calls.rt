@@ -7,8 +7,9 @@ use crate::keys::{END, Key, MODES, Pair, START};
 use papaya_map::map;
 use papaya_seq::seq;
 use papaya_set::{seq as set_alone, set};
-use papaya_testing::tries::{Outcome, Ready, Trial, fails_at, tries};
-use papaya_words::probe::{Refused, ResizeMode};
+use papaya_testing::tries::{ReadyCall, Trial, TryResult, fails_at, tries};
+use papaya_words::refused::Refused;
+use papaya_words::resize_mode::ResizeMode;
 use std::alloc::Global;
 use std::marker::PhantomData;
 use std::process::Abort;
@@ -203,7 +204,7 @@ struct Called<'r, 'c, R, C> {
     keys: u64,
 }
 
-impl<R: Wait, C: Collection + Drop> Ready for Called<'_, '_, R, C> {
+impl<R: Wait, C: Collection + Drop> ReadyCall for Called<'_, '_, R, C> {
     fn is_made(&mut self) -> Result<bool, Refused> {
         calls(self.rt, self.alloc, self.it, self.call, self.keys)
     }
@@ -235,10 +236,10 @@ struct Calling<'r, R, C> {
 }
 
 impl<R: Wait, C: Collection + Drop> Trial for Calling<'_, R, C> {
-    fn with_refused(&self, number: usize) -> Result<Outcome, Refused> {
+    fn with_refused(&self, number: usize) -> Result<TryResult, Refused> {
         let mut it: C = C::none(self.rt, self.alloc, Maker::Parts(self.mode))?;
         if !is_filled(self.rt, &mut it, self.keys)? {
-            return Ok(Outcome::Fails);
+            return Ok(TryResult::Fails);
         }
         let mut called = Called {
             rt: self.rt,
@@ -260,7 +261,7 @@ struct Making<'r, R, C> {
     of: PhantomData<C>,
 }
 
-impl<R: Wait, C: Collection + Drop> Ready for Making<'_, R, C> {
+impl<R: Wait, C: Collection + Drop> ReadyCall for Making<'_, R, C> {
     fn is_made(&mut self) -> Result<bool, Refused> {
         let mut it: C = C::none(self.rt, self.alloc, self.by)?;
         is_filled(self.rt, &mut it, START)
@@ -272,7 +273,7 @@ impl<R: Wait, C: Collection + Drop> Ready for Making<'_, R, C> {
 }
 
 impl<R: Wait, C: Collection + Drop> Trial for Making<'_, R, C> {
-    fn with_refused(&self, number: usize) -> Result<Outcome, Refused> {
+    fn with_refused(&self, number: usize) -> Result<TryResult, Refused> {
         let mut making: Making<'_, R, C> = Making {
             rt: self.rt,
             alloc: self.alloc,

@@ -1,6 +1,7 @@
 // Maps and sets alike, by their calls that take many keys, copy, compare or reclaim.
 use crate::keys::{Key, Pair};
-use papaya_words::probe::{Refused, ResizeMode};
+use papaya_words::refused::Refused;
+use papaya_words::resize_mode::ResizeMode;
 use serde_json::Value;
 use std::alloc::Global;
 use std::sync::Wait;

@@ -2,7 +2,8 @@
 use papaya_map::map::HashMap;
 use papaya_set::set::HashSet;
 use papaya_testing::times::Times;
-use papaya_words::probe::{Refused, ResizeMode};
+use papaya_words::refused::Refused;
+use papaya_words::resize_mode::ResizeMode;
 use std::alloc::Global;
 use std::sync::Wait;
 

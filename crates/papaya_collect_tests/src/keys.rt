@@ -3,7 +3,7 @@ ghost use Rattle.std.specs.Prelude.{◌≡◌};
 ghost use Rattle.std.proofs.Common.{refl};
 ghost use Rattle.std.specs.Hash as fed;
 
-use papaya_words::probe::ResizeMode;
+use papaya_words::resize_mode::ResizeMode;
 use std::alloc::Global;
 use std::hash::{Hash, Hasher};
 

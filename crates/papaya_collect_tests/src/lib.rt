@@ -1,5 +1,6 @@
-//! The tests of calls that take many keys, copy, compare or reclaim: on maps and sets, for one
-//! caller and shared by threads. It also has the tests of maps and sets as JSON.
+//! Tests of calls that take or return collections, and of JSON.
+//! It uses `papaya_json`, both maps and both sets.
+//! No crate builds on it.
 #![tactic(auto)]
 
 #[cfg(test)]

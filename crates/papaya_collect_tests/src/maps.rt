@@ -2,11 +2,11 @@
 use crate::collection::{Collection, Maker};
 use crate::expect::is_at;
 use crate::keys::{Key, LENT, PAIRS, Pair, digits};
-use papaya_json::reading::map_from_value;
-use papaya_json::writing::map_to_value;
+use papaya_json::from_value::map_from_value;
+use papaya_json::to_value::map_to_value;
 use papaya_map::map;
 use papaya_seq::seq::HashMap;
-use papaya_words::probe::Refused;
+use papaya_words::refused::Refused;
 use serde_json::Value;
 use std::alloc::Global;
 use std::hash::BuildHasherDefault;

@@ -6,7 +6,7 @@ use crate::keys::{Key, MODES, Pair};
 use papaya_map::map;
 use papaya_seq::seq;
 use papaya_set::{seq as set_alone, set};
-use papaya_words::probe::Refused;
+use papaya_words::refused::Refused;
 use std::alloc::Global;
 use std::process::Abort;
 use std::sync::Wait;

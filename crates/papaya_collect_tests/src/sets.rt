@@ -1,11 +1,11 @@
 // The set for one caller.
 use crate::collection::{Collection, Maker};
 use crate::keys::{KEYS, Key, Pair};
-use papaya_json::reading::set_from_value;
-use papaya_json::writing::set_to_value;
+use papaya_json::from_value::set_from_value;
+use papaya_json::to_value::set_to_value;
 use papaya_set::seq::HashSet;
 use papaya_set::set;
-use papaya_words::probe::Refused;
+use papaya_words::refused::Refused;
 use serde_json::Value;
 use std::alloc::Global;
 use std::hash::BuildHasherDefault;

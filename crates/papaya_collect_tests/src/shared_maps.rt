@@ -3,7 +3,7 @@ use crate::collection::{Collection, Maker};
 use crate::keys::{Key, LENT, PAIRS, Pair, digits};
 use papaya_json::shared::{shared_map_from_value, shared_map_to_value};
 use papaya_map::map::HashMap;
-use papaya_words::probe::Refused;
+use papaya_words::refused::Refused;
 use serde_json::Value;
 use std::alloc::Global;
 use std::hash::BuildHasherDefault;

@@ -3,7 +3,7 @@ use crate::collection::{Collection, Maker};
 use crate::keys::{KEYS, Key, Pair};
 use papaya_json::shared::{shared_set_from_value, shared_set_to_value};
 use papaya_set::set::HashSet;
-use papaya_words::probe::Refused;
+use papaya_words::refused::Refused;
 use serde_json::Value;
 use std::alloc::Global;
 use std::hash::BuildHasherDefault;

@@ -1,43 +1,43 @@
 -- A call is refused for the limit only where as many numbers were taken as it says: nothing that is made or copied is refused so.
 use Rattle.std.proofs.Common.{◌≡◌, ◌⊎◌, inl, inr, ℕ, ◌==◌, ◌≤◌, Bool, Option, None, Some, sym, ◌∙◌, ap, subst}
 use Rattle.papaya_words.specs.Table.{TableWords}
-use Rattle.papaya_words.specs.declared.probe.Refused.TheVariants.{Limit}
-use Rattle.papaya_ask.specs.declared.ask.Answer.{Answer as Call_answer}
-use Rattle.papaya_ask.specs.declared.ask.Answer.TheVariants.{Word as Word_read, Found as Found_instead, Refused as Was_refused}
-use Rattle.papaya_ask.specs.declared.ask.Ask.{Ask as Call_ask}
-use Rattle.papaya_ask.specs.declared.ask.Ask.TheVariants as call_asks
-use Rattle.papaya_ask.specs.declared.ask.At.TheVariants.{Made}
-use Rattle.papaya_ask.specs.declared.call.Reply.{Reply}
-use Rattle.papaya_ask.specs.declared.call.Reply.TheVariants.{Refused as Reply_refused}
-use Rattle.papaya_ask.specs.declared.copy_ask.CopyAsk.{CopyAsk}
-use Rattle.papaya_ask.specs.declared.copy_ask.CopyAsk.TheVariants as copies
+use Rattle.papaya_words.specs.declared.refused.Refused.TheVariants.{Limit}
+use Rattle.papaya_call.specs.declared.ask.Answer.{Answer as Call_answer}
+use Rattle.papaya_call.specs.declared.ask.Answer.TheVariants.{Word as Word_read, Found as Found_instead, Refused as Was_refused}
+use Rattle.papaya_call.specs.declared.ask.Ask.{Ask as Call_ask}
+use Rattle.papaya_call.specs.declared.ask.Ask.TheVariants as call_asks
+use Rattle.papaya_call.specs.declared.ask.At.TheVariants.{Made}
+use Rattle.papaya_call.specs.declared.call.Reply.{Reply}
+use Rattle.papaya_call.specs.declared.call.Reply.TheVariants.{Refused as Reply_refused}
+use Rattle.papaya_call.specs.declared.copy_ask.CopyAsk.{CopyAsk}
+use Rattle.papaya_call.specs.declared.copy_ask.CopyAsk.TheVariants as copies
 use Rattle.papaya_call.specs.Answers.{Says}
 use Rattle.papaya_call.specs.Machine as call_machine
-use Rattle.papaya_chain.specs.declared.ask.Ask.TheVariants as asks
-use Rattle.papaya_chain.specs.declared.ask.Answer.{Answer}
-use Rattle.papaya_chain.specs.declared.ask.Answer.TheVariants as answers
-use Rattle.papaya_chain.specs.declared.machine.Phase.TheVariants.{Calling}
-use Rattle.papaya_chain.specs.Machine.{ask_of, asks_in}
-use Rattle.papaya_chain.specs.declared.scan_ask.ScanAsk.{ScanAsk}
-use Rattle.papaya_chain.specs.declared.scan_ask.ScanAsk.TheVariants as scan_asks
-use Rattle.papaya_chain_law.specs.Goes.{IsOwnRefusal, IsTableRefusal, IsToMake}
+use Rattle.papaya_call.specs.declared.chain.ask.Ask.TheVariants as asks
+use Rattle.papaya_call.specs.declared.chain.ask.Answer.{Answer}
+use Rattle.papaya_call.specs.declared.chain.ask.Answer.TheVariants as answers
+use Rattle.papaya_call.specs.declared.chain.machine.Phase.TheVariants.{Calling}
+use Rattle.papaya_call.specs.ChainMachine.{ask_of, asks_in}
+use Rattle.papaya_call.specs.declared.chain.ask.ScanAsk.{ScanAsk}
+use Rattle.papaya_call.specs.declared.chain.ask.ScanAsk.TheVariants as scan_asks
+use Rattle.papaya_call_law.specs.Goes.{IsOwnRefusal, IsTableRefusal, IsToMake}
 use Rattle.papaya_call_law.specs.Relies.{IsNumberAsk}
-use Rattle.papaya_store.specs.declared.pairs.Running.{Running}
-use Rattle.papaya_store.specs.declared.scans.Scanning.{Scanning}
-use Rattle.papaya_store.specs.Asks.{PerformsAsk}
-use Rattle.papaya_store.specs.Copies.{PerformsCopy, hash_in}
-use Rattle.papaya_store.specs.Performs.{Performs, Refuses, size_of}
-use Rattle.papaya_store.specs.Store.{StoreState, Stored}
-use Rattle.papaya_store.specs.Tables.{table_of, word_at}
-use Rattle.papaya_store.specs.Scans.{PerformsScan}
-use Rattle.papaya_timeline.specs.declared.trace.Event.{Event}
-use Rattle.papaya_timeline.specs.Advances.{Advances}
-use Rattle.papaya_timeline.specs.Core.{CoreState}
-use Rattle.papaya_timeline.specs.Kept.{IsLawfulCore}
-use Rattle.papaya_timeline.specs.Resizes.{Resizes}
-use Rattle.papaya_timeline.specs.Runs.{Steps}
-use Rattle.papaya_timeline.specs.ScanGoes.{Scans, unheard}
-use Rattle.papaya_timeline.proofs.StoreLemmas.{LogsOrNot, matched, of_logs, own_logs, part_logs}
+use Rattle.papaya_core_store.specs.declared.pairs.Running.{Running}
+use Rattle.papaya_core_store.specs.declared.scans.Scanning.{Scanning}
+use Rattle.papaya_core_store.specs.Asks.{PerformsAsk}
+use Rattle.papaya_core_store.specs.CopyAsks.{PerformsCopy, hash_in}
+use Rattle.papaya_core_store.specs.Performs.{Performs, Refuses, size_of}
+use Rattle.papaya_core_store.specs.Store.{StoreState, Stored}
+use Rattle.papaya_core_store.specs.Tables.{table_of, word_at}
+use Rattle.papaya_core_store.specs.Scans.{PerformsScan}
+use Rattle.papaya_core_timeline.specs.declared.trace.Event.{Event}
+use Rattle.papaya_core_timeline.specs.Advances.{Advances}
+use Rattle.papaya_core_timeline.specs.Core.{CoreState}
+use Rattle.papaya_core_timeline.specs.Kept.{IsLawfulCore}
+use Rattle.papaya_core_timeline.specs.Resizes.{Resizes}
+use Rattle.papaya_core_timeline.specs.Runs.{Steps}
+use Rattle.papaya_core_timeline.specs.ScanGoes.{Scans, unheard}
+use Rattle.papaya_core_timeline.proofs.StoreLemmas.{LogsOrNot, matched, of_logs, own_logs, part_logs}
 use Rattle.papaya_core.specs.Limits.{IsSpent}
 use Rattle.papaya_core.proofs.NumbersTaken.{spent_by}
 

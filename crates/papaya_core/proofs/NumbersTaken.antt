@@ -1,16 +1,16 @@
 -- How many numbers for pairs were taken: no more than the limit says, and each call has the core's limit.
 use Rattle.std.proofs.Common.{◌≡◌, ℕ, ◌+◌, ◌<◌, ◌≤◌, Bool, List, [], ◌∷◌, Option, None, Some, MatchOption, sym, ◌∙◌, ap, subst, arith}
-use Rattle.papaya_ask.specs.declared.ask.At.TheVariants.{Made}
-use Rattle.papaya_law.specs.Allows.{Allows, AllAllowed}
-use Rattle.papaya_law.specs.Exchange.{Setting, State, Exchange, Open, Claim, Replace, Bury, Link}
-use Rattle.papaya_law.specs.Exchange.{Mark, Close, Place, Finish, Advance, Promote, Abort, Take}
-use Rattle.papaya_law.specs.Exchange.{after, run, start}
+use Rattle.papaya_call.specs.declared.ask.At.TheVariants.{Made}
+use Rattle.papaya_words_law.specs.Allows.{Allows, AllAllowed}
+use Rattle.papaya_words_law.specs.Exchange.{Setting, State, Exchange, Open, Claim, Replace, Bury, Link}
+use Rattle.papaya_words_law.specs.Exchange.{Mark, Close, Place, Finish, Advance, Promote, Abort, Take}
+use Rattle.papaya_words_law.specs.Exchange.{after, run, start}
 use Rattle.papaya_call.specs.declared.made.Number.TheVariants.{Free}
 use Rattle.papaya_call_law.specs.Relies.{ReliesNumber}
-use Rattle.papaya_store.specs.declared.pairs.Running.{Running}
-use Rattle.papaya_timeline.specs.Callers.{running}
-use Rattle.papaya_timeline.specs.Core.{CoreState}
-use Rattle.papaya_timeline.specs.Kept.{IsLawfulCore, coding_of, low, setting_of}
+use Rattle.papaya_core_store.specs.declared.pairs.Running.{Running}
+use Rattle.papaya_core_timeline.specs.Callers.{running}
+use Rattle.papaya_core_timeline.specs.Core.{CoreState}
+use Rattle.papaya_core_timeline.specs.Kept.{IsLawfulCore, coding_of, low, setting_of}
 use Rattle.papaya_core.specs.Limits.{IsSpent, IsWithin}
 
 -- no more than the limit, where there is one

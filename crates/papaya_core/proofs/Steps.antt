@@ -1,42 +1,42 @@
 -- One step of what was under way keeps a core lawful and counted, and is a step of a caller.
 use Rattle.std.proofs.Common.{◌≡◌, inl, inr, Bool, ℕ, false, true, List, Option, None, Some, refl, sym, ◌∙◌, ap, subst}
 use Rattle.std.specs.Cmp.{IsEquivalence}
-use Rattle.papaya_ask.specs.declared.call.Reply.{Reply}
+use Rattle.papaya_call.specs.declared.call.Reply.{Reply}
 use Rattle.papaya_call.specs.Answers.{Says}
-use Rattle.papaya_chain.specs.declared.resizer.Resizer.{Resizer}
-use Rattle.papaya_chain.specs.declared.resizer.State.{State as Stage}
-use Rattle.papaya_chain.specs.declared.resizer.State.TheVariants as stages
-use Rattle.papaya_chain.specs.Machine.{ask_of}
-use Rattle.papaya_chain.specs.Resizer as resizer
-use Rattle.papaya_law.specs.Exchange.{run, start}
-use Rattle.papaya_store.specs.declared.pairs.Running.{Running}
-use Rattle.papaya_store.specs.Store.{KeepsPairs}
-use Rattle.papaya_keys.specs.Hashes.{hash_of}
-use Rattle.papaya_timeline.specs.declared.seat.Work.{Work}
-use Rattle.papaya_timeline.specs.declared.seat.Work.TheVariants as works
-use Rattle.papaya_timeline.specs.declared.trace.Event.{Event}
-use Rattle.papaya_timeline.specs.Advances.{AddsToShard, Advances}
-use Rattle.papaya_timeline.specs.Callers.{call_in, resizer_in, running, scanner_in, scanning, with_work, working}
-use Rattle.papaya_timeline.specs.Core.{CoreState}
-use Rattle.papaya_timeline.specs.Counted.{IsCounted}
-use Rattle.papaya_timeline.specs.Kept.{IsKept, IsLawfulCore, coding_of, low, setting_of}
-use Rattle.papaya_timeline.specs.Intends.{KeepsIntents}
-use Rattle.papaya_timeline.specs.Moves.{MovesMap}
-use Rattle.papaya_timeline.specs.Resizes.{Resizes}
-use Rattle.papaya_timeline.specs.Runs.{Steps}
-use Rattle.papaya_timeline.proofs.CallersLemmas.{same_item}
-use Rattle.papaya_timeline.proofs.CountedLemmas.{counted_step}
-use Rattle.papaya_timeline.proofs.CountedResized.{counted_resize}
-use Rattle.papaya_timeline.proofs.HeadlineLemmas.{advance-core, lawful_keeps, lawful_moves, lawful_resizes, resize-core}
-use Rattle.papaya_timeline.proofs.IntentSteps.{call_kept, resizer_kept, scanner_kept}
-use Rattle.papaya_timeline.proofs.KeptCore.{keys_lawful, lawful_caused, step_lawful}
-use Rattle.papaya_timeline.proofs.KeptResized.{left, resize_kept, stage_left}
-use Rattle.papaya_timeline.proofs.ResizerLaws.{resizer_refused}
-use Rattle.papaya_timeline.specs.ScanGoes.{Scans}
-use Rattle.papaya_timeline.proofs.LawfulScans.{lawful_asks, lawful_scan_caused, scan_counted, scan_keeps, scan_lawful, scan_moved}
-use Rattle.papaya_chain.specs.declared.scan_ask.ScanAsk.TheVariants as scan_asks
-use Rattle.papaya_chain.specs.Scanner as scanner
-use Rattle.papaya_store.specs.declared.scans.Scanning.{Scanning}
+use Rattle.papaya_call.specs.declared.chain.resizer.Resizer.{Resizer}
+use Rattle.papaya_call.specs.declared.chain.resizer.ResizerState.{ResizerState as Stage}
+use Rattle.papaya_call.specs.declared.chain.resizer.ResizerState.TheVariants as stages
+use Rattle.papaya_call.specs.ChainMachine.{ask_of}
+use Rattle.papaya_call.specs.Resizer as resizer
+use Rattle.papaya_words_law.specs.Exchange.{run, start}
+use Rattle.papaya_core_store.specs.declared.pairs.Running.{Running}
+use Rattle.papaya_core_store.specs.Store.{KeepsPairs}
+use Rattle.papaya_words_keys.specs.Hashes.{hash_of}
+use Rattle.papaya_core_timeline.specs.declared.seat.Work.{Work}
+use Rattle.papaya_core_timeline.specs.declared.seat.Work.TheVariants as works
+use Rattle.papaya_core_timeline.specs.declared.trace.Event.{Event}
+use Rattle.papaya_core_timeline.specs.Advances.{AddsToShard, Advances}
+use Rattle.papaya_core_timeline.specs.Callers.{call_in, resizer_in, running, scanner_in, scanning, with_work, working}
+use Rattle.papaya_core_timeline.specs.Core.{CoreState}
+use Rattle.papaya_core_timeline.specs.Counted.{IsCounted}
+use Rattle.papaya_core_timeline.specs.Kept.{IsKept, IsLawfulCore, coding_of, low, setting_of}
+use Rattle.papaya_core_timeline.specs.Intends.{KeepsIntents}
+use Rattle.papaya_core_timeline.specs.Moves.{MovesMap}
+use Rattle.papaya_core_timeline.specs.Resizes.{Resizes}
+use Rattle.papaya_core_timeline.specs.Runs.{Steps}
+use Rattle.papaya_core_timeline.proofs.CallersLemmas.{same_item}
+use Rattle.papaya_core_timeline.proofs.CountedLemmas.{counted_step}
+use Rattle.papaya_core_timeline.proofs.CountedResized.{counted_resize}
+use Rattle.papaya_core_timeline.proofs.HeadlineLemmas.{advance-core, lawful_keeps, lawful_moves, lawful_resizes, resize-core}
+use Rattle.papaya_core_timeline.proofs.IntentSteps.{call_kept, resizer_kept, scanner_kept}
+use Rattle.papaya_core_timeline.proofs.KeptCore.{keys_lawful, lawful_caused, step_lawful}
+use Rattle.papaya_core_timeline.proofs.KeptResized.{left, resize_kept, stage_left}
+use Rattle.papaya_core_timeline.proofs.ResizerLaws.{resizer_refused}
+use Rattle.papaya_core_timeline.specs.ScanGoes.{Scans}
+use Rattle.papaya_core_timeline.proofs.LawfulScans.{lawful_asks, lawful_scan_caused, scan_counted, scan_keeps, scan_lawful, scan_moved}
+use Rattle.papaya_call.specs.declared.chain.ask.ScanAsk.TheVariants as scan_asks
+use Rattle.papaya_call.specs.Scanner as scanner
+use Rattle.papaya_core_store.specs.declared.scans.Scanning.{Scanning}
 use Rattle.papaya_core.specs.Goes.{CallGoes, IsStandingWork, ResizerGoes, ScanGoes, WorkGoes}
 
 -- a resizer that has not ended asks something

@@ -1,16 +1,16 @@
 -- What a scan has given once its ask was answered.
 use Rattle.std.proofs.Common.{◌≡◌, inl, inr, ℕ, Bool, None, Some, [], ◌++◌, append-nil, sym, ◌∙◌, ap}
-use Rattle.papaya_words.specs.declared.probe.Refused.TheVariants.{Memory}
+use Rattle.papaya_words.specs.declared.refused.Refused.TheVariants.{Memory}
 use Rattle.papaya_call.specs.Answers.{Says}
-use Rattle.papaya_chain.specs.declared.ask.Answer.{Answer}
-use Rattle.papaya_chain.specs.declared.ask.Answer.TheVariants as answers
-use Rattle.papaya_store.specs.Store.{StoreState}
-use Rattle.papaya_timeline.specs.ScanGoes.{unheard}
-use Rattle.papaya_chain.specs.declared.scan_ask.ScanAsk.{ScanAsk}
-use Rattle.papaya_chain.specs.declared.scan_ask.ScanAsk.TheVariants.{AddToShard, Copy, Given, Show}
-use Rattle.papaya_store.specs.declared.scans.Scanning.{Scanning}
-use Rattle.papaya_store.specs.Scans.{PerformsScan}
-use Rattle.papaya_timeline.specs.Outcomes.{given_by}
+use Rattle.papaya_call.specs.declared.chain.ask.Answer.{Answer}
+use Rattle.papaya_call.specs.declared.chain.ask.Answer.TheVariants as answers
+use Rattle.papaya_core_store.specs.Store.{StoreState}
+use Rattle.papaya_core_timeline.specs.ScanGoes.{unheard}
+use Rattle.papaya_call.specs.declared.chain.ask.ScanAsk.{ScanAsk}
+use Rattle.papaya_call.specs.declared.chain.ask.ScanAsk.TheVariants.{AddToShard, Copy, Given, Show}
+use Rattle.papaya_core_store.specs.declared.scans.Scanning.{Scanning}
+use Rattle.papaya_core_store.specs.Scans.{PerformsScan}
+use Rattle.papaya_core_timeline.specs.Outcomes.{given_by}
 
 -- where its list could grow, what it gave before and what its ask gave
 module _ {K V S A : Type 0} (eq : K → K → Bool) (says : Says K V A) (hash : S → K → ℕ) (refuse : Bool) (store : StoreState K V S) (v : Scanning A)

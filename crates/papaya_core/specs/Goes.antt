@@ -1,30 +1,30 @@
 -- What one step makes of the work that a caller has under way.
 use Rattle.std.specs.Prelude.{◌≡◌, ℕ, ℤ, Bool, IsSome, Option, None, Some}
 use Rattle.papaya_words.specs.Counter.{added}
-use Rattle.papaya_ask.specs.declared.ask.Ask.TheVariants.{AddToShard}
-use Rattle.papaya_ask.specs.declared.call.Reply.{Reply}
-use Rattle.papaya_ask.specs.declared.copy_ask.CopyAsk.{CopyAsk}
+use Rattle.papaya_call.specs.declared.ask.Ask.TheVariants.{AddToShard}
+use Rattle.papaya_call.specs.declared.call.Reply.{Reply}
+use Rattle.papaya_call.specs.declared.copy_ask.CopyAsk.{CopyAsk}
 use Rattle.papaya_call.specs.Answers.{Says}
-use Rattle.papaya_chain.specs.declared.ask.Ask.TheVariants as asks
-use Rattle.papaya_chain.specs.declared.ask.Answer.{Answer}
-use Rattle.papaya_chain.specs.declared.resizer.Resizer.{Resizer}
-use Rattle.papaya_chain.specs.Machine.{IsStanding, after, ask_of, kind_of_ask}
-use Rattle.papaya_chain.specs.Resizer as resizer
-use Rattle.papaya_store.specs.declared.pairs.Running.{Running}
-use Rattle.papaya_store.specs.Asks.{PerformsAsk}
-use Rattle.papaya_store.specs.Copies.{PerformsCopy}
-use Rattle.papaya_store.specs.Store.{StoreState}
-use Rattle.papaya_timeline.specs.declared.seat.Work.{Work}
-use Rattle.papaya_timeline.specs.declared.seat.Work.TheVariants as works
-use Rattle.papaya_timeline.specs.declared.trace.Event.{Event}
-use Rattle.papaya_timeline.specs.Advances.{event_of, goes_on, reply_in}
-use Rattle.papaya_timeline.specs.Callers.{as_work}
-use Rattle.papaya_timeline.specs.ScanGoes.{event_of_scan, reply_or, unheard}
-use Rattle.papaya_chain.specs.declared.scan_ask.ScanAsk.{ScanAsk}
-use Rattle.papaya_chain.specs.declared.scan_ask.ScanAsk.TheVariants as scan_asks
-use Rattle.papaya_chain.specs.Scanner as scanner
-use Rattle.papaya_store.specs.declared.scans.Scanning.{Scanning}
-use Rattle.papaya_store.specs.Scans.{PerformsScan}
+use Rattle.papaya_call.specs.declared.chain.ask.Ask.TheVariants as asks
+use Rattle.papaya_call.specs.declared.chain.ask.Answer.{Answer}
+use Rattle.papaya_call.specs.declared.chain.resizer.Resizer.{Resizer}
+use Rattle.papaya_call.specs.ChainMachine.{IsStanding, after, ask_of, kind_of_ask}
+use Rattle.papaya_call.specs.Resizer as resizer
+use Rattle.papaya_core_store.specs.declared.pairs.Running.{Running}
+use Rattle.papaya_core_store.specs.Asks.{PerformsAsk}
+use Rattle.papaya_core_store.specs.CopyAsks.{PerformsCopy}
+use Rattle.papaya_core_store.specs.Store.{StoreState}
+use Rattle.papaya_core_timeline.specs.declared.seat.Work.{Work}
+use Rattle.papaya_core_timeline.specs.declared.seat.Work.TheVariants as works
+use Rattle.papaya_core_timeline.specs.declared.trace.Event.{Event}
+use Rattle.papaya_core_timeline.specs.Advances.{event_of, goes_on, reply_in}
+use Rattle.papaya_core_timeline.specs.Callers.{as_work}
+use Rattle.papaya_core_timeline.specs.ScanGoes.{event_of_scan, reply_or, unheard}
+use Rattle.papaya_call.specs.declared.chain.ask.ScanAsk.{ScanAsk}
+use Rattle.papaya_call.specs.declared.chain.ask.ScanAsk.TheVariants as scan_asks
+use Rattle.papaya_call.specs.Scanner as scanner
+use Rattle.papaya_core_store.specs.declared.scans.Scanning.{Scanning}
+use Rattle.papaya_core_store.specs.Scans.{PerformsScan}
 
 -- One ask of a call that resizes the map was answered, and it goes on unless it has ended.
 module _ {K V S A : Type 0} (eq : K → K → Bool) (hash : S → K → ℕ) (refuse : Bool)

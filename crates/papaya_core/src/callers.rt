@@ -1,9 +1,9 @@
 //! The callers and their calls under way: on one key, to resize the map, or to scan a table.
 ghost use Rattle.std.specs.Prelude.{◌≡◌, ◌<◌, length, [], ◌∷◌, ◌++◌, None, Some, is_some, IsSome, OnOk, IfErr, slice_get, slice_set};
-ghost use Rattle.papaya_timeline.specs.Callers.{working, with_seat, with_work, IsSeated, IsSeatAt};
+ghost use Rattle.papaya_core_timeline.specs.Callers.{working, with_seat, with_work, IsSeated, IsSeatAt};
 
-pub use papaya_timeline::seat::{Seat, Work};
-use papaya_words::probe::Refused;
+pub use papaya_core_timeline::seat::{Seat, Work};
+use papaya_words::refused::Refused;
 use std::alloc::Global;
 use std::marker::Model;
 
@@ -16,7 +16,7 @@ pub struct Callers<K, V, A> {
 
 impl<K, V, A> Model for Callers<K, V, A> {
     ghost use Rattle.std.specs.Prelude.{List};
-    ghost use Rattle.papaya_timeline.specs.declared.seat.Seat.{Seat};
+    ghost use Rattle.papaya_core_timeline.specs.declared.seat.Seat.{Seat};
 
     ghost Value = { List (Seat K V A) };
 

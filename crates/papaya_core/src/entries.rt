@@ -1,18 +1,17 @@
 //! The entries of a trace.
 ghost use Rattle.std.specs.Prelude.{◌≡◌, ◌+◌, ◌<◌, ◌≤◌, ◌∷◌, reverse, OnOk, IfErr, vec_len, vec_capacity};
-ghost use Rattle.papaya_timeline.specs.Advances.{answered_event, call_event, copy_event, event_of, exchange_event, shown_event};
-ghost use Rattle.papaya_timeline.specs.Outcomes.{as_reply};
-ghost use Rattle.papaya_timeline.specs.Runs.{with_step};
-ghost use Rattle.papaya_timeline.specs.ScanGoes.{event_of_scan};
+ghost use Rattle.papaya_core_timeline.specs.Advances.{answered_event, call_event, copy_event, event_of, exchange_event, shown_event};
+ghost use Rattle.papaya_core_timeline.specs.Outcomes.{as_reply};
+ghost use Rattle.papaya_core_timeline.specs.Runs.{with_step};
+ghost use Rattle.papaya_core_timeline.specs.ScanGoes.{event_of_scan};
 
-use papaya_ask::ask::{Answer as CallAnswer, Ask as CallAsk, StepKind};
-use papaya_ask::call::Reply;
-use papaya_ask::copy_ask::CopyAsk;
-use papaya_chain::ask::{Answer, Ask};
-use papaya_chain::scan_ask::ScanAsk;
-use papaya_timeline::outcome::Outcome;
-use papaya_timeline::trace::{Entry, Event};
-use papaya_words::probe::Refused;
+use papaya_call::ask::{Answer as CallAnswer, Ask as CallAsk, StepKind};
+use papaya_call::call::Reply;
+use papaya_call::chain::ask::{Answer, Ask, ScanAsk};
+use papaya_call::copy_ask::CopyAsk;
+use papaya_core_timeline::outcome::Outcome;
+use papaya_core_timeline::trace::{Entry, Event};
+use papaya_words::refused::Refused;
 use papaya_words::word::Word;
 
 /// Returns the event of an exchange that was made.

@@ -1,8 +1,7 @@
 //! The map on plain words, under any schedule of any number of callers' steps.
+//! It uses `papaya_core_store` and the law of `papaya_core_timeline`.
+//! Tests of interleavings build on it, and `papaya-run core`.
 #![tactic(auto)]
-
-pub use papaya_store::{mode, pairs, store};
-pub use papaya_timeline::{outcome, solo, trace};
 
 pub mod callers;
 mod entries;

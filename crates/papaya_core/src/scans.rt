@@ -1,27 +1,26 @@
 //! One step of a call that scans a table.
 ghost use Rattle.std.specs.Prelude.{◌≡◌, ℕ, IsSome, Some, length};
 ghost use Rattle.papaya_words.specs.Table.{TableWords};
-ghost use Rattle.papaya_ask.specs.Search.{IsSize};
-ghost use Rattle.papaya_keys.specs.Hashes.{hash_of};
-ghost use Rattle.papaya_store.specs.Tables.{table_of};
-ghost use Rattle.papaya_chain.specs.Scanner.{IsStandingScanner, ask_of};
+ghost use Rattle.papaya_call.specs.Search.{IsSize};
+ghost use Rattle.papaya_words_keys.specs.Hashes.{hash_of};
+ghost use Rattle.papaya_core_store.specs.Tables.{table_of};
+ghost use Rattle.papaya_call.specs.Scanner.{IsStandingScanner, ask_of};
 ghost use Rattle.papaya_core.specs.Goes.{ScanGoes};
-ghost use Rattle.papaya_timeline.specs.Outcomes.{AnswersWalk, ListsGiven, as_reply, reply_told};
-ghost use Rattle.papaya_timeline.specs.ScanGoes.{unheard};
+ghost use Rattle.papaya_core_timeline.specs.Outcomes.{AnswersWalk, ListsGiven, as_reply, reply_told};
+ghost use Rattle.papaya_core_timeline.specs.ScanGoes.{unheard};
 
-use crate::callers::Work;
 use crate::entries::event_of_scan;
-use papaya_ask::ask::Answer as CallAnswer;
-use papaya_ask::call::Reply;
 use papaya_call::answers::Answers;
-use papaya_chain::ask::Answer;
-use papaya_chain::scan_ask::ScanAsk;
-use papaya_chain::scanner::Scan;
-use papaya_store::scans::{Scanning, perform_scan};
-use papaya_store::store::Store;
-use papaya_timeline::outcome::Outcome;
-use papaya_timeline::trace::Event;
-use papaya_words::probe::Refused;
+use papaya_call::ask::Answer as CallAnswer;
+use papaya_call::call::Reply;
+use papaya_call::chain::ask::{Answer, ScanAsk};
+use papaya_call::chain::scanner::Scan;
+use papaya_core_store::scans::{Scanning, perform_scan};
+use papaya_core_store::store::Store;
+use papaya_core_timeline::outcome::Outcome;
+use papaya_core_timeline::seat::Work;
+use papaya_core_timeline::trace::Event;
+use papaya_words::refused::Refused;
 use std::alloc::Global;
 use std::hash::{BuildHasher, Hash};
 

@@ -3,7 +3,7 @@ ghost use Rattle.std.specs.Prelude.{◌≡◌, true, fold};
 ghost use Rattle.std.specs.Hash.DefaultHasher as sip;
 
 use crate::expect::is;
-use papaya_keys::guard::{Collector, Equivalent, Guard, TextKey};
+use papaya_words_keys::guard::{Collector, Equivalent, Guard, TextKey};
 use std::alloc::Global;
 use std::hash::{DefaultHasher, Hash, Hasher};
 use std::test::Fail;

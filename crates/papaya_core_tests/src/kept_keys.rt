@@ -7,12 +7,12 @@ ghost use Rattle.std.specs.Hash as fed;
 
 use crate::expect::{is, is_at};
 use crate::plain::{MODES, WHOLE};
-use papaya_ask::call::{Call, Reply};
 use papaya_call::answers::{Listed, Operation};
-use papaya_core::outcome::Outcome;
+use papaya_call::call::{Call, Reply};
 use papaya_core::schedule::Core;
+use papaya_core_timeline::outcome::Outcome;
 use papaya_testing::times::{APART, TOGETHER, Times};
-use papaya_words::probe::ResizeMode;
+use papaya_words::resize_mode::ResizeMode;
 use std::alloc::Global;
 use std::hash::{Hash, Hasher};
 use std::process::Abort;

@@ -1,6 +1,6 @@
-//! The tests of the crates below the maps: the words of slots and tables, machines, guards and
-//! queries, and the map on plain words under schedules of its callers' steps. The repository's
-//! shell tests run the cases that papaya-run can show.
+//! Tests of words, of machines, and of `Core` under schedules.
+//! It uses `papaya_core` and the helpers of `papaya_testing`.
+//! No crate builds on it.
 #![tactic(auto)]
 
 #[cfg(test)]

@@ -5,13 +5,14 @@ use crate::plain::{
     Asked, MODES, Numbers, WHOLE, begin, compute, removal, replies, reply_to, times, value,
     value_of,
 };
-use papaya_ask::ask::StepKind;
-use papaya_ask::call::{Call, Reply};
 use papaya_call::answers::Operation;
+use papaya_call::ask::StepKind;
+use papaya_call::call::{Call, Reply};
 use papaya_core::schedule::Core;
-use papaya_core::trace::{Event, Trace, Turn};
+use papaya_core_timeline::trace::{Event, Trace, Turn};
 use papaya_testing::times::APART;
-use papaya_words::probe::{Refused, ResizeMode};
+use papaya_words::refused::Refused;
+use papaya_words::resize_mode::ResizeMode;
 use std::alloc::Global;
 use std::process::Abort;
 use std::test::Fail;

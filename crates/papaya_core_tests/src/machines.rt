@@ -5,10 +5,11 @@ ghost use Rattle.papaya_words.specs.Mode.{IsChunked};
 ghost use Rattle.papaya_call.specs.Machine.{IsFit, IsStanding};
 
 use crate::expect::is;
-use papaya_ask::ask::{Answer, Ask, At, OpKind, StepKind};
-use papaya_ask::call::{Reply, Task};
+use papaya_call::ask::{Answer, Ask, At, OpKind, StepKind};
+use papaya_call::call::{Reply, Task};
 use papaya_call::machine::Machine;
-use papaya_words::probe::{Refused, ResizeMode};
+use papaya_words::refused::Refused;
+use papaya_words::resize_mode::ResizeMode;
 use papaya_words::word::SHUT;
 use std::process::Abort;
 

@@ -1,13 +1,13 @@
 // A core of numbers, calls that its callers make whole or in part, and their replies, with pairs
 // named by their values.
 use crate::expect::is_at;
-use papaya_ask::ask::StepKind;
-use papaya_ask::call::{Call, Reply};
 use papaya_call::answers::{Listed, Operation};
+use papaya_call::ask::StepKind;
+use papaya_call::call::{Call, Reply};
 use papaya_core::schedule::Core;
-use papaya_core::trace::{Event, Trace, Turn};
+use papaya_core_timeline::trace::{Event, Trace, Turn};
 use papaya_testing::times::Times;
-use papaya_words::probe::ResizeMode;
+use papaya_words::resize_mode::ResizeMode;
 use std::alloc::Global;
 use std::hash::BuildHasher;
 use std::process::Abort;

@@ -1,9 +1,9 @@
 // Calls as values, and their results at a key according to a plain map.
 ghost use Rattle.std.specs.Prelude.{◌≡◌};
 
-use papaya_ask::call::{Call, Reply};
 use papaya_call::answers::{Answers, Operation};
-use papaya_words::probe::Refused;
+use papaya_call::call::{Call, Reply};
+use papaya_words::refused::Refused;
 
 /// A closure whose result depends only on its argument.
 #[derive(Clone, Copy)]

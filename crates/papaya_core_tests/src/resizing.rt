@@ -6,13 +6,14 @@ use crate::plain::{
     Asked, MODES, Numbers, WHOLE, answers_in, begin, by_value, go_on, holds, removal, replies,
     reply_to, retain_of_nothing, stores, times, value,
 };
-use papaya_ask::ask::StepKind;
-use papaya_ask::call::{Call, Reply};
-use papaya_core::outcome::Outcome;
+use papaya_call::ask::StepKind;
+use papaya_call::call::{Call, Reply};
 use papaya_core::schedule::Core;
-use papaya_core::trace::{Trace, Turn};
+use papaya_core_timeline::outcome::Outcome;
+use papaya_core_timeline::trace::{Trace, Turn};
 use papaya_testing::times::{APART, TOGETHER};
-use papaya_words::probe::{Refused, ResizeMode};
+use papaya_words::refused::Refused;
+use papaya_words::resize_mode::ResizeMode;
 use std::alloc::Global;
 use std::process::Abort;
 use std::test::Fail;

@@ -4,12 +4,12 @@
 use crate::expect::is_at;
 use crate::plain::{MODES, WHOLE, by_value, value};
 use crate::plans::{ON_ALL, Plan, Says, Told, as_allowed, on_key};
-use papaya_ask::call::Reply;
-use papaya_core::outcome::Outcome;
+use papaya_call::call::Reply;
 use papaya_core::schedule::Core;
+use papaya_core_timeline::outcome::Outcome;
 use papaya_testing::same::{FIRST, LAST};
 use papaya_testing::times::APART;
-use papaya_words::probe::ResizeMode;
+use papaya_words::resize_mode::ResizeMode;
 use std::alloc::Global;
 use std::hash::BuildHasher;
 use std::process::Abort;

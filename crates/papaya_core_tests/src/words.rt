@@ -1,9 +1,11 @@
 // Worked values, for errors that clause and code might share, and tests that each call can succeed.
 use crate::expect::{is, is_at};
 use papaya_words::counter::Counter;
+use papaya_words::fresh::FreshWords;
 use papaya_words::limits::{DEFAULT_CHUNK, FIRST_TABLE_LEN, FIRST_TABLE_LIMIT, MAX_SHARDS};
-use papaya_words::probe::{Probe, Refused, ResizeMode, entries_for, limit};
-use papaya_words::room::Room;
+use papaya_words::probe::{Probe, entries_for, limit};
+use papaya_words::refused::Refused;
+use papaya_words::resize_mode::ResizeMode;
 use papaya_words::table::{Table, next_len, next_limit, table_len};
 use papaya_words::word::{Kind, SHUT, Word, h1, hint, legal, may_hold};
 use std::test::Fail;
@@ -184,7 +186,7 @@ fn sums_of_shards(rt: HostRuntime) -> Result<(), Fail> {
 
 #[test]
 fn words_of_a_table(rt: HostRuntime) -> Result<(), Fail> {
-    let mut table = Table::new(rt.alloc(), Room::new(rt.alloc()), 1, 8, 15, 3)?;
+    let mut table = Table::new(rt.alloc(), FreshWords::new(rt.alloc()), 1, 8, 15, 3)?;
     is(
         &rt,
         (table.number(), table.len(), table.limit()),
@@ -202,7 +204,7 @@ fn words_of_a_table(rt: HostRuntime) -> Result<(), Fail> {
     );
     table.set_next(2);
     table.set_aborted(1);
-    table.set_done(1, 1);
+    table.set_chunk_copied(1, 1);
     table.put(6, 3073);
     is(&rt, (table.next(), table.aborted()), (2, 1));
     is(

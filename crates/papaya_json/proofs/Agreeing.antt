@@ -4,9 +4,9 @@ use Rattle.std.proofs.Common.{Some, None, MatchOption, option_map, refl, sym, ap
 use Rattle.std.proofs.lemmas.Bool.{cases_Bool, cond-true, cond-false, true≢false}
 use Rattle.std.specs.Cmp.{IsEquivalence}
 use Rattle.std.specs.Prelude.{is_some}
-use Rattle.papaya_law.specs.Content.{AreApart, lookup}
-use Rattle.papaya_timeline.specs.Content.{content, map_in}
-use Rattle.papaya_store.specs.Store.{StoreState, Stored}
+use Rattle.papaya_words_law.specs.Content.{AreApart, lookup}
+use Rattle.papaya_core_timeline.specs.Content.{content, map_in}
+use Rattle.papaya_core_store.specs.Store.{StoreState, Stored}
 use Rattle.papaya_seq.specs.Clones.{Agree}
 use Rattle.papaya_seq.specs.Entries.{Entries, entries_in, kept, nothing, put, put_all}
 use Rattle.papaya_seq.specs.Map.{entry_of}

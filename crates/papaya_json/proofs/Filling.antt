@@ -2,10 +2,10 @@
 use Rattle.std.proofs.Common.{◌≡◌, Bool, List, [], ◌∷◌, ◌++◌, Ok, Err, ◌∙◌}
 use Rattle.std.specs.List.{AllZip}
 use Rattle.papaya_words.specs.declared.limits.TheConstants.{DEFAULT_CHUNK}
-use Rattle.papaya_words.specs.declared.probe.Refused.{Refused}
-use Rattle.papaya_words.specs.declared.probe.ResizeMode.TheVariants.{Incremental}
-use Rattle.papaya_timeline.specs.Content.{content}
-use Rattle.papaya_timeline.specs.New.{IsNew}
+use Rattle.papaya_words.specs.declared.refused.Refused.{Refused}
+use Rattle.papaya_words.specs.declared.resize_mode.ResizeMode.TheVariants.{Incremental}
+use Rattle.papaya_core_timeline.specs.Content.{content}
+use Rattle.papaya_core_timeline.specs.New.{IsNew}
 use Rattle.papaya_seq.specs.Entries.{Fills, IsCutAnew, IsPut}
 use Rattle.papaya_seq.specs.Map.{MapState, core_of}
 use Rattle.papaya_seq.proofs.Filled.{cut, fills_more, fills_none, just, new_with_own}

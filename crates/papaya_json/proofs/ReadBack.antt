@@ -9,9 +9,9 @@ use Rattle.serde_json.specs.View.{members_view, view}
 use Rattle.serde_json.specs.declared.value.Value.{Value, Array, out-Value, the_lemmas}
 use Rattle.serde_json.specs.declared.value.Value.TheOpen.{Value-F}
 use Rattle.serde_json.proofs.Views.{view-Object}
-use Rattle.papaya_law.specs.Content.{AreApart}
-use Rattle.papaya_timeline.specs.Content.{content}
-use Rattle.papaya_store.specs.Store.{Stored}
+use Rattle.papaya_words_law.specs.Content.{AreApart}
+use Rattle.papaya_core_timeline.specs.Content.{content}
+use Rattle.papaya_core_store.specs.Store.{Stored}
 use Rattle.papaya_seq.specs.Clones.{AreEqual}
 use Rattle.papaya_seq.specs.Map.{MapState, entry_of}
 use Rattle.papaya_set.specs.Sets.{HaveSameKeys, entry_of_key, keys_of}

@@ -3,8 +3,8 @@ use Rattle.std.specs.Prelude.{◌≡◌, ◌≢◌, Bool, ◌⊎◌, List, Optio
 use Rattle.std.specs.declared.alloc.Global.{Global}
 use Rattle.std.specs.List.{AllZip, Any}
 use Rattle.serde_json.specs.declared.value.Value.{Value, Array}
-use Rattle.papaya_words.specs.declared.probe.Refused.{Refused}
-use Rattle.papaya_words.specs.declared.probe.Refused.TheVariants.{Item, Memory, Shape}
+use Rattle.papaya_words.specs.declared.refused.Refused.{Refused}
+use Rattle.papaya_words.specs.declared.refused.Refused.TheVariants.{Item, Memory, Shape}
 use Rattle.papaya_seq.specs.Map.{MapState}
 use Rattle.papaya_set.specs.Sets.{entry_of_key}
 use Rattle.papaya_json.specs.Reads.{IsRead, IsReadRefusal}

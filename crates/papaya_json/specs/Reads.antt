@@ -1,8 +1,8 @@
 -- Maps and sets that are filled with what a caller's functions read of a list of items.
 use Rattle.std.specs.Prelude.{◌≡◌, Bool, ◌⊎◌, List, ◌∷◌, ◌++◌}
 use Rattle.std.specs.List.{AllZip}
-use Rattle.papaya_words.specs.declared.probe.Refused.{Refused}
-use Rattle.papaya_words.specs.declared.probe.Refused.TheVariants.{Item, Memory}
+use Rattle.papaya_words.specs.declared.refused.Refused.{Refused}
+use Rattle.papaya_words.specs.declared.refused.Refused.TheVariants.{Item, Memory}
 use Rattle.papaya_seq.specs.Entries.{HasJust, IsCutAnew}
 use Rattle.papaya_seq.specs.Map.{MapState}
 

@@ -1,8 +1,8 @@
 -- What is said of the JSON of maps and sets that threads share, by what was stored.
 use Rattle.std.specs.Prelude.{◌≡◌, ◌⊎◌, List}
 use Rattle.std.specs.List.{AllZip, Any}
-use Rattle.papaya_words.specs.declared.probe.Refused.{Refused}
-use Rattle.papaya_words.specs.declared.probe.Refused.TheVariants.{Capacity, Item}
+use Rattle.papaya_words.specs.declared.refused.Refused.{Refused}
+use Rattle.papaya_words.specs.declared.refused.Refused.TheVariants.{Capacity, Item}
 use Rattle.papaya_seq.specs.Map.{IsMakeRefusal}
 
 -- something was read of each of the items, and this is so of what was read

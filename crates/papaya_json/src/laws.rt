@@ -3,8 +3,8 @@
 ghost use Rattle.std.specs.Prelude.{◌≡◌, Bool};
 ghost use Rattle.std.specs.Fn.{FnReturnsAt};
 ghost use Rattle.serde_json.specs.declared.value.Value.{Value as Json};
-ghost use Rattle.papaya_law.specs.Content.{AreApart};
-ghost use Rattle.papaya_timeline.specs.Content.{content};
+ghost use Rattle.papaya_words_law.specs.Content.{AreApart};
+ghost use Rattle.papaya_core_timeline.specs.Content.{content};
 ghost use Rattle.papaya_seq.specs.Clones.{AreEqual};
 ghost use Rattle.papaya_seq.specs.Map.{MapState};
 ghost use Rattle.papaya_set.specs.Sets.{HaveSameKeys, keys_of};
@@ -16,8 +16,8 @@ use serde_json::Value;
 use std::hash::Hash;
 
 /// A map that is read from the JSON of a map is equal to it if the reading functions undo the
-/// writing ones. `text` and `member` are those of [`crate::writing::map_to_value`], `key` and
-/// `value` those of [`crate::reading::map_from_value`].
+/// writing ones. `text` and `member` are those of [`crate::to_value::map_to_value`], `key` and
+/// `value` those of [`crate::from_value::map_from_value`].
 ///
 /// [`papaya_seq::seq::HashMap::len`] states that no two keys of a map are equal.
 pub fn maps_read_back<K: Hash + Eq, V, S, Z, T, W, R, U>(text: &T, member: &W, key: &R, value: &U)

@@ -11,16 +11,18 @@ ghost use Rattle.papaya_json.specs.Objects.{HasNoPair, IsNoObjectOr, IsObject, I
 ghost use Rattle.papaya_json.specs.Objects.{IsPair, IsWriteRefusal};
 ghost use Rattle.papaya_json.specs.Shared.{IsEachStored, IsUnread, IsUnwritten};
 
-use crate::writing::{array_from, object_from};
-use papaya_map::map::{HashMap, Pass};
+use crate::to_value::{array_from, object_from};
+use papaya_map::map::HashMap;
+use papaya_map::pass::Pass;
 use papaya_set::set::HashSet;
-use papaya_words::probe::{Refused, ResizeMode};
+use papaya_words::refused::Refused;
+use papaya_words::resize_mode::ResizeMode;
 use serde_json::{Map, Value};
 use std::alloc::Global;
 use std::hash::{BuildHasher, Hash};
 use std::sync::Wait;
 
-/// Returns a shared map as a JSON object, as [`crate::writing::map_to_value`] does: the object of
+/// Returns a shared map as a JSON object, as [`crate::to_value::map_to_value`] does: the object of
 /// the entries that an iteration returns. If other threads change the map meanwhile, those entries
 /// are as [`papaya_map::map::HashMapRef::iter`] returns them.
 ///
@@ -117,7 +119,7 @@ where
     Ok(map)
 }
 
-/// Returns a shared map of a JSON object, as [`crate::reading::map_from_value`] does: for each
+/// Returns a shared map of a JSON object, as [`crate::from_value::map_from_value`] does: for each
 /// member an entry, whose key and value the functions return, in the order of the members' texts.
 ///
 /// # Errors
@@ -153,8 +155,8 @@ where
     shared_map_of(rt, alloc, members, hasher, key, value)
 }
 
-/// Returns a shared set as a JSON array, as [`crate::writing::set_to_value`] does: the array of the
-/// keys that an iteration returns. If other threads change the set meanwhile, those keys are as
+/// Returns a shared set as a JSON array, as [`crate::to_value::set_to_value`] does: the array of
+/// the keys that an iteration returns. If other threads change the set meanwhile, those keys are as
 /// [`papaya_set::set::HashSetRef::iter`] returns them.
 ///
 /// # Errors
@@ -232,8 +234,8 @@ where
     Ok(set)
 }
 
-/// Returns a shared set of a JSON array, as [`crate::reading::set_from_value`] does: for each item
-/// a key, which the function returns, in the order of the items.
+/// Returns a shared set of a JSON array, as [`crate::from_value::set_from_value`] does: for each
+/// item a key, which the function returns, in the order of the items.
 ///
 /// # Errors
 ///

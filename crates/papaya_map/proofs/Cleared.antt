@@ -1,11 +1,11 @@
 -- Where the closure of a retain says of no pair that it stays, none is left.
 use Rattle.std.proofs.Common.{◌≡◌, inl, inr, ⊎_elim, Bool, true, false, Ok, Err, Result, IfOk, List, [], ◌∷◌, sym, ap, ◌∙◌}
-use Rattle.papaya_words.specs.declared.probe.Refused.{Refused}
-use Rattle.papaya_chain_law.specs.ScanTold.{IsLastAnswer}
-use Rattle.papaya_book.specs.Logs.{Member, Stored}
-use Rattle.papaya_lookup.specs.History.{Change}
-use Rattle.papaya_change.proofs.Showings.{said_only}
-use Rattle.papaya_scan.specs.Leaving.{HasKept, IsCleared}
+use Rattle.papaya_words.specs.declared.refused.Refused.{Refused}
+use Rattle.papaya_call_law.specs.ScanTold.{IsLastAnswer}
+use Rattle.papaya_map_book.specs.Logs.{Member, Stored}
+use Rattle.papaya_map_lookup.specs.History.{Change}
+use Rattle.papaya_map_change.proofs.Showings.{said_only}
+use Rattle.papaya_map_scan.specs.Leaving.{HasKept, IsCleared}
 
 -- a last answer is one of the answers
 last_member : {P : Type 0} (said : List (P × Bool)) (p : P) (stays : Bool) → IsLastAnswer said p stays → Member (p, stays) said

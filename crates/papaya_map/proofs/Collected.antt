@@ -6,15 +6,15 @@ use mathlib.Core.List.{IsPrefix}
 use denote.Bor.{Bor}
 use Rattle.logbook.specs.Pages.{Book}
 use Rattle.papaya_words.specs.Probe.{IsEntriesFor}
-use Rattle.papaya_words.specs.declared.probe.ResizeMode.{ResizeMode}
-use Rattle.papaya_book.specs.Limits.{HasTableFrom}
-use Rattle.papaya_book.specs.Logs.{Stored}
-use Rattle.papaya_book.specs.declared.rule.entry.Begun.{Begun}
-use Rattle.papaya_book.proofs.Lengths.{member_since}
-use Rattle.papaya_book.proofs.Logs.{prefix_trans}
-use Rattle.papaya_change.specs.Changes.{IsPut}
-use Rattle.papaya_lookup.specs.History.{Change}
-use Rattle.papaya_scan.specs.Walked.{Gives, Walked}
+use Rattle.papaya_words.specs.declared.resize_mode.ResizeMode.{ResizeMode}
+use Rattle.papaya_map_book.specs.Limits.{HasTableFrom}
+use Rattle.papaya_map_book.specs.Logs.{Stored}
+use Rattle.papaya_map_book.specs.declared.rule.entry.Begun.{Begun}
+use Rattle.papaya_map_book.proofs.Lengths.{member_since}
+use Rattle.papaya_map_book.proofs.Logs.{prefix_trans}
+use Rattle.papaya_map_change.specs.Changes.{IsPut}
+use Rattle.papaya_map_lookup.specs.History.{Change}
+use Rattle.papaya_map_scan.specs.Walked.{Gives, Walked}
 use Rattle.papaya_seq.proofs.Walked.{map_push}
 use Rattle.papaya_seq.specs.Map.{deref_pair}
 use Rattle.papaya_map.specs.Collected.{AreStored, AreWalked}

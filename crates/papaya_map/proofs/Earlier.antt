@@ -3,13 +3,13 @@ use Rattle.std.proofs.Common.{inl, inr, Bool, Option, None, Some, Result, Ok, Er
 use Rattle.std.specs.Prelude.{IfOk}
 use mathlib.Core.List.{IsPrefix}
 use denote.Bor.{Bor}
-use Rattle.papaya_words.specs.declared.probe.Refused.{Refused}
-use Rattle.papaya_book.specs.Logs.{Stored}
-use Rattle.papaya_change.specs.Changes.{IsChangeOf, IsPut}
-use Rattle.papaya_change.specs.RemovalAnswers.{IsRemoved}
-use Rattle.papaya_change.specs.Showings.{WasHeld}
-use Rattle.papaya_lookup.specs.Answers.{IsFoundBetween}
-use Rattle.papaya_lookup.specs.History.{Change}
+use Rattle.papaya_words.specs.declared.refused.Refused.{Refused}
+use Rattle.papaya_map_book.specs.Logs.{Stored}
+use Rattle.papaya_map_change.specs.Changes.{IsChangeOf, IsPut}
+use Rattle.papaya_map_change.specs.RemovalAnswers.{IsRemoved}
+use Rattle.papaya_map_change.specs.Showings.{WasHeld}
+use Rattle.papaya_map_lookup.specs.Answers.{IsFoundBetween}
+use Rattle.papaya_map_lookup.specs.History.{Change}
 use Rattle.papaya_map.specs.Fixed.{Pinned}
 use Rattle.papaya_map.specs.Plain.{IsOfHistory, IsOfHistorySince}
 use Rattle.papaya_map.specs.Storing.{IsInPlace, IsThere, IsThereBy, IsUpdated}

@@ -2,7 +2,7 @@
 use Rattle.std.proofs.Common.{ℕ, ◌*◌, ◌-◌, ◌<◌, ◌≤◌, List, arith}
 use Rattle.std.specs.Prelude.{max, ◌/◌}
 use Rattle.papaya_words.specs.Probe.{IsEntriesFor}
-use Rattle.papaya_book.specs.Limits.{HasTableFrom}
+use Rattle.papaya_map_book.specs.Limits.{HasTableFrom}
 use Rattle.papaya_map.specs.Fixed.{IsForInitial}
 
 -- where no initial capacity was asked for, a table may be for any number of pairs

@@ -3,13 +3,13 @@ use base.Fml.{Lft}
 use contract.BorrowLft.{◌⊑◌}
 use denote.RattleType.{RattleType}
 use borrow.Author.Rules.{lives}
-use Rattle.papaya_book.specs.contracts.rule.entry.Event as event
-use Rattle.papaya_book.specs.contracts.rule.entry.Named as naming
-use Rattle.papaya_book.specs.contracts.rule.entry.Step as step
-use Rattle.papaya_book.specs.contracts.rule.law.Law as law
-use Rattle.papaya_book.proofs.rule.entry.Event.TheLaws as event-laws
-use Rattle.papaya_book.proofs.rule.entry.Named.TheLaws as naming-laws
-use Rattle.papaya_book.proofs.rule.entry.Step.TheLaws as step-laws
+use Rattle.papaya_map_book.specs.contracts.rule.entry.Event as event
+use Rattle.papaya_map_book.specs.contracts.rule.entry.Named as naming
+use Rattle.papaya_map_book.specs.contracts.rule.entry.Step as step
+use Rattle.papaya_map_book.specs.contracts.rule.law.Law as law
+use Rattle.papaya_map_book.proofs.rule.entry.Event.TheLaws as event-laws
+use Rattle.papaya_map_book.proofs.rule.entry.Named.TheLaws as naming-laws
+use Rattle.papaya_map_book.proofs.rule.entry.Step.TheLaws as step-laws
 
 module _ (K V : RattleType) {κ : Lft} (k : κ ⊑ K.lives) (v : κ ⊑ V.lives) where
   pub step_within : κ ⊑ (step.the_row K V).lives

@@ -2,28 +2,28 @@
 use Rattle.std.proofs.Common.{◌≡◌, ◌⊎◌, inl, inr, ⊎_elim, Bool, MatchOption, Option, None, Some}
 use Rattle.std.proofs.Common.{Result, Ok, Err, List, [], ◌∷◌, option_map, refl, sym, ap, ◌∙◌, subst}
 use denote.Bor.{Bor}
-use Rattle.papaya_words.specs.declared.probe.Refused.{Refused as Cause}
+use Rattle.papaya_words.specs.declared.refused.Refused.{Refused as Cause}
 use Rattle.papaya_call.specs.declared.answers.Operation.{Operation}
 use Rattle.papaya_call.specs.declared.answers.Operation.TheVariants as operation
-use Rattle.papaya_book.specs.Logs.{Member, Stored}
-use Rattle.papaya_lookup.specs.History.{Change, key_of}
-use Rattle.papaya_change.specs.Changes.{IsChangeOf}
-use Rattle.papaya_change.specs.Showings.{HasNoNone, HasSaid, IsNoneOnce, IsSamePair, WasHeld, WasLast}
-use Rattle.papaya_change.specs.Writing.{IsMemoryCapacityOrLimit}
-use Rattle.papaya_change.proofs.Showings.{said_so, shown_each}
-use Rattle.papaya_compute.specs.Computing.{value_in}
-use Rattle.papaya_compute.specs.Deciding.{IsDecided, IsDecidedOf, Wishes}
-use Rattle.papaya_compute.specs.declared.deciding.Outcome.{Outcome}
-use Rattle.papaya_compute.specs.declared.deciding.Outcome.TheVariants.{Put, Replaced, Left}
-use Rattle.papaya_compute.specs.declared.rules.Giving.{Giving}
-use Rattle.papaya_compute.specs.declared.rules.Updating.{Updating}
-use Rattle.papaya_compute.specs.declared.rules.Upserting.{Upserting}
-use Rattle.papaya_compute.specs.Rules.{Gives, IsGiven, Updates, Upserts}
-use Rattle.papaya_compute.specs.declared.rules.Ready.{Ready}
-use Rattle.papaya_keys.specs.declared.occupied.NotInserted.{NotInserted}
-use Rattle.papaya_keys.specs.declared.occupied.NotInserted.TheVariants.{Value, Logged}
+use Rattle.papaya_map_book.specs.Logs.{Member, Stored}
+use Rattle.papaya_map_lookup.specs.History.{Change, key_of}
+use Rattle.papaya_map_change.specs.Changes.{IsChangeOf}
+use Rattle.papaya_map_change.specs.Showings.{HasNoNone, HasSaid, IsNoneOnce, IsSamePair, WasHeld, WasLast}
+use Rattle.papaya_map_change.specs.Writing.{IsMemoryCapacityOrLimit}
+use Rattle.papaya_map_change.proofs.Showings.{said_so, shown_each}
+use Rattle.papaya_map_compute.specs.Computing.{value_in}
+use Rattle.papaya_map_compute.specs.Deciding.{IsDecided, IsDecidedOf, Wishes}
+use Rattle.papaya_map_compute.specs.declared.deciding.Decided.{Decided}
+use Rattle.papaya_map_compute.specs.declared.deciding.Decided.TheVariants.{Put, Replaced, Left}
+use Rattle.papaya_map_compute.specs.declared.rules.Giving.{Giving}
+use Rattle.papaya_map_compute.specs.declared.rules.Updating.{Updating}
+use Rattle.papaya_map_compute.specs.declared.rules.Upserting.{Upserting}
+use Rattle.papaya_map_compute.specs.Rules.{Gives, IsGiven, Updates, Upserts}
+use Rattle.papaya_map_compute.specs.declared.rules.Ready.{Ready}
+use Rattle.papaya_words_keys.specs.declared.results.NotInserted.{NotInserted}
+use Rattle.papaya_words_keys.specs.declared.results.NotInserted.TheVariants.{Value, Logged}
 use Rattle.papaya_map.specs.Storing.{IsBack, IsCurrent, IsInPlace, IsStored}
-use Rattle.papaya_compute.proofs.ComputeShows.{none_unsaid}
+use Rattle.papaya_map_compute.proofs.ComputeShows.{none_unsaid}
 
 -- what a rule answered
 abbrev pub Wish : Type 0 → Type 0
@@ -101,11 +101,11 @@ module _ (K : Type 0) {V G : Type 0} (gives : G → V → Type 0) where
   give_leaves f (Some p) (operation.Abort t) g is h = (tt, tt)
 
   module _ (eq : K → K → Bool) (key : K) (old new : List (Change K (Stored K V))) (first left : Giving G) (s : G) (has : first.supply ≡ Some s)
-      (answer : Result (Outcome V) Cause) (d : IsDecided eq key old new (Gives gives) first left answer) where
+      (answer : Result (Decided V) Cause) (d : IsDecided eq key old new (Gives gives) first left answer) where
     once : (op : Wish V) → Member (None, op) d.heard → (left.supply ≡ None) × ((v : V) × gives s v × (op ≡ operation.Insert v))
     once op m = asked_once GiveSays gives (λ z. z.supply) give_keeps give_spends first left s has d.heard d.has_said d.done.none_once op m
 
-    decided_as : (a : Result (Outcome V) Cause) → answer ≡ a → IsDecidedOf eq key old new d.heard a
+    decided_as : (a : Result (Decided V) Cause) → answer ≡ a → IsDecidedOf eq key old new d.heard a
     decided_as a is = subst (IsDecidedOf eq key old new d.heard) is d.done.decided
 
     -- it was stored
@@ -188,12 +188,12 @@ module _ (K : Type 0) {V F : Type 0} (computes : F → V → V → Type 0) where
   update_says first f (Some p) operation.Remove g is h = absurd h
   update_says first f (Some p) (operation.Abort t) g is h = let e = h.1.2 in absurd (cc e)
 
-  module _ (eq : K → K → Bool) (key : K) (old new : List (Change K (Stored K V))) (first left : Updating F) (answer : Result (Outcome V) Cause)
+  module _ (eq : K → K → Bool) (key : K) (old new : List (Change K (Stored K V))) (first left : Updating F) (answer : Result (Decided V) Cause)
       (d : IsDecided eq key old new (Updates computes) first left answer) where
     computed : (x : Option (Stored K V)) (op : Wish V) → Member (x, op) d.heard → Computed first.update x op
     computed x op m = said_so UpdateSays (λ f. f ≡ first) (Computed first.update) (update_says first) first refl d.heard left d.has_said x op m
 
-    update_as : (a : Result (Outcome V) Cause) → answer ≡ a → IsDecidedOf eq key old new d.heard a
+    update_as : (a : Result (Decided V) Cause) → answer ≡ a → IsDecidedOf eq key old new d.heard a
     update_as a is = subst (IsDecidedOf eq key old new d.heard) is d.done.decided
 
     pub update_put : (v : Bor V) → answer ≡ Ok (Put v) → ⊥
@@ -249,14 +249,14 @@ module _ (K : Type 0) {V F G : Type 0} (computes : F → V → V → Type 0) (gi
   upsert_says first f (Some p) (operation.Abort t) g is h = let e = h.2.2 in absurd (cc e)
 
   module _ (eq : K → K → Bool) (key : K) (old new : List (Change K (Stored K V))) (first left : Upserting F G) (s : G) (has : first.supply ≡ Some s)
-      (answer : Result (Outcome V) Cause) (d : IsDecided eq key old new (Upserts computes gives) first left answer) where
+      (answer : Result (Decided V) Cause) (d : IsDecided eq key old new (Upserts computes gives) first left answer) where
     upserted_once : (op : Wish V) → Member (None, op) d.heard → (left.supply ≡ None) × ((v : V) × gives s v × (op ≡ operation.Insert v))
     upserted_once op m = asked_once UpsertSays gives (λ z. z.supply) upsert_keeps upsert_spends first left s has d.heard d.has_said d.done.none_once op m
 
     replaces : (x : Option (Stored K V)) (op : Wish V) → Member (x, op) d.heard → Replaces first.update x op
     replaces x op m = said_so UpsertSays (λ f. f.update ≡ first.update) (Replaces first.update) (upsert_says first) first refl d.heard left d.has_said x op m
 
-    upsert_as : (a : Result (Outcome V) Cause) → answer ≡ a → IsDecidedOf eq key old new d.heard a
+    upsert_as : (a : Result (Decided V) Cause) → answer ≡ a → IsDecidedOf eq key old new d.heard a
     upsert_as a is = subst (IsDecidedOf eq key old new d.heard) is d.done.decided
 
     pub upsert_put : (v : Bor V) → answer ≡ Ok (Put v) → IsStored eq key old new (gives s) v

@@ -5,11 +5,11 @@ use Rattle.std.specs.List.{AllZip}
 use mathlib.Core.List.{IsPrefix}
 use denote.Bor.{Bor}
 use Rattle.logbook.specs.Pages.{Book}
-use Rattle.papaya_words.specs.declared.probe.Refused.{Refused}
-use Rattle.papaya_book.specs.Logs.{Stored}
-use Rattle.papaya_change.specs.Changes.{IsPut}
-use Rattle.papaya_lookup.specs.History.{Change}
-use Rattle.papaya_scan.specs.Walked.{Gives, Walked}
+use Rattle.papaya_words.specs.declared.refused.Refused.{Refused}
+use Rattle.papaya_map_book.specs.Logs.{Stored}
+use Rattle.papaya_map_change.specs.Changes.{IsPut}
+use Rattle.papaya_map_lookup.specs.History.{Change}
+use Rattle.papaya_map_scan.specs.Walked.{Gives, Walked}
 use Rattle.papaya_seq.specs.Clones.{Clones}
 use Rattle.papaya_seq.specs.Entries.{AllCome, ComesNext}
 use Rattle.papaya_seq.specs.Map.{deref_pair}

@@ -4,11 +4,11 @@ use Rattle.std.specs.Int.{IsNextPowerOfTwo}
 use mathlib.Core.List.{IsPrefix}
 use Rattle.logbook.specs.Pages.{Book}
 use Rattle.papaya_words.specs.Probe.{IsEntriesFor}
-use Rattle.papaya_words.specs.declared.probe.ResizeMode.{ResizeMode}
-use Rattle.papaya_book.specs.Limits.{HasTableFrom}
-use Rattle.papaya_book.specs.Logs.{Stored}
-use Rattle.papaya_book.specs.declared.rule.entry.Begun.{Begun}
-use Rattle.papaya_lookup.specs.History.{Change}
+use Rattle.papaya_words.specs.declared.resize_mode.ResizeMode.{ResizeMode}
+use Rattle.papaya_map_book.specs.Limits.{HasTableFrom}
+use Rattle.papaya_map_book.specs.Logs.{Stored}
+use Rattle.papaya_map_book.specs.declared.rule.entry.Begun.{Begun}
+use Rattle.papaya_map_lookup.specs.History.{Change}
 
 -- Which book it has; what that was opened with: the hasher, how the map resizes, and the logs of
 -- pairs and of tables; the initial capacity, in slots, by which its first table is sized; over how

@@ -1,8 +1,8 @@
 -- What a session shows.
 use Rattle.std.specs.Prelude.{ℕ, List}
-use Rattle.papaya_book.specs.declared.rule.own.CapacityCause.{CapacityCause}
-use Rattle.papaya_book.specs.Logs.{Stored}
-use Rattle.papaya_lookup.specs.History.{Change}
+use Rattle.papaya_map_book.specs.declared.rule.own.CapacityCause.{CapacityCause}
+use Rattle.papaya_map_book.specs.Logs.{Stored}
+use Rattle.papaya_map_lookup.specs.History.{Change}
 use Rattle.papaya_map.specs.Fixed.{Fixed}
 
 -- What of its map is fixed; and as a pass of that map: the history that it has seen, its own

@@ -6,10 +6,10 @@ use base.Stored.{Gv}
 use denote.Bor.{Bor}
 use Rattle.logbook.specs.Kept.{Rules, fact, rules, seen_owns}
 use Rattle.logbook.specs.declared.tokens.Rule.{Ghosts}
-use Rattle.papaya_lookup.specs.Answers.{IsAnsweredBetween}
-use Rattle.papaya_lookup.specs.History.{Change, IsLegalHistory, history_of, key_of}
-use Rattle.papaya_book.specs.Logs.{Stored}
-use Rattle.papaya_book.specs.declared.rule.entry.Event.{Event}
+use Rattle.papaya_map_lookup.specs.Answers.{IsAnsweredBetween}
+use Rattle.papaya_map_lookup.specs.History.{Change, IsLegalHistory, history_of, key_of}
+use Rattle.papaya_map_book.specs.Logs.{Stored}
+use Rattle.papaya_map_book.specs.declared.rule.entry.Event.{Event}
 use Rattle.papaya_map.specs.Fixed.{Fixed, Pinned}
 
 -- This is so of a history, of whichever map.

@@ -1,14 +1,14 @@
 -- What the calls answer that store a value where their rule says so.
 use Rattle.std.specs.Prelude.{◌≡◌, ◌⊎◌, Bool, true, false, Option, None, Some, Result, Ok, Err, List}
 use denote.Bor.{Bor}
-use Rattle.papaya_book.specs.Logs.{Stored}
-use Rattle.papaya_keys.specs.declared.occupied.NotInserted.{NotInserted}
-use Rattle.papaya_keys.specs.declared.occupied.NotInserted.TheVariants.{Value, Logged}
-use Rattle.papaya_keys.specs.declared.occupied.OccupiedError.{OccupiedError}
-use Rattle.papaya_lookup.specs.History.{Change, Makes, key_of}
-use Rattle.papaya_words.specs.declared.probe.Refused.{Refused}
-use Rattle.papaya_change.specs.Changes.{IsChangeOf}
-use Rattle.papaya_change.specs.Showings.{WasHeld}
+use Rattle.papaya_map_book.specs.Logs.{Stored}
+use Rattle.papaya_words_keys.specs.declared.results.NotInserted.{NotInserted}
+use Rattle.papaya_words_keys.specs.declared.results.NotInserted.TheVariants.{Value, Logged}
+use Rattle.papaya_words_keys.specs.declared.results.OccupiedError.{OccupiedError}
+use Rattle.papaya_map_lookup.specs.History.{Change, Makes, key_of}
+use Rattle.papaya_words.specs.declared.refused.Refused.{Refused}
+use Rattle.papaya_map_change.specs.Changes.{IsChangeOf}
+use Rattle.papaya_map_change.specs.Showings.{WasHeld}
 
 -- the value that was handed in: it was not stored, or it was logged and has lost the race
 abbrev pub IsBack : {V : Type 0} → V → NotInserted V → Type 0

@@ -1,4 +1,6 @@
-//! The map that threads share.
+//! The map that threads share: sessions, pinned maps, calls with a guard, and the builder.
+//! It uses the four `papaya_map_*` crates of calls, which build on `papaya_map_book`.
+//! `papaya_set`, `papaya_json` and `papaya_reclaiming` build on it.
 //!
 //! ```
 //! let mut session = Session::new(&map);
@@ -16,14 +18,14 @@
 //! - [`told`] has what a call returns beside its result: the evidence of the history that the
 //!   result is of.
 //!
-//! Each call runs its machine by a driver: `papaya_lookup` has that of lookups, `papaya_change`
-//! those of insertions and removals, `papaya_compute` that of computes. All build on `papaya_book`,
-//! whose log records every exchange.
+//! Each call runs its machine by a driver: `papaya_map_lookup` has that of lookups,
+//! `papaya_map_change` those of insertions and removals, `papaya_map_compute` that of computes. All
+//! build on `papaya_map_book`, whose log records every exchange.
 #![tactic(auto)]
 
 pub mod builder;
 pub mod collecting;
-mod computing;
+mod keeping;
 pub mod map;
 pub mod pass;
 mod printing;

@@ -2,10 +2,10 @@
 ghost use Rattle.std.specs.Prelude.{◌≡◌, []};
 ghost use Rattle.std.specs.Int.{IsPowerOfTwo};
 ghost use mathlib.Core.List.{IsPrefix};
-ghost use Rattle.papaya_book.specs.Limits.{tables_of};
-ghost use Rattle.papaya_book.specs.Parts.{begun_of};
-ghost use Rattle.papaya_lookup.specs.Drivers.{own, past};
-ghost use Rattle.papaya_lookup.specs.History.{IsLegalHistory, history_of, key_of};
+ghost use Rattle.papaya_map_book.specs.Limits.{tables_of};
+ghost use Rattle.papaya_map_book.specs.Parts.{begun_of};
+ghost use Rattle.papaya_map_lookup.specs.Drivers.{own, past};
+ghost use Rattle.papaya_map_lookup.specs.History.{IsLegalHistory, history_of, key_of};
 ghost use Rattle.papaya_map.specs.Fixed.{Fixed, HasLearned, Pinned};
 ghost use Rattle.papaya_map.specs.Powers.{IsPowerOfTwo-prop};
 
@@ -22,12 +22,12 @@ mod told;
 mod updating;
 
 pub use crate::pass::Pass;
-use papaya_book::book::Book;
-use papaya_book::book::kept::KeptRoot;
-use papaya_book::count::Count;
-use papaya_book::rule::offer::Seen;
-use papaya_book::window::Window;
-use papaya_keys::guard::{Collector, Guard};
+use papaya_map_book::book::Book;
+use papaya_map_book::book::kept::KeptRoot;
+use papaya_map_book::count::Count;
+use papaya_map_book::rule::offer::Seen;
+use papaya_map_book::window::Window;
+use papaya_words_keys::guard::{Collector, Guard};
 use std::alloc::Global;
 use std::hash::{BuildHasher, BuildHasherDefault, FoldHasher, Hash};
 use std::marker::Model;

@@ -1,23 +1,23 @@
 //! The pass, by which a map's calls record what they observed, and which changes they made.
 //!
 //! Only this module can read or write the list of a pass's changes, and no code outside of
-//! `papaya_book` can copy such a list. A call takes it by [`Pass::window`], which leaves a list that
-//! no contract names. [`Pass::keep`] puts it back, with the exchanges made through the window.
+//! `papaya_map_book` can copy such a list. A call takes it by [`Pass::window`], which leaves a list
+//! that no contract names. [`Pass::keep`] puts it back, with the exchanges made through the window.
 ghost use Rattle.std.specs.Prelude.{◌≡◌, []};
-ghost use Rattle.papaya_book.specs.Limits.{tables_of};
-ghost use Rattle.papaya_book.specs.Logs.{state_of};
-ghost use Rattle.papaya_book.specs.Windows.{IsLawful};
-ghost use Rattle.papaya_lookup.specs.Drivers.{own, past};
-ghost use Rattle.papaya_lookup.specs.History.{IsLegalHistory, Past, changes_by, history_of, key_of};
+ghost use Rattle.papaya_map_book.specs.Limits.{tables_of};
+ghost use Rattle.papaya_map_book.specs.Logs.{state_of};
+ghost use Rattle.papaya_map_book.specs.Windows.{IsLawful};
+ghost use Rattle.papaya_map_lookup.specs.Drivers.{own, past};
+ghost use Rattle.papaya_map_lookup.specs.History.{IsLegalHistory, Past, changes_by, history_of, key_of};
 
 use crate::told::{Told, tell};
-use papaya_book::book::Book;
-use papaya_book::book::kept::KeptRoot;
-use papaya_book::rule::entry::{Event, Named, Step};
-use papaya_book::rule::law::Law;
-use papaya_book::rule::offer::Seen;
-use papaya_book::rule::own::{CapacityCause, OwnSteps};
-use papaya_book::window::Window;
+use papaya_map_book::book::Book;
+use papaya_map_book::book::kept::KeptRoot;
+use papaya_map_book::rule::entry::{Event, Named, Step};
+use papaya_map_book::rule::law::Law;
+use papaya_map_book::rule::offer::Seen;
+use papaya_map_book::rule::own::{CapacityCause, OwnSteps};
+use papaya_map_book::window::Window;
 use std::hash::{BuildHasher, Hash};
 use std::marker::Model;
 

@@ -1,9 +1,10 @@
 //! `Debug` of a map prints `{key: value, ..}`, as in 0.2.5. A pinned map and a session print their
 //! map.
-use crate::map::{HashMap, HashMapRef, Pass};
+use crate::map::{HashMap, HashMapRef};
+use crate::pass::Pass;
 use crate::session::Session;
-use papaya_book::window::Window;
-use papaya_scan::printing::{print, print_keys};
+use papaya_map_book::window::Window;
+use papaya_map_scan::printing::{print, print_keys};
 use std::fmt;
 use std::hash::{BuildHasher, Hash};
 

@@ -1,7 +1,7 @@
 //! The session, one thread's access to a map, and its calls, a file for each kind.
 ghost use Rattle.std.specs.Prelude.{◌≡◌, IfOk, Err, [], is_ok, true};
 ghost use mathlib.Core.List.{IsPrefix};
-ghost use Rattle.papaya_lookup.specs.History.{IsLegalHistory, history_of, key_of};
+ghost use Rattle.papaya_map_lookup.specs.History.{IsLegalHistory, history_of, key_of};
 
 mod computes;
 mod deciding;
@@ -12,11 +12,12 @@ mod resizing;
 mod scans;
 mod updating;
 
-use crate::map::{HashMap, HashMapRef, Pass};
+use crate::map::{HashMap, HashMapRef};
+use crate::pass::Pass;
 use crate::told::{Saying, Told};
-use papaya_keys::guard::Guard;
-use papaya_scan::walk::Iter;
-use papaya_words::probe::Refused;
+use papaya_map_scan::walk::Iter;
+use papaya_words::refused::Refused;
+use papaya_words_keys::guard::Guard;
 use std::hash::{BuildHasher, BuildHasherDefault, FoldHasher, Hash};
 use std::marker::Model;
 

@@ -11,9 +11,9 @@ ghost use Rattle.logbook.specs.Pages.{Book, book_coded};
 ghost use Rattle.logbook.specs.Kept.{rules, seen_owns};
 
 use logbook::{Rule, Seen};
-use papaya_book::rule::entry::{Event, Named};
-use papaya_book::rule::law::Law;
-use papaya_book::rule::own::OwnSteps;
+use papaya_map_book::rule::entry::{Event, Named};
+use papaya_map_book::rule::law::Law;
+use papaya_map_book::rule::own::OwnSteps;
 use std::marker::{Model, PhantomData};
 
 /// A result, with evidence that a book has reached a log: contracts see that book and that log.

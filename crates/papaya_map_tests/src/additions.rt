@@ -3,8 +3,8 @@ use crate::answers::Answer::{Absent, Is, Number};
 use crate::crowd::Crowd::{Eight, Two};
 use crate::crowd::Job::{Add, Count, ReadThenStore, Update};
 use crate::numbers::Numbers;
-use crate::shared::Turn::{self, Calls, Threads};
-use crate::shared::{MODES, runs};
+use crate::shared::Turn::{Calls, Threads};
+use crate::shared::{MODES, Turn, runs};
 use crate::steps::Step::{HasBelow, Insert, InsertBelow, Len};
 use std::test::Fail;
 

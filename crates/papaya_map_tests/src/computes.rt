@@ -4,10 +4,10 @@ use crate::answers::Answer::{
 };
 use crate::numbers::Numbers;
 use crate::seen::Says;
-use crate::shared::Turn::{self, Calls};
-use crate::shared::{MODES, runs};
+use crate::shared::Turn::Calls;
+use crate::shared::{MODES, Turn, runs};
 use crate::steps::Step::{Compute, Get, Insert, IsEmpty, Len, RemoveIf, Seen};
-use papaya_words::probe::Refused::RemoveNothing;
+use papaya_words::refused::Refused::RemoveNothing;
 use std::test::Fail;
 
 /// A removal by a compute fails if there is no entry, and an abort returns its argument.

@@ -78,7 +78,8 @@ pub enum Crowd {
     Four([Job; 4]),
     /// One thread makes a call whose closure does not return before all other threads have ended.
     Stuck(Step, Answer),
-    /// Four threads, of which the first to request this many bytes waits until the others have ended.
+    /// Four threads, of which the first to request this many bytes waits until the others have
+    /// ended.
     Held(usize, [Job; 4]),
 }
 

@@ -4,8 +4,8 @@ use crate::crowd::Crowd::{Apart, Two};
 use crate::crowd::Job::{Gated, Replace};
 use crate::numbers::Numbers;
 use crate::seen::Says;
-use crate::shared::Turn::{self, Calls, Fails, Threads};
-use crate::shared::{MODES, runs};
+use crate::shared::Turn::{Calls, Fails, Threads};
+use crate::shared::{MODES, Turn, runs};
 use crate::steps::Step::{Compute, Get, Insert, Len, RemoveIf};
 use std::test::Fail;
 

@@ -3,11 +3,13 @@ use crate::answers::Answer::{Done, Is, Number, Refused};
 use crate::crowd::Crowd::{Eight, Two};
 use crate::crowd::Job::{Grow, HasOften, Insert, Read, Reserve, Store, Walk};
 use crate::numbers::Numbers;
-use crate::shared::Turn::{self, Calls, Fails, Guarded, Threads};
-use crate::shared::{Holder, MODES, Making, runs};
-use crate::steps::Step::{self, HasBelow, HasEither, InsertBelow, Len};
+use crate::shared::Turn::{Calls, Fails, Guarded, Threads};
+use crate::shared::{Holder, MODES, Making, Turn, runs};
+use crate::steps::Step;
+use crate::steps::Step::{HasBelow, HasEither, InsertBelow, Len};
 use papaya_testing::times::APART;
-use papaya_words::probe::{Refused as Why, ResizeMode};
+use papaya_words::refused::Refused as Why;
+use papaya_words::resize_mode::ResizeMode;
 use std::test::Fail;
 
 /// Two threads store the same keys in an empty map.

@@ -3,9 +3,9 @@ use crate::answers::{Answer, computed, done, made, pair, removal, there, tried, 
 use crate::numbers::{Numbers, said};
 use crate::seen::{Says, Seen, agrees, next, next_at, operation};
 use crate::steps::{Calls, Keeps, Step};
-use papaya_keys::guard::Guard;
 use papaya_testing::gate::Gate;
-use papaya_words::probe::Refused;
+use papaya_words::refused::Refused;
+use papaya_words_keys::guard::Guard;
 use std::sync::Wait;
 
 /// A map, and a guard of its collector or of another one.

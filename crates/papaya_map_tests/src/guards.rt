@@ -3,8 +3,8 @@
 use crate::answers::Answer::{Absent, Done, Is, Kept, Number, Pair, Refused, Removed};
 use crate::numbers::Numbers;
 use crate::seen::Says;
-use crate::shared::Turn::{self, Calls, Guarded};
-use crate::shared::{Holder, MODES, runs};
+use crate::shared::Turn::{Calls, Guarded};
+use crate::shared::{Holder, MODES, Turn, runs};
 use crate::steps::Keeps::ValuesAbove;
 use crate::steps::Script;
 use crate::steps::Step::{
@@ -12,7 +12,7 @@ use crate::steps::Step::{
     IsEmpty, Iter, Keys, Len, Remove, RemoveEntry, RemoveIf, Reserve, Retain, TryInsert,
     TryInsertWith, Update, UpdateOrInsert, UpdateOrInsertWith, Values, Verify,
 };
-use papaya_words::probe::Refused::WrongGuard;
+use papaya_words::refused::Refused::WrongGuard;
 use std::test::Fail;
 
 /// Each call fails: it finds, stores, replaces, removes and iterates over nothing, and reserves no

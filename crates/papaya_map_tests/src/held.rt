@@ -3,18 +3,18 @@ use crate::answers::Answer::{Absent, Number};
 use crate::crowd::Crowd::Two;
 use crate::crowd::Job::{Hold, LookAnew, WearOut};
 use crate::numbers::Numbers;
-use crate::shared::Turn::{self, Calls, Fails, Threads};
-use crate::shared::{MODES, runs};
+use crate::shared::Turn::{Calls, Fails, Threads};
+use crate::shared::{MODES, Turn, runs};
 use crate::steps;
 use crate::steps::Step::{Get, Insert, Len};
-use papaya_testing::gate::{Gate, Look};
+use papaya_testing::gate::{Gate, Peek};
 use std::test::Fail;
 
 /// The reference that a lookup returned, and the value that it had.
 #[derive(Drop)]
 struct Held<'a>(&'a u64);
 
-impl Look for Held<'_> {
+impl Peek for Held<'_> {
     fn is_same(&mut self) -> bool {
         *self.0 == 10
     }
@@ -24,7 +24,7 @@ impl Look for Held<'_> {
 #[derive(Drop)]
 struct Anew<'a, C>(&'a mut C);
 
-impl<C: steps::Calls> Look for Anew<'_, C> {
+impl<C: steps::Calls> Peek for Anew<'_, C> {
     fn is_same(&mut self) -> bool {
         self.0.get(1) == Number(10)
     }

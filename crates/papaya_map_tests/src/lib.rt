@@ -1,10 +1,14 @@
-//! The tests of the map that threads share.
+//! Tests of the map that threads share, and of its arena.
+//! It uses `papaya_map` and the helpers of `papaya_testing`.
+//! No crate builds on it.
 #![tactic(auto)]
 
 #[cfg(test)]
 mod additions;
 #[cfg(test)]
 mod answers;
+#[cfg(test)]
+mod arena;
 #[cfg(test)]
 mod board;
 #[cfg(test)]

@@ -1,21 +1,23 @@
 // Maps with a limit on the entries that they store.
-use crate::answers::Answer::{self, Absent, Is, Number, Pair, Refused as No};
+use crate::answers::Answer;
+use crate::answers::Answer::{Absent, Is, Number, Pair, Refused as No};
 use crate::builders::Asked;
 use crate::crowd::Crowd::Eight;
 use crate::crowd::Job::FillUp;
 use crate::expect::is;
 use crate::numbers::{Numbers, Pinned};
 use crate::seen::Says;
-use crate::shared::Turn::{self, Calls as Does, Threads};
-use crate::shared::{Making, Shared, runs};
+use crate::shared::Turn::{Calls as Does, Threads};
+use crate::shared::{Making, Shared, Turn, runs};
 use crate::steps::Step::{
-    self, Compute, Get, GetOrInsert, Insert, IsEmpty, Iter, Len, Remove, TryInsert, Update,
+    Compute, Get, GetOrInsert, Insert, IsEmpty, Iter, Len, Remove, TryInsert, Update,
     UpdateOrInsert,
 };
-use crate::steps::{Calls, Script, answer};
+use crate::steps::{Calls, Script, Step, answer};
 use papaya_testing::gate::Gate;
-use papaya_testing::tries::{Outcome, Ready, tries};
-use papaya_words::probe::{Refused, ResizeMode};
+use papaya_testing::tries::{ReadyCall, TryResult, tries};
+use papaya_words::refused::Refused;
+use papaya_words::resize_mode::ResizeMode;
 use std::alloc::Global;
 use std::process::Abort;
 use std::sync::Wait;
@@ -166,7 +168,7 @@ struct Spent<'r, 'm, R, C> {
     map: &'m mut C,
 }
 
-impl<R: Wait, C: Calls> Ready for Spent<'_, '_, R, C> {
+impl<R: Wait, C: Calls> ReadyCall for Spent<'_, '_, R, C> {
     fn is_made(&mut self) -> Result<bool, Refused> {
         for step in STORE {
             if answer(self.rt, self.map, step, &Gate::open()) != AT_LIMIT {
@@ -187,7 +189,7 @@ fn asks_for_none<R: Wait + Abort>(rt: &R, alloc: Global, map: &Numbers) {
     let map = &mut Pinned::of(map);
     is(
         rt,
-        tries(alloc, &mut Spent { rt, map }, 1) == Outcome::Answers,
+        tries(alloc, &mut Spent { rt, map }, 1) == TryResult::Answers,
         true,
     );
 }

@@ -4,10 +4,11 @@ ghost use Rattle.std.specs.Prelude.{◌≡◌};
 use crate::answers::{Answer, computed, done, pair, removal, there, value};
 use crate::seen::{Says, Seen, agrees, next, next_at, operation};
 use crate::steps::{Calls, Keeps, Step};
-use papaya_map::map::{HashMap, HashMapRef, Pass};
+use papaya_map::map::{HashMap, HashMapRef};
+use papaya_map::pass::Pass;
 use papaya_testing::gate::Gate;
 use papaya_testing::times::Times;
-use papaya_words::probe::Refused;
+use papaya_words::refused::Refused;
 use std::mem::swap;
 use std::sync::Wait;
 

@@ -1,16 +1,16 @@
 // Two passes that share what they have observed of a map.
 ghost use Rattle.std.specs.Prelude.{◌≡◌};
 
-use crate::answers::Answer::{self, Absent, Done, Number};
-use crate::answers::value;
+use crate::answers::Answer::{Absent, Done, Number};
+use crate::answers::{Answer, value};
 use crate::expect::is;
 use crate::numbers::Numbers;
-use crate::shared::Turn::{self, Calls, Meets};
-use crate::shared::{MODES, runs};
+use crate::shared::Turn::{Calls, Meets};
+use crate::shared::{MODES, Turn, runs};
 use crate::steps::Step::{Get, Insert, Meet, Swap};
-use papaya_map::map::Pass;
+use papaya_map::pass::Pass;
 use papaya_testing::times::Times;
-use papaya_words::probe::Refused;
+use papaya_words::refused::Refused;
 use std::sync::Wait;
 use std::test::Fail;
 use std::thread::{Threads, join};

@@ -1,8 +1,8 @@
 // The calls of a pinned map without a pass.
 use crate::answers::Answer::{Absent, Is, Number, Pair};
 use crate::numbers::Numbers;
-use crate::shared::Turn::{self, Calls};
-use crate::shared::{MODES, runs};
+use crate::shared::Turn::Calls;
+use crate::shared::{MODES, Turn, runs};
 use crate::steps::Step::{
     Contains, GetAlone, InsertAlone, IsEmpty, Len, LenOfMap, RemoveAlone, RemoveEntry,
 };

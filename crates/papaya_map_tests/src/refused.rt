@@ -5,7 +5,8 @@ use crate::numbers::Numbers;
 use crate::shared::{Making, Turn, runs};
 use crate::steps::{Calls, Step, has_below};
 use papaya_testing::times::TOGETHER;
-use papaya_words::probe::{Refused, ResizeMode};
+use papaya_words::refused::Refused;
+use papaya_words::resize_mode::ResizeMode;
 use std::sync::Wait;
 use std::test::Fail;
 

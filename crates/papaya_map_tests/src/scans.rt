@@ -1,12 +1,12 @@
 // The calls that scan the whole map.
 use crate::answers::Answer::{Absent, Done, Is, Number, Pair};
 use crate::numbers::Numbers;
-use crate::shared::Turn::{self, Calls, Guarded};
-use crate::shared::{Holder, MODES, Making, runs};
+use crate::shared::Turn::{Calls, Guarded};
+use crate::shared::{Holder, MODES, Making, Turn, runs};
 use crate::steps::Keeps::{EvenKeys, ValuesBelow};
 use crate::steps::Step::{Clear, Get, Insert, InsertBelow, Iter, Keys, Len, Retain, Values};
 use papaya_testing::times::TOGETHER;
-use papaya_words::probe::ResizeMode;
+use papaya_words::resize_mode::ResizeMode;
 use std::test::Fail;
 
 /// Iterates over each of 100 entries once, retains the five below 5, and clears them.

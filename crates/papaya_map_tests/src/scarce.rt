@@ -1,21 +1,23 @@
 // Each call by a pass and with a guard, with each of its requests for memory refused in turn, at
 // stages of the growth of a map. The heap of `tests/refused.py` is set to refuse.
+use crate::answers::Answer;
 use crate::answers::Answer::{
-    self, Aborted, Absent, Done, Inserted, Kept, Number, Pair, Removed, Updated,
+    Aborted, Absent, Done, Inserted, Kept, Number, Pair, Removed, Updated,
 };
 use crate::expect::is;
 use crate::numbers::Numbers;
 use crate::seen::Says;
 use crate::shared::{Making, Shared};
 use crate::steps::Step::{
-    self, Compute, GetOrInsert, GetOrInsertWith, Insert, Iter, Keys, Remove, RemoveEntry, RemoveIf,
+    Compute, GetOrInsert, GetOrInsertWith, Insert, Iter, Keys, Remove, RemoveEntry, RemoveIf,
     Reserve, TryInsert, TryInsertWith, Update, UpdateOrInsert, UpdateOrInsertWith, Values,
 };
-use crate::steps::{Calls, answer, has_below, inserts};
+use crate::steps::{Calls, Step, answer, has_below, inserts};
 use papaya_testing::gate::Gate;
 use papaya_testing::times::TOGETHER;
-use papaya_testing::tries::{Outcome, Ready, Trial, fails_at, tries};
-use papaya_words::probe::{Refused, ResizeMode};
+use papaya_testing::tries::{ReadyCall, Trial, TryResult, fails_at, tries};
+use papaya_words::refused::Refused;
+use papaya_words::resize_mode::ResizeMode;
 use std::alloc::Global;
 use std::marker::PhantomData;
 use std::process::Abort;
@@ -135,7 +137,7 @@ struct OnKey<'r, 'm, R, C> {
     row: Row,
 }
 
-impl<R: Wait, C: Calls> Ready for OnKey<'_, '_, R, C> {
+impl<R: Wait, C: Calls> ReadyCall for OnKey<'_, '_, R, C> {
     fn is_made(&mut self) -> Result<bool, Refused> {
         let (call, _, old, new) = self.row;
         match answer(self.rt, self.map, call, &Gate::open()) {
@@ -166,10 +168,10 @@ pub fn tries_on<R: Wait, C: Calls>(
     map: &mut C,
     start: Start,
     number: usize,
-) -> Outcome {
+) -> TryResult {
     let Start { keys, row } = start;
     if !inserts(rt, map, 0, keys) || map.insert(rt, OLD, VALUE) != Absent {
-        return Outcome::Fails;
+        return TryResult::Fails;
     }
     tries(alloc, &mut OnKey { rt, map, keys, row }, number)
 }
@@ -193,7 +195,7 @@ struct Growing<'r, R, M> {
 }
 
 impl<R: Wait, M: Shared + Drop> Trial for Growing<'_, R, M> {
-    fn with_refused(&self, number: usize) -> Result<Outcome, Refused> {
+    fn with_refused(&self, number: usize) -> Result<TryResult, Refused> {
         let making = Making::Parts(self.mode, 0, TOGETHER);
         let map: M = M::made(self.rt, self.alloc, making)?;
         Ok(map.tries(self.rt, self.alloc, self.way, self.start, number))

@@ -1,10 +1,9 @@
 // Each call of a session once, and two threads with a session each.
 use papaya_call::answers::Operation;
-use papaya_keys::compute::Compute;
-use papaya_keys::occupied::{NotInserted, OccupiedError};
 use papaya_map::map::HashMap;
 use papaya_map::session::Session;
-use papaya_words::probe::Refused;
+use papaya_words::refused::Refused;
+use papaya_words_keys::results::{Compute, NotInserted, OccupiedError};
 use std::fmt::Debug;
 use std::process::Abort;
 use std::sync::Wait;

@@ -2,7 +2,7 @@
 // removed entry.
 use papaya_map::map::HashMap;
 use papaya_map::session::Session;
-use papaya_words::probe::Refused;
+use papaya_words::refused::Refused;
 use std::process::Abort;
 use std::sync::Wait;
 use std::test::Fail;

@@ -11,12 +11,13 @@ use crate::passes::meets;
 use crate::printing::{What, printed, prints, prints_each, prints_either};
 use crate::scarce::{Start, Way, tries_on};
 use crate::steps::{Script, goes};
-use papaya_keys::guard::Collector;
 use papaya_map::map::HashMap;
 use papaya_testing::gate::Gate;
 use papaya_testing::times::{APART, Times};
-use papaya_testing::tries::Outcome;
-use papaya_words::probe::{Refused, ResizeMode};
+use papaya_testing::tries::TryResult;
+use papaya_words::refused::Refused;
+use papaya_words::resize_mode::ResizeMode;
+use papaya_words_keys::guard::Collector;
 use std::alloc::Global;
 use std::process::Abort;
 use std::sync::{Arc, Wait};
@@ -121,7 +122,7 @@ pub trait Shared: Sized {
         way: Way,
         start: Start,
         number: usize,
-    ) -> Outcome;
+    ) -> TryResult;
 }
 
 impl Shared for Numbers {
@@ -201,7 +202,7 @@ impl Shared for Numbers {
         way: Way,
         start: Start,
         number: usize,
-    ) -> Outcome {
+    ) -> TryResult {
         match way {
             Way::ByPass => tries_on(rt, alloc, &mut Pinned::of(self), start, number),
             Way::WithGuard => {

@@ -1,7 +1,8 @@
 // The sizes that a map returns: entries in its arena, and slots of its root table.
 use crate::expect::is;
 use papaya_map::map::HashMap;
-use papaya_words::probe::{Refused, ResizeMode};
+use papaya_words::refused::Refused;
+use papaya_words::resize_mode::ResizeMode;
 use std::process::Abort;
 use std::sync::Wait;
 use std::test::Fail;

@@ -3,13 +3,14 @@
 // heap of `tests/refused.py`.
 use crate::answers::Answer::{Absent, Is, Number, Pair};
 use crate::crowd::Crowd::Held;
-use crate::crowd::Job::{self, Rewrite};
+use crate::crowd::Job;
+use crate::crowd::Job::Rewrite;
 use crate::numbers::Numbers;
-use crate::shared::Turn::{self, Calls, Threads};
-use crate::shared::{MODES, Making, runs};
+use crate::shared::Turn::{Calls, Threads};
+use crate::shared::{MODES, Making, Turn, runs};
 use crate::steps::Step::{HasBelow, Insert, InsertBelow, Keys, Len};
 use papaya_testing::times::APART;
-use papaya_words::probe::ResizeMode;
+use papaya_words::resize_mode::ResizeMode;
 use std::test::Fail;
 
 /// The word of a slot has 8 bytes. The first table has 32 slots, and the next one is written ahead

@@ -5,14 +5,14 @@ ghost use Rattle.std.proofs.Common.{ap};
 ghost use Rattle.std.specs.Cmp.{nat_eq_equiv, on_equiv, partial_equiv_from_equiv, unsigned_Decides};
 ghost use Rattle.std.specs.Hash as fed;
 
-use crate::answers::Answer::{self, Absent, Number, Pair, Refused as No};
-use crate::answers::value;
+use crate::answers::Answer::{Absent, Number, Pair, Refused as No};
+use crate::answers::{Answer, value};
 use crate::steps::answers;
-use papaya_keys::guard::Collector;
 use papaya_map::map::HashMap;
 use papaya_map::session::Session;
 use papaya_testing::times::{APART, Times};
-use papaya_words::probe::Refused;
+use papaya_words::refused::Refused;
+use papaya_words_keys::guard::Collector;
 use std::alloc::Global;
 use std::hash::{Hash, Hasher};
 use std::process::Abort;

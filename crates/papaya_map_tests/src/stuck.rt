@@ -6,8 +6,8 @@ use crate::crowd::Job;
 use crate::growth::FOR_SIX;
 use crate::numbers::Numbers;
 use crate::seen::Says;
-use crate::shared::Turn::{self, Calls, Fails, Threads};
-use crate::shared::runs;
+use crate::shared::Turn::{Calls, Fails, Threads};
+use crate::shared::{Turn, runs};
 use crate::steps::Keeps::EvenKeys;
 use crate::steps::Step::{
     Compute, Get, HasBelow, InsertBelow, Keys, Len, RemoveIf, Retain, Update,

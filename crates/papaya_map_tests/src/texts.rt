@@ -1,10 +1,11 @@
 // A map of texts, with the hasher that maps have by default.
-use crate::answers::Answer::{self, Absent, Number};
-use crate::answers::value;
+use crate::answers::Answer::{Absent, Number};
+use crate::answers::{Answer, value};
 use crate::steps::answers;
-use papaya_keys::guard::TextKey;
 use papaya_map::map::HashMap;
-use papaya_words::probe::{Refused, ResizeMode};
+use papaya_words::refused::Refused;
+use papaya_words::resize_mode::ResizeMode;
+use papaya_words_keys::guard::TextKey;
 use std::alloc::Global;
 use std::hash::{BuildHasherDefault, FoldHasher};
 use std::process::Abort;

@@ -1,4 +1,6 @@
 //! Maps and sets that give back memory while threads go on.
+//! It uses `papaya_map` and `papaya_set`.
+//! `papaya` and `papaya_bench_measure` build on it.
 //!
 //! A map keeps each entry that was replaced or removed until it is reclaimed, and reclaiming takes
 //! `&mut`. [`reclaiming::Reclaiming`] lends a map to any number of threads, and reclaims it as soon

@@ -4,7 +4,7 @@ ghost use Rattle.papaya_map.specs.Fixed.{HasFirstTable, HasSettingsOf};
 
 use papaya_map::map::HashMap;
 use papaya_set::set::HashSet;
-use papaya_words::probe::Refused;
+use papaya_words::refused::Refused;
 use std::hash::{BuildHasher, Hash};
 use std::sync::Wait;
 

@@ -6,7 +6,7 @@ use crossbeam_utils::CachePadded;
 use crossbeam_utils::sync::{ShardedLock, ShardedLockReadGuard, ShardedLockWriteGuard};
 use papaya_map::map::HashMap;
 use papaya_set::set::HashSet;
-use papaya_words::probe::Refused;
+use papaya_words::refused::Refused;
 use std::alloc::Global;
 use std::hash::{BuildHasherDefault, FoldHasher};
 use std::ops::Deref;

@@ -1,8 +1,8 @@
 //! `papaya-run`: runs lines of commands on a map, and prints a line for each reply.
 #![tactic(auto)]
 
-use papaya_backends::run::{PROGRAM, buffered, run_on};
-use papaya_shell::start::words;
+use papaya_run_lines::run::{PROGRAM, buffered, run_on};
+use papaya_run_shell::start::words;
 use std::process::ExitCode;
 
 fn main(rt: HostRuntime) -> ExitCode {

@@ -3,26 +3,26 @@ use Rattle.std.proofs.Common.{◌≡◌, ℕ, ◌+◌, ◌-◌, ◌<◌, ◌==�
 use Rattle.std.proofs.Common.{◌∷◌, [], refl, sym, ap, ltb-true, arith}
 use Rattle.std.specs.Prelude.{MatchBool}
 use Rattle.std.proofs.lemmas.Bool.{and_parts, cond_both, leb-false, ne_eqb, not-true}
-use Rattle.papaya_words.specs.declared.probe.ResizeMode.{ResizeMode}
-use Rattle.papaya_ask.specs.declared.ask.Answer.{Answer as Call_answer}
-use Rattle.papaya_ask.specs.declared.ask.Answer.TheVariants.{Exchanged, Found as Found_instead, Word as Word_read}
-use Rattle.papaya_ask.specs.declared.ask.At.TheVariants.{Done}
-use Rattle.papaya_ask.specs.declared.copy_ask.CopyAsk.TheVariants.{Exchange, Load}
-use Rattle.papaya_copy.specs.Copying.{leads}
-use Rattle.papaya_copy.specs.Step.{IsStandingCursor, chunk_at, chunk_read, first_chunk, is_further, next_chunk, next_cursor}
-use Rattle.papaya_copy.specs.declared.copying.Copied.TheVariants as copied_to
-use Rattle.papaya_copy.specs.declared.copying.Copying.TheVariants.{Stepping}
-use Rattle.papaya_copy.specs.declared.settle.Settle.TheVariants as settles
-use Rattle.papaya_copy.specs.declared.step.Cursor.{Cursor}
-use Rattle.papaya_copy.specs.declared.step.Step.{Step}
-use Rattle.papaya_copy.specs.declared.step.Step.TheVariants.{Advancing, AtChunk, Promoting, Settling}
-use Rattle.papaya_copy.specs.declared.step.Stepped.TheVariants as stepped
-use Rattle.papaya_chain.specs.declared.ask.Answer.TheVariants.{Call}
-use Rattle.papaya_chain.specs.Machine.{copying_after}
-use Rattle.papaya_store.specs.Performs.{Exchanges}
-use Rattle.papaya_store.specs.Store.{StoreState}
-use Rattle.papaya_store.specs.Tables.{put, word_at}
-use Rattle.papaya_alone.specs.Measure.{words_left}
+use Rattle.papaya_words.specs.declared.resize_mode.ResizeMode.{ResizeMode}
+use Rattle.papaya_call.specs.declared.ask.Answer.{Answer as Call_answer}
+use Rattle.papaya_call.specs.declared.ask.Answer.TheVariants.{Exchanged, Found as Found_instead, Word as Word_read}
+use Rattle.papaya_call.specs.declared.ask.At.TheVariants.{Done}
+use Rattle.papaya_call.specs.declared.copy_ask.CopyAsk.TheVariants.{Exchange, Load}
+use Rattle.papaya_call.specs.Copying.{leads}
+use Rattle.papaya_call.specs.Step.{IsStandingCursor, chunk_at, chunk_read, first_chunk, is_further, next_chunk, next_cursor}
+use Rattle.papaya_call.specs.declared.copy.copying.Copied.TheVariants as copied_to
+use Rattle.papaya_call.specs.declared.copy.copying.Copying.TheVariants.{Stepping}
+use Rattle.papaya_call.specs.declared.copy.settle.Settle.TheVariants as settles
+use Rattle.papaya_call.specs.declared.copy.step.Cursor.{Cursor}
+use Rattle.papaya_call.specs.declared.copy.step.Step.{Step}
+use Rattle.papaya_call.specs.declared.copy.step.Step.TheVariants.{Advancing, AtChunk, Promoting, Settling}
+use Rattle.papaya_call.specs.declared.copy.step.Stepped.TheVariants as stepped
+use Rattle.papaya_call.specs.declared.chain.ask.Answer.TheVariants.{Call}
+use Rattle.papaya_call.specs.ChainMachine.{copying_after}
+use Rattle.papaya_core_store.specs.Performs.{Exchanges}
+use Rattle.papaya_core_store.specs.Store.{StoreState}
+use Rattle.papaya_core_store.specs.Tables.{put, word_at}
+use Rattle.papaya_call_alone.specs.Measure.{words_left}
 use Rattle.papaya_seq.specs.Copies.{Steps}
 
 module _ {K V S : Type 0} (eq : K → K → Bool) (hash : S → K → ℕ) (mode : ResizeMode) where

@@ -1,14 +1,14 @@
 -- What a call that was made alone leaves of a map for one caller.
 use Rattle.std.proofs.Common.{◌≡◌, ℕ, Bool, true, List, None}
 use Rattle.std.specs.Cmp.{IsEquivalence}
-use Rattle.papaya_ask.specs.declared.call.Call.{Call}
-use Rattle.papaya_ask.specs.declared.call.Reply.{Reply}
-use Rattle.papaya_timeline.specs.Content.{map_in}
-use Rattle.papaya_timeline.specs.Core.{CoreState}
-use Rattle.papaya_timeline.specs.Solo.{IsAnswered, IsNewIn}
-use Rattle.papaya_store.specs.Store.{KeepsPairs, StoreState}
-use Rattle.papaya_keys.specs.Hashes.{hash_of}
-use Rattle.papaya_timeline.proofs.SoloLaw.{alone_answered, alone_lawful, alone_logged}
+use Rattle.papaya_call.specs.declared.call.Call.{Call}
+use Rattle.papaya_call.specs.declared.call.Reply.{Reply}
+use Rattle.papaya_core_timeline.specs.Content.{map_in}
+use Rattle.papaya_core_timeline.specs.Core.{CoreState}
+use Rattle.papaya_core_timeline.specs.Solo.{IsAnswered, IsNewIn}
+use Rattle.papaya_core_store.specs.Store.{KeepsPairs, StoreState}
+use Rattle.papaya_words_keys.specs.Hashes.{hash_of}
+use Rattle.papaya_core_timeline.proofs.SoloLaw.{alone_answered, alone_lawful, alone_logged}
 use Rattle.papaya_seq.specs.Map.{IsLawfulMap, MapState, core_of}
 use Rattle.papaya_seq.proofs.Turns.{IsOver, seated_work}
 

@@ -4,16 +4,16 @@ use Rattle.std.proofs.Common.{None, Result, Ok, Err, inl, inr, refl, sym, ◌∙
 use Rattle.std.proofs.lemmas.Bool.{cases_Bool}
 use Rattle.std.specs.Cmp.{IsEquivalence}
 use Rattle.std.specs.Prelude.{MatchOption}
-use Rattle.papaya_words.specs.declared.probe.Refused.{Refused}
-use Rattle.papaya_words.specs.declared.probe.Refused.TheVariants.{RemoveNothing}
-use Rattle.papaya_law.specs.Content.{lookup}
-use Rattle.papaya_ask.specs.declared.call.Call.{Call}
-use Rattle.papaya_ask.specs.declared.call.Call.TheVariants.{Insert, TryInsert}
-use Rattle.papaya_ask.specs.declared.call.Reply.TheVariants as replies
-use Rattle.papaya_timeline.specs.Content.{content, map_in}
-use Rattle.papaya_timeline.specs.Maps.{Does, IsMadeOf, IsUpdate, IsUpdateBy, Same, key_of, at_key}
-use Rattle.papaya_timeline.specs.Solo.{CallDoes, IsAnswered, IsNewIn}
-use Rattle.papaya_store.specs.Store.{StoreState, Stored, pair_of}
+use Rattle.papaya_words.specs.declared.refused.Refused.{Refused}
+use Rattle.papaya_words.specs.declared.refused.Refused.TheVariants.{RemoveNothing}
+use Rattle.papaya_words_law.specs.Content.{lookup}
+use Rattle.papaya_call.specs.declared.call.Call.{Call}
+use Rattle.papaya_call.specs.declared.call.Call.TheVariants.{Insert, TryInsert}
+use Rattle.papaya_call.specs.declared.call.Reply.TheVariants as replies
+use Rattle.papaya_core_timeline.specs.Content.{content, map_in}
+use Rattle.papaya_core_timeline.specs.Maps.{Does, IsMadeOf, IsUpdate, IsUpdateBy, Same, key_of, at_key}
+use Rattle.papaya_core_timeline.specs.Solo.{CallDoes, IsAnswered, IsNewIn}
+use Rattle.papaya_core_store.specs.Store.{StoreState, Stored, pair_of}
 use Rattle.papaya_seq.proofs.LeftBy.{left_same, same_left}
 use Rattle.papaya_seq.specs.Map.{HasValue, Inserts, IsStoreRefusal, IsOccupied, IsTried, IsTryRefusal}
 use Rattle.papaya_seq.specs.Map.{IsWriteCause, IsWriteCauseAt, KeepsAndGrows, MapState, insertion}

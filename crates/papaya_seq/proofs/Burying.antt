@@ -5,41 +5,41 @@ use denote.Ref.{Bor}
 use Rattle.std.specs.Fn.{Mut}
 use Rattle.papaya_words.specs.Counter.{added}
 use Rattle.papaya_words.specs.Word.{kind_of, pair_of as number_of}
-use Rattle.papaya_words.specs.declared.probe.ResizeMode.{ResizeMode}
+use Rattle.papaya_words.specs.declared.resize_mode.ResizeMode.{ResizeMode}
 use Rattle.papaya_words.specs.declared.word.Kind.TheVariants.{Live}
-use Rattle.papaya_ask.specs.declared.ask.Answer.{Answer}
-use Rattle.papaya_ask.specs.declared.ask.Answer.TheVariants.{Exchanged, Found as Found_instead, Yes, Ok as Ok_done}
-use Rattle.papaya_ask.specs.declared.ask.Ask.{Ask}
-use Rattle.papaya_ask.specs.declared.ask.Ask.TheVariants.{Load, Exchange, LoadHint, WriteHint}
-use Rattle.papaya_ask.specs.declared.ask.Ask.TheVariants.{SameKey, ShowNone, ShowPair, SizeOf}
-use Rattle.papaya_ask.specs.declared.ask.Ask.TheVariants.{MakeKey, MakeValue, MakePair, MakePairOf}
-use Rattle.papaya_ask.specs.declared.ask.Ask.TheVariants.{MakeTable, AddToShard, Done as Ask_done}
-use Rattle.papaya_ask.specs.declared.ask.At.{At}
-use Rattle.papaya_ask.specs.declared.ask.At.TheVariants.{Slot}
-use Rattle.papaya_ask.specs.declared.call.Reply.{Reply}
-use Rattle.papaya_ask.specs.declared.call.Reply.TheVariants.{Absent, Kept, Removed}
-use Rattle.papaya_ask.specs.declared.call.Task.TheVariants.{RemoveIf}
-use Rattle.papaya_ask.specs.declared.search.Place.{Place}
+use Rattle.papaya_call.specs.declared.ask.Answer.{Answer}
+use Rattle.papaya_call.specs.declared.ask.Answer.TheVariants.{Exchanged, Found as Found_instead, Yes, Ok as Ok_done}
+use Rattle.papaya_call.specs.declared.ask.Ask.{Ask}
+use Rattle.papaya_call.specs.declared.ask.Ask.TheVariants.{Load, Exchange, LoadHint, WriteHint}
+use Rattle.papaya_call.specs.declared.ask.Ask.TheVariants.{SameKey, ShowNone, ShowPair, SizeOf}
+use Rattle.papaya_call.specs.declared.ask.Ask.TheVariants.{MakeKey, MakeValue, MakePair, MakePairOf}
+use Rattle.papaya_call.specs.declared.ask.Ask.TheVariants.{MakeTable, AddToShard, Done as Ask_done}
+use Rattle.papaya_call.specs.declared.ask.At.{At}
+use Rattle.papaya_call.specs.declared.ask.At.TheVariants.{Slot}
+use Rattle.papaya_call.specs.declared.call.Reply.{Reply}
+use Rattle.papaya_call.specs.declared.call.Reply.TheVariants.{Absent, Kept, Removed}
+use Rattle.papaya_call.specs.declared.call.Task.TheVariants.{RemoveIf}
+use Rattle.papaya_call.specs.declared.search.Place.{Place}
 use Rattle.papaya_call.specs.declared.machine.Machine.{Machine as Call_machine}
 use Rattle.papaya_call.specs.declared.machine.State.{State}
 use Rattle.papaya_call.specs.declared.machine.State.TheVariants.{AtRoot, Showing, Burying, Ended}
 use Rattle.papaya_call.specs.declared.remove.Removal.{Removal}
 use Rattle.papaya_call.specs.Machine.{after as call_after, ask_of as call_ask, goes, removes, started}
 use Rattle.papaya_call.specs.Remove.{grave_word}
-use Rattle.papaya_chain.specs.declared.ask.Answer.TheVariants as answers
-use Rattle.papaya_chain.specs.declared.ask.Ask.TheVariants as asks
-use Rattle.papaya_chain.specs.declared.machine.Machine.{Machine}
-use Rattle.papaya_chain.specs.Machine.{after}
-use Rattle.papaya_store.specs.Performs.{Exchanges}
-use Rattle.papaya_store.specs.Store.{StoreState, pair_of}
-use Rattle.papaya_store.specs.Tables.{put, word_at}
+use Rattle.papaya_call.specs.declared.chain.ask.Answer.TheVariants as answers
+use Rattle.papaya_call.specs.declared.chain.ask.Ask.TheVariants as asks
+use Rattle.papaya_call.specs.declared.chain.machine.Machine.{Machine}
+use Rattle.papaya_call.specs.ChainMachine.{after}
+use Rattle.papaya_core_store.specs.Performs.{Exchanges}
+use Rattle.papaya_core_store.specs.Store.{StoreState, pair_of}
+use Rattle.papaya_core_store.specs.Tables.{put, word_at}
 use Rattle.papaya_seq.specs.Buries.{IsBuried, IsRemovedFrom, Leads, itself}
 use Rattle.papaya_seq.specs.Looks.{Comes, IsSearchAsk, IsToldBy}
 use Rattle.papaya_seq.specs.Map.{MapState}
 use Rattle.papaya_seq.specs.Removes.{IsRemovalAnswer, IsShown}
 use Rattle.papaya_seq.specs.Searches.{IsRootTurn, seen_by}
-use Rattle.papaya_seq.specs.declared.search.Turn.{Turn}
-use Rattle.papaya_seq.specs.declared.search.Turn.TheVariants as turns
+use Rattle.papaya_seq.specs.declared.search.ProbeHit.{ProbeHit}
+use Rattle.papaya_seq.specs.declared.search.ProbeHit.TheVariants as turns
 use Rattle.papaya_seq.specs.Writes.{burying, slot_of}
 use Rattle.papaya_seq.proofs.Driving.{goes_itself}
 use Rattle.papaya_seq.proofs.Exchanging.{exchange_made}
@@ -133,7 +133,7 @@ module _ {K V S F : Type 0} (g : Mut F (Bor K × (Bor V × Unit {0})) Bool) (mat
       abbrev removing : State → Machine
       removing state = itself (record (started RemoveIf hashed mode initial limit) { state = state })
 
-      root_led : (turn : Turn) (state : State) → IsRootTurn matches s hashed turn
+      root_led : (turn : ProbeHit) (state : State) → IsRootTurn matches s hashed turn
           → goes (started RemoveIf hashed mode initial limit) (seen_by turn) ≡ state → (reply : Reply) (s' : StoreState K V S) (f' : F)
           → IsRemovedFrom g matches s f (removing state) reply s' f' → IsRemovedFrom g matches s f (removing AtRoot) reply s' f'
       root_led turn state root is reply s' f' done =

@@ -5,22 +5,22 @@ use Rattle.std.proofs.Common.{refl, sym, ◌∙◌, ap, subst, arith}
 use Rattle.std.proofs.lemmas.Bool.{cases_Bool, cond-true, cond-false}
 use Rattle.std.specs.Cmp.{IsEquivalence}
 use Rattle.std.specs.List.{All, Contains}
-use Rattle.papaya_words.specs.declared.probe.Refused as words
-use Rattle.papaya_words.specs.declared.probe.Refused.TheVariants.{Memory, Capacity, RemoveNothing}
+use Rattle.papaya_words.specs.declared.refused.Refused as words
+use Rattle.papaya_words.specs.declared.refused.Refused.TheVariants.{Memory, Capacity, RemoveNothing}
 use Rattle.papaya_call.specs.Answers.{Says}
-use Rattle.papaya_law.specs.Content.{AreApart, lookup}
-use Rattle.papaya_ask.specs.declared.call.Call.{Call}
-use Rattle.papaya_ask.specs.declared.call.Call.TheVariants.{Get, RemoveIf}
-use Rattle.papaya_ask.specs.declared.call.Reply.{Reply}
-use Rattle.papaya_ask.specs.declared.call.Reply.TheVariants.{Absent, Found, Inserted, Replaced, Occupied, Removed, Kept, Aborted, Done, Refused}
-use Rattle.papaya_timeline.specs.Content.{content, map_in}
-use Rattle.papaya_timeline.specs.Maps.{IsUpdate, Map, key_of}
-use Rattle.papaya_timeline.specs.Outcomes.{reply_told}
-use Rattle.papaya_timeline.specs.Solo.{IsAnswered, IsDoneBy, IsLeftBy, IsNewIn}
-use Rattle.papaya_timeline.specs.declared.outcome.Outcome.{Outcome}
-use Rattle.papaya_store.specs.Store.{StoreState, Stored}
-use Rattle.papaya_store.proofs.Logs.{pair_number}
-use Rattle.papaya_timeline.proofs.SoloTimeline.{lookup_alike}
+use Rattle.papaya_words_law.specs.Content.{AreApart, lookup}
+use Rattle.papaya_call.specs.declared.call.Call.{Call}
+use Rattle.papaya_call.specs.declared.call.Call.TheVariants.{Get, RemoveIf}
+use Rattle.papaya_call.specs.declared.call.Reply.{Reply}
+use Rattle.papaya_call.specs.declared.call.Reply.TheVariants.{Absent, Found, Inserted, Replaced, Occupied, Removed, Kept, Aborted, Done, Refused}
+use Rattle.papaya_core_timeline.specs.Content.{content, map_in}
+use Rattle.papaya_core_timeline.specs.Maps.{IsUpdate, Map, key_of}
+use Rattle.papaya_core_timeline.specs.Outcomes.{reply_told}
+use Rattle.papaya_core_timeline.specs.Solo.{IsAnswered, IsDoneBy, IsLeftBy, IsNewIn}
+use Rattle.papaya_core_timeline.specs.declared.outcome.Outcome.{Outcome}
+use Rattle.papaya_core_store.specs.Store.{StoreState, Stored}
+use Rattle.papaya_core_store.proofs.Logs.{pair_number}
+use Rattle.papaya_core_timeline.proofs.SoloTimeline.{lookup_alike}
 use Rattle.papaya_seq.specs.Calls.{AreCalled, IsCalled, IsDone, IsJudged, IsLeftAlone, IsListed, IsSaid, MayRefuse}
 use Rattle.papaya_seq.specs.Map.{Grows, HasNone, Holds, IsMakeRefusal, Keeps, MapState, Unchanged}
 use Rattle.papaya_seq.specs.Removes.{IsRemoval, IsRemovalBy}

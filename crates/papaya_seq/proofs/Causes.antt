@@ -3,19 +3,19 @@ use Rattle.std.proofs.Common.{◌≡◌, ◌⊎◌, inl, inr, ℕ, ◌^◌, ◌<
 use Rattle.papaya_words.specs.Counter.{count_of}
 use Rattle.papaya_words.specs.Table.{TableWords, length_after}
 use Rattle.papaya_words.specs.declared.limits.TheConstants.{FIRST_TABLE_LEN, FIRST_TABLE_LIMIT, MAX_LOG_LEN, MAX_TABLES}
-use Rattle.papaya_words.specs.declared.probe.Refused.{Refused}
-use Rattle.papaya_words.specs.declared.probe.Refused.TheVariants.{Memory, Capacity, Limit, RemoveNothing}
-use Rattle.papaya_ask.specs.declared.ask.Answer.{Answer as Call_answer}
-use Rattle.papaya_ask.specs.declared.ask.Answer.TheVariants.{Word as Word_read, Exchanged}
-use Rattle.papaya_ask.specs.declared.ask.Answer.TheVariants.{Found as Found_instead, Op, Size}
-use Rattle.papaya_ask.specs.declared.ask.Answer.TheVariants.{Made as Made_number}
-use Rattle.papaya_ask.specs.declared.ask.Answer.TheVariants.{Refused as Was_refused}
-use Rattle.papaya_ask.specs.declared.ask.Ask.{Ask as Call_ask}
-use Rattle.papaya_ask.specs.declared.ask.Ask.TheVariants.{Load, Exchange, ShowNone, MakeKey, MakeValue, MakePair, MakePairOf}
-use Rattle.papaya_ask.specs.declared.ask.At.TheVariants.{Next, Made as Made_word}
-use Rattle.papaya_ask.specs.declared.ask.OpKind.TheVariants.{Remove}
-use Rattle.papaya_ask.specs.declared.call.Reply.TheVariants.{Refused as Reply_refused}
-use Rattle.papaya_ask.specs.declared.search.Search.TheVariants.{Sizing as Sizing_table, Looking, Reading, Comparing}
+use Rattle.papaya_words.specs.declared.refused.Refused.{Refused}
+use Rattle.papaya_words.specs.declared.refused.Refused.TheVariants.{Memory, Capacity, Limit, RemoveNothing}
+use Rattle.papaya_call.specs.declared.ask.Answer.{Answer as Call_answer}
+use Rattle.papaya_call.specs.declared.ask.Answer.TheVariants.{Word as Word_read, Exchanged}
+use Rattle.papaya_call.specs.declared.ask.Answer.TheVariants.{Found as Found_instead, Op, Size}
+use Rattle.papaya_call.specs.declared.ask.Answer.TheVariants.{Made as Made_number}
+use Rattle.papaya_call.specs.declared.ask.Answer.TheVariants.{Refused as Was_refused}
+use Rattle.papaya_call.specs.declared.ask.Ask.{Ask as Call_ask}
+use Rattle.papaya_call.specs.declared.ask.Ask.TheVariants.{Load, Exchange, ShowNone, MakeKey, MakeValue, MakePair, MakePairOf}
+use Rattle.papaya_call.specs.declared.ask.At.TheVariants.{Next, Made as Made_word}
+use Rattle.papaya_call.specs.declared.ask.OpKind.TheVariants.{Remove}
+use Rattle.papaya_call.specs.declared.call.Reply.TheVariants.{Refused as Reply_refused}
+use Rattle.papaya_call.specs.declared.search.Search.TheVariants.{Sizing as Sizing_table, Looking, Reading, Comparing}
 use Rattle.papaya_call.specs.declared.machine.Machine.{Machine as Call_machine}
 use Rattle.papaya_call.specs.declared.machine.State.{State as Stage}
 use Rattle.papaya_call.specs.declared.machine.State.TheVariants.{AtRoot, Making, Opening, Searching}
@@ -32,37 +32,37 @@ use Rattle.papaya_call.specs.Made.{make_ask, number_ask}
 use Rattle.papaya_call.specs.Write.{served_ask, serves}
 use Rattle.papaya_call.specs.Machine.{IsComputer, IsStandingState, IsWriter, asks as call_asks}
 use Rattle.papaya_call.specs.Machine as call_machine
-use Rattle.papaya_copy.specs.declared.link.Link.TheVariants as links
-use Rattle.papaya_chain.specs.declared.ask.Ask.TheVariants as asks
-use Rattle.papaya_chain.specs.declared.ask.Answer.{Answer}
-use Rattle.papaya_chain.specs.declared.ask.Answer.TheVariants as answers
-use Rattle.papaya_chain.specs.declared.machine.Machine.{Machine}
-use Rattle.papaya_chain.specs.declared.machine.Phase.{Phase}
-use Rattle.papaya_chain.specs.declared.machine.Phase.TheVariants.{Calling, Linking, Copying as Copying_root}
-use Rattle.papaya_chain.specs.Machine.{after, ask_of, asks_in}
-use Rattle.papaya_chain.proofs.Settings.{settings_stable}
-use Rattle.papaya_chain_law.specs.Goes.{IsOwnRefusal, IsOwnStep, IsTableRefusal, IsToMake, WasNotMade, WouldBeTooLong, link_in}
-use Rattle.papaya_chain_law.specs.Relies.{left_by}
-use Rattle.papaya_chain_law.proofs.LinkStates.{In}
-use Rattle.papaya_chain_law.proofs.Replies.{aside_asks}
-use Rattle.papaya_alone.specs.Limits.{IsNumberTaken, IsPairLogged}
+use Rattle.papaya_call.specs.declared.copy.link.Link.TheVariants as links
+use Rattle.papaya_call.specs.declared.chain.ask.Ask.TheVariants as asks
+use Rattle.papaya_call.specs.declared.chain.ask.Answer.{Answer}
+use Rattle.papaya_call.specs.declared.chain.ask.Answer.TheVariants as answers
+use Rattle.papaya_call.specs.declared.chain.machine.Machine.{Machine}
+use Rattle.papaya_call.specs.declared.chain.machine.Phase.{Phase}
+use Rattle.papaya_call.specs.declared.chain.machine.Phase.TheVariants.{Calling, Linking, Copying as Copying_root}
+use Rattle.papaya_call.specs.ChainMachine.{after, ask_of, asks_in}
+use Rattle.papaya_call.proofs.Settings.{settings_stable}
+use Rattle.papaya_call_law.specs.Goes.{IsOwnRefusal, IsOwnStep, IsTableRefusal, IsToMake, WasNotMade, WouldBeTooLong, link_in}
+use Rattle.papaya_call_law.specs.ChainRelies.{left_by}
+use Rattle.papaya_call_law.proofs.LinkStates.{In}
+use Rattle.papaya_call_law.proofs.Replies.{aside_asks}
+use Rattle.papaya_call_alone.specs.Limits.{IsNumberTaken, IsPairLogged}
 use Rattle.papaya_call_law.specs.Relies.{IsAtLimit, IsNumberAsk}
 use Rattle.papaya_call_law.proofs.Makings.{HoldsOfPairAsks, IsMakeAsk, IsPairAsk, make_asks, pair_holds}
 use Rattle.papaya_call_law.proofs.Tasks.{same_task}
 use Rattle.papaya_call.specs.Answers.{Says}
-use Rattle.papaya_store.specs.Asks.{PerformsAsk}
-use Rattle.papaya_store.specs.Performs.{MakesTable, Performs, Refuses, size_of}
-use Rattle.papaya_store.specs.Store.{StoreState}
-use Rattle.papaya_store.specs.Tables.{table_of}
-use Rattle.papaya_store.specs.declared.pairs.Running.{Running}
-use Rattle.papaya_timeline.specs.Advances.{reply_in}
-use Rattle.papaya_timeline.specs.Core.{CoreState}
-use Rattle.papaya_timeline.specs.Kept.{IsLawfulCore}
-use Rattle.papaya_timeline.specs.Solo.{whatever}
-use Rattle.papaya_timeline.proofs.KeptLemmas.{IsLawfulKeys}
-use Rattle.papaya_timeline.proofs.KeptStep as kept_steps
-use Rattle.papaya_timeline.proofs.KeptTables.{HasMoreTables}
-use Rattle.papaya_timeline.proofs.StoreLemmas.{matched}
+use Rattle.papaya_core_store.specs.Asks.{PerformsAsk}
+use Rattle.papaya_core_store.specs.Performs.{MakesTable, Performs, Refuses, size_of}
+use Rattle.papaya_core_store.specs.Store.{StoreState}
+use Rattle.papaya_core_store.specs.Tables.{table_of}
+use Rattle.papaya_core_store.specs.declared.pairs.Running.{Running}
+use Rattle.papaya_core_timeline.specs.Advances.{reply_in}
+use Rattle.papaya_core_timeline.specs.Core.{CoreState}
+use Rattle.papaya_core_timeline.specs.Kept.{IsLawfulCore}
+use Rattle.papaya_core_timeline.specs.Solo.{whatever}
+use Rattle.papaya_core_timeline.proofs.KeptLemmas.{IsLawfulKeys}
+use Rattle.papaya_core_timeline.proofs.KeptStep as kept_steps
+use Rattle.papaya_core_timeline.proofs.KeptTables.{HasMoreTables}
+use Rattle.papaya_core_timeline.proofs.StoreLemmas.{matched}
 use Rattle.papaya_seq.specs.Map.{HasNoTable, IsLogFull, IsSpent, IsWriteCause, MapState}
 use Rattle.papaya_seq.proofs.KeyCalls.{KeyCall, first_of}
 use Rattle.papaya_seq.proofs.Logs.{IsFirst, IsNumberless, after_made, first_before, number_taken, numberless_before, paired_first}

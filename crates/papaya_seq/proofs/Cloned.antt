@@ -6,10 +6,10 @@ use Rattle.std.proofs.lemmas.List.{length_push}
 use Rattle.std.proofs.lemmas.Bool.{cases_Bool, cond-true, cond-false}
 use Rattle.std.specs.Cmp.{IsEquivalence}
 use Rattle.std.specs.List.{AllZip}
-use Rattle.papaya_words.specs.declared.probe.Refused.{Refused}
-use Rattle.papaya_law.specs.Content.{AreApart, lookup}
-use Rattle.papaya_timeline.specs.Content.{content, map_in}
-use Rattle.papaya_store.specs.Store.{StoreState, Stored}
+use Rattle.papaya_words.specs.declared.refused.Refused.{Refused}
+use Rattle.papaya_words_law.specs.Content.{AreApart, lookup}
+use Rattle.papaya_core_timeline.specs.Content.{content, map_in}
+use Rattle.papaya_core_store.specs.Store.{StoreState, Stored}
 use Rattle.papaya_seq.specs.Clones.{Clones, IsCloned, IsCopied, IsCopyCut}
 use Rattle.papaya_seq.specs.Entries.{Entries, IsPut, entries_in, kept, nothing, put, put_all}
 use Rattle.papaya_seq.specs.Map.{LogsOne, MapState, entry_of}

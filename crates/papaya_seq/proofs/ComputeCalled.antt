@@ -2,23 +2,23 @@
 use Rattle.std.proofs.Common.{◌≡◌, ℕ, Bool, Option, None, Some, Result, Ok, Err, option_map, ⊎_elim, inl, inr, refl, sym, ◌∙◌, ap, subst}
 use denote.Ref.{Bor}
 use Rattle.std.specs.Cmp.{IsEquivalence}
-use Rattle.papaya_words.specs.declared.probe.Refused.{Refused}
-use Rattle.papaya_words.specs.declared.probe.Refused.TheVariants.{Memory, Capacity, Limit, RemoveNothing}
+use Rattle.papaya_words.specs.declared.refused.Refused.{Refused}
+use Rattle.papaya_words.specs.declared.refused.Refused.TheVariants.{Memory, Capacity, Limit, RemoveNothing}
 use Rattle.papaya_call.specs.Answers.{Says as Answers_say}
 use Rattle.papaya_call.specs.declared.answers.Operation.{Operation}
 use Rattle.papaya_call.specs.declared.answers.Operation.TheVariants as ops
-use Rattle.papaya_ask.specs.declared.call.Call.TheVariants.{Compute}
-use Rattle.papaya_ask.specs.declared.call.Reply.{Reply}
-use Rattle.papaya_ask.specs.declared.call.Reply.TheVariants as replies
-use Rattle.papaya_timeline.specs.Content.{map_in}
-use Rattle.papaya_timeline.specs.Maps.{Does, IsUpdate}
-use Rattle.papaya_store.specs.Store.{Stored}
+use Rattle.papaya_call.specs.declared.call.Call.TheVariants.{Compute}
+use Rattle.papaya_call.specs.declared.call.Reply.{Reply}
+use Rattle.papaya_call.specs.declared.call.Reply.TheVariants as replies
+use Rattle.papaya_core_timeline.specs.Content.{map_in}
+use Rattle.papaya_core_timeline.specs.Maps.{Does, IsUpdate}
+use Rattle.papaya_core_store.specs.Store.{Stored}
 use Rattle.papaya_seq.specs.Calls.{Answers, IsCalled, IsOperated}
 use Rattle.papaya_seq.specs.Computes.{CallsOnce, ComputesBy, IsRefusedFirst, Operates, Says, answer_map}
 use Rattle.papaya_seq.specs.Computing.{reply_of}
 use Rattle.papaya_seq.specs.Map.{IsResizing, IsWriteCause, IsWriteCauseAt, KeepsAndGrows, MapState, deref_pair}
-use Rattle.papaya_keys.specs.declared.compute.Computed.{Computed}
-use Rattle.papaya_keys.specs.declared.compute.Computed.TheVariants.{Inserted, Updated, Removed, Aborted}
+use Rattle.papaya_words_keys.specs.declared.results.Computed.{Computed}
+use Rattle.papaya_words_keys.specs.declared.results.Computed.TheVariants.{Inserted, Updated, Removed, Aborted}
 use Rattle.papaya_seq.proofs.Answered.{update_leaves, write_cause}
 
 -- no compute replies as a call does that resizes the map

@@ -2,26 +2,26 @@
 use Rattle.std.proofs.Common.{◌≡◌, inl, inr, ⊎_elim, IfOk, option_map, ℕ, Bool, Option, None, Some, Result, Ok, Err, refl, sym, ◌∙◌, ap, subst}
 use denote.Ref.{Bor}
 use Rattle.std.specs.Cmp.{IsEquivalence}
-use Rattle.papaya_words.specs.declared.probe.Refused.{Refused}
-use Rattle.papaya_words.specs.declared.probe.Refused.TheVariants.{RemoveNothing}
+use Rattle.papaya_words.specs.declared.refused.Refused.{Refused}
+use Rattle.papaya_words.specs.declared.refused.Refused.TheVariants.{RemoveNothing}
 use Rattle.papaya_call.specs.declared.answers.Operation.{Operation}
 use Rattle.papaya_call.specs.declared.answers.Operation.TheVariants as ops
-use Rattle.papaya_ask.specs.declared.call.Reply.{Reply}
-use Rattle.papaya_ask.specs.declared.call.Reply.TheVariants as replies
+use Rattle.papaya_call.specs.declared.call.Reply.{Reply}
+use Rattle.papaya_call.specs.declared.call.Reply.TheVariants as replies
 use Rattle.papaya_call.specs.declared.machine.State.TheVariants.{Ended}
-use Rattle.papaya_chain.specs.Machine.{ask_of}
-use Rattle.papaya_timeline.specs.Advances.{reply_in}
-use Rattle.papaya_timeline.specs.Content.{content, map_in}
-use Rattle.papaya_timeline.specs.Maps.{Does, IsMadeWith, IsUpdate, Same}
-use Rattle.papaya_timeline.specs.Solo.{IsAnswered, IsNewIn}
-use Rattle.papaya_store.specs.Store.{StoreState, Stored, pair_of}
-use Rattle.papaya_store.specs.declared.pairs.Running.{Running}
-use Rattle.papaya_timeline.proofs.SoloTimeline.{lookup_alike}
+use Rattle.papaya_call.specs.ChainMachine.{ask_of}
+use Rattle.papaya_core_timeline.specs.Advances.{reply_in}
+use Rattle.papaya_core_timeline.specs.Content.{content, map_in}
+use Rattle.papaya_core_timeline.specs.Maps.{Does, IsMadeWith, IsUpdate, Same}
+use Rattle.papaya_core_timeline.specs.Solo.{IsAnswered, IsNewIn}
+use Rattle.papaya_core_store.specs.Store.{StoreState, Stored, pair_of}
+use Rattle.papaya_core_store.specs.declared.pairs.Running.{Running}
+use Rattle.papaya_core_timeline.proofs.SoloTimeline.{lookup_alike}
 use Rattle.papaya_seq.specs.Computes.{ComputesBy, IsNew, Says}
 use Rattle.papaya_seq.specs.Computing.{IsComputed, Replies}
 use Rattle.papaya_seq.specs.Map.{IsWriteCause, IsWriteCauseAt, KeepsAndGrows, MapState}
-use Rattle.papaya_keys.specs.declared.compute.Computed.{Computed}
-use Rattle.papaya_keys.specs.declared.compute.Computed.TheVariants.{Inserted, Updated, Removed, Aborted}
+use Rattle.papaya_words_keys.specs.declared.results.Computed.{Computed}
+use Rattle.papaya_words_keys.specs.declared.results.Computed.TheVariants.{Inserted, Updated, Removed, Aborted}
 use Rattle.papaya_seq.proofs.Answered.{logged_there}
 use Rattle.papaya_seq.proofs.ComputeRun.{HasPair, IsAsked, IsComputing, IsDoing, IsFirstEnd, IsInsertEnd, IsLeft, IsToRemove, IsWaiting, ended_by, map_at}
 use Rattle.papaya_seq.proofs.ComputeShown.{compute_of}

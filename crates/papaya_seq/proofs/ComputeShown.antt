@@ -3,48 +3,48 @@ use Rattle.std.proofs.Common.{◌≡◌, ℕ, ◌^◌, ◌<◌, negsuc, Bool, tr
 use Rattle.std.specs.Cmp.{IsEquivalence}
 use Rattle.papaya_words.specs.Counter.{added}
 use Rattle.papaya_words.specs.Word.{pair_of as number_of}
-use Rattle.papaya_words.specs.declared.probe.Refused.TheVariants.{RemoveNothing}
+use Rattle.papaya_words.specs.declared.refused.Refused.TheVariants.{RemoveNothing}
 use Rattle.papaya_call.specs.declared.answers.Operation.TheVariants as ops
-use Rattle.papaya_ask.specs.declared.ask.Answer.TheVariants.{Exchanged, Op, Ok as Ok_done}
-use Rattle.papaya_ask.specs.declared.ask.Ask.TheVariants.{ShowNone, ShowPair}
-use Rattle.papaya_ask.specs.declared.ask.At.{At}
-use Rattle.papaya_ask.specs.declared.ask.At.TheVariants.{Slot}
-use Rattle.papaya_ask.specs.declared.ask.OpKind.TheVariants as kinds
-use Rattle.papaya_ask.specs.declared.call.Call.{Call}
-use Rattle.papaya_ask.specs.declared.call.Call.TheVariants.{Compute as Compute_call}
-use Rattle.papaya_ask.specs.declared.call.Reply.{Reply}
-use Rattle.papaya_ask.specs.declared.call.Reply.TheVariants.{Removed, Refused as Reply_refused}
-use Rattle.papaya_ask.specs.declared.call.Task.TheVariants.{Compute}
+use Rattle.papaya_call.specs.declared.ask.Answer.TheVariants.{Exchanged, Op, Ok as Ok_done}
+use Rattle.papaya_call.specs.declared.ask.Ask.TheVariants.{ShowNone, ShowPair}
+use Rattle.papaya_call.specs.declared.ask.At.{At}
+use Rattle.papaya_call.specs.declared.ask.At.TheVariants.{Slot}
+use Rattle.papaya_call.specs.declared.ask.OpKind.TheVariants as kinds
+use Rattle.papaya_call.specs.declared.call.Call.{Call}
+use Rattle.papaya_call.specs.declared.call.Call.TheVariants.{Compute as Compute_call}
+use Rattle.papaya_call.specs.declared.call.Reply.{Reply}
+use Rattle.papaya_call.specs.declared.call.Reply.TheVariants.{Removed, Refused as Reply_refused}
+use Rattle.papaya_call.specs.declared.call.Task.TheVariants.{Compute}
 use Rattle.papaya_call.specs.declared.compute.Gap.{Gap}
 use Rattle.papaya_call.specs.declared.machine.Machine.{Machine}
 use Rattle.papaya_call.specs.declared.machine.State.{State}
 use Rattle.papaya_call.specs.declared.machine.State.TheVariants.{Searching, Writing, Offering, Showing, Pairing}
 use Rattle.papaya_call.specs.declared.remove.Removal.{Removal}
-use Rattle.papaya_ask.specs.declared.search.Search.TheVariants.{Sizing, Looking, Reading, Comparing}
+use Rattle.papaya_call.specs.declared.search.Search.TheVariants.{Sizing, Looking, Reading, Comparing}
 use Rattle.papaya_call.specs.declared.made.Made.{Made}
 use Rattle.papaya_call.specs.Compute.{in_place_of}
 use Rattle.papaya_call.specs.Machine.{asks}
 use Rattle.papaya_call.specs.Remove.{grave_word}
-use Rattle.papaya_chain.specs.declared.ask.Ask.TheVariants as asked
-use Rattle.papaya_chain.specs.declared.ask.Answer.TheVariants as answers
-use Rattle.papaya_chain.specs.declared.machine.Machine.{Machine as Chain_machine}
-use Rattle.papaya_chain.specs.declared.machine.Phase.TheVariants.{Calling}
-use Rattle.papaya_chain.specs.Machine.{ask_of}
-use Rattle.papaya_chain_law.proofs.Names.{call_asks}
+use Rattle.papaya_call.specs.declared.chain.ask.Ask.TheVariants as asked
+use Rattle.papaya_call.specs.declared.chain.ask.Answer.TheVariants as answers
+use Rattle.papaya_call.specs.declared.chain.machine.Machine.{Machine as Chain_machine}
+use Rattle.papaya_call.specs.declared.chain.machine.Phase.TheVariants.{Calling}
+use Rattle.papaya_call.specs.ChainMachine.{ask_of}
+use Rattle.papaya_call_law.proofs.Names.{call_asks}
 use Rattle.papaya_call_law.proofs.Makings.{HoldsOfPairAsks, pair_holds, write_holds}
-use Rattle.papaya_timeline.proofs.KeptCore.{keys_lawful}
-use Rattle.papaya_timeline.proofs.KeptSettings.{IsLawfulKeys, tables_hashed}
-use Rattle.papaya_timeline.proofs.MachineLemmas.{machine_shows}
-use Rattle.papaya_timeline.specs.Advances.{reply_in}
-use Rattle.papaya_timeline.specs.Content.{map_in}
-use Rattle.papaya_timeline.specs.Kept.{coding_of, low, setting_of}
-use Rattle.papaya_timeline.specs.Maps.{Does, Map}
-use Rattle.papaya_timeline.specs.Solo.{IsAnswered}
-use Rattle.papaya_store.specs.Store.{StoreState, Stored, pair_of}
-use Rattle.papaya_keys.specs.Hashes.{hash_of}
-use Rattle.papaya_store.specs.Tables.{put, word_at}
-use Rattle.papaya_store.specs.declared.pairs.Part.{Part}
-use Rattle.papaya_store.specs.declared.pairs.Running.{Running}
+use Rattle.papaya_core_timeline.proofs.KeptCore.{keys_lawful}
+use Rattle.papaya_core_timeline.proofs.KeptSettings.{IsLawfulKeys, tables_hashed}
+use Rattle.papaya_core_timeline.proofs.MachineLemmas.{machine_shows}
+use Rattle.papaya_core_timeline.specs.Advances.{reply_in}
+use Rattle.papaya_core_timeline.specs.Content.{map_in}
+use Rattle.papaya_core_timeline.specs.Kept.{coding_of, low, setting_of}
+use Rattle.papaya_core_timeline.specs.Maps.{Does, Map}
+use Rattle.papaya_core_timeline.specs.Solo.{IsAnswered}
+use Rattle.papaya_core_store.specs.Store.{StoreState, Stored, pair_of}
+use Rattle.papaya_words_keys.specs.Hashes.{hash_of}
+use Rattle.papaya_core_store.specs.Tables.{put, word_at}
+use Rattle.papaya_core_store.specs.declared.pairs.Part.{Part}
+use Rattle.papaya_core_store.specs.declared.pairs.Running.{Running}
 use Rattle.papaya_seq.specs.Map.{IsLawfulMap, MapState}
 use Rattle.papaya_seq.proofs.Alone.{map_answered}
 use Rattle.papaya_seq.proofs.Answered.{logged_there}

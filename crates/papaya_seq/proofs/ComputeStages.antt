@@ -3,19 +3,19 @@ use Rattle.std.proofs.Common.{◌≡◌, inl, inr, ℕ, ◌<◌, ◌==◌, Bool,
 use Rattle.std.proofs.lemmas.Bool.{cond_both, eqb-true}
 use Rattle.papaya_words.specs.Table.{TableWords}
 use Rattle.papaya_words.specs.Word.{kind_of, pair_of as number_of}
-use Rattle.papaya_words.specs.declared.probe.ResizeMode.{ResizeMode}
-use Rattle.papaya_words.specs.declared.probe.ResizeMode.TheVariants.{Incremental, Blocking}
+use Rattle.papaya_words.specs.declared.resize_mode.ResizeMode.{ResizeMode}
+use Rattle.papaya_words.specs.declared.resize_mode.ResizeMode.TheVariants.{Incremental, Blocking}
 use Rattle.papaya_words.specs.declared.word.Kind.TheVariants as kinds
-use Rattle.papaya_ask.specs.Search.{at_yes as search_compared, hinted, look}
-use Rattle.papaya_ask.specs.declared.ask.Answer.{Answer as Call_answer}
-use Rattle.papaya_ask.specs.declared.ask.Answer.TheVariants.{Word as Word_read, Found as Found_instead, Made as Made_number, Refused as Was_refused}
-use Rattle.papaya_ask.specs.declared.ask.Ask.TheVariants.{ShowNone, ShowPair}
-use Rattle.papaya_ask.specs.declared.ask.At.TheVariants.{Next, Slot}
-use Rattle.papaya_ask.specs.declared.call.Reply.TheVariants.{Removed}
-use Rattle.papaya_ask.specs.declared.call.Task.TheVariants.{Compute}
-use Rattle.papaya_ask.specs.declared.search.Search.TheVariants.{Sizing, Looking, Reading, Comparing}
-use Rattle.papaya_ask.specs.declared.search.Probed.{Probed}
-use Rattle.papaya_ask.specs.declared.search.Probed.TheVariants as seen
+use Rattle.papaya_call.specs.Search.{at_yes as search_compared, hinted, look}
+use Rattle.papaya_call.specs.declared.ask.Answer.{Answer as Call_answer}
+use Rattle.papaya_call.specs.declared.ask.Answer.TheVariants.{Word as Word_read, Found as Found_instead, Made as Made_number, Refused as Was_refused}
+use Rattle.papaya_call.specs.declared.ask.Ask.TheVariants.{ShowNone, ShowPair}
+use Rattle.papaya_call.specs.declared.ask.At.TheVariants.{Next, Slot}
+use Rattle.papaya_call.specs.declared.call.Reply.TheVariants.{Removed}
+use Rattle.papaya_call.specs.declared.call.Task.TheVariants.{Compute}
+use Rattle.papaya_call.specs.declared.search.Search.TheVariants.{Sizing, Looking, Reading, Comparing}
+use Rattle.papaya_call.specs.declared.search.ProbeStep.{ProbeStep}
+use Rattle.papaya_call.specs.declared.search.ProbeStep.TheVariants as seen
 use Rattle.papaya_call.specs.declared.compute.Choice.{Choice}
 use Rattle.papaya_call.specs.declared.compute.Choice.TheVariants.{Replace as To_replace, Remove as To_remove}
 use Rattle.papaya_call.specs.declared.compute.Gap.TheVariants.{NoRoot}
@@ -34,22 +34,22 @@ use Rattle.papaya_call.specs.Compute.{lacks, nothing}
 use Rattle.papaya_call.specs.Made.{grown, told as number_told}
 use Rattle.papaya_call.specs.Machine as calls
 use Rattle.papaya_call.specs.Machine.{asks, computes, goes_as}
-use Rattle.papaya_chain.specs.declared.ask.Ask.TheVariants as asked
-use Rattle.papaya_chain.specs.declared.ask.Answer.{Answer}
-use Rattle.papaya_chain.specs.declared.ask.Answer.TheVariants as answers
-use Rattle.papaya_chain.specs.declared.machine.Machine.{Machine}
-use Rattle.papaya_chain.specs.declared.machine.Phase.TheVariants.{Calling}
-use Rattle.papaya_chain.specs.Machine.{after, ask_of}
-use Rattle.papaya_chain_law.specs.Relies.{left_by}
+use Rattle.papaya_call.specs.declared.chain.ask.Ask.TheVariants as asked
+use Rattle.papaya_call.specs.declared.chain.ask.Answer.{Answer}
+use Rattle.papaya_call.specs.declared.chain.ask.Answer.TheVariants as answers
+use Rattle.papaya_call.specs.declared.chain.machine.Machine.{Machine}
+use Rattle.papaya_call.specs.declared.chain.machine.Phase.TheVariants.{Calling}
+use Rattle.papaya_call.specs.ChainMachine.{after, ask_of}
+use Rattle.papaya_call_law.specs.ChainRelies.{left_by}
 use Rattle.papaya_call_law.specs.Alone.{IsRead}
 use Rattle.papaya_call_law.specs.Says.{Inserts, Makes, Removes, Said, StandsOn, said_to_choose, said_to_fill}
 use Rattle.papaya_call_law.proofs.AloneSteps.{exchange_done}
 use Rattle.papaya_call_law.proofs.Makings.{numbered_leads, paired_leads}
-use Rattle.papaya_store.specs.Asks.{PerformsAsk}
-use Rattle.papaya_store.specs.Performs.{Performs, own_key, same as compares, size_of}
-use Rattle.papaya_store.specs.Store.{StoreState, pair_of}
-use Rattle.papaya_store.specs.Tables.{hint_at, table_of, word_at}
-use Rattle.papaya_store.specs.declared.pairs.Running.{Running}
+use Rattle.papaya_core_store.specs.Asks.{PerformsAsk}
+use Rattle.papaya_core_store.specs.Performs.{Performs, own_key, same as compares, size_of}
+use Rattle.papaya_core_store.specs.Store.{StoreState, pair_of}
+use Rattle.papaya_core_store.specs.Tables.{hint_at, table_of, word_at}
+use Rattle.papaya_core_store.specs.declared.pairs.Running.{Running}
 use Rattle.papaya_seq.proofs.TableSearch.{IsSearchIn, IsSeenIn, IsSettledKind, compared_in, hinted_in, loaded_in, settled_kind, settled_live}
 
 -- a value that was answered, of which a pair is yet to be made
@@ -78,7 +78,7 @@ IsInRoot root (Showing removal) = Unit {0}
 IsInRoot root _ = ⊥
 
 -- what its search saw there leads on
-goes_in : (root : ℕ) (mode : ResizeMode) (saw : Probed) → IsSeenIn (λ word. IsSettledKind (kind_of word)) root saw
+goes_in : (root : ℕ) (mode : ResizeMode) (saw : ProbeStep) → IsSeenIn (λ word. IsSettledKind (kind_of word)) root saw
     → IsInRoot root (goes_as Compute mode nothing saw)
 goes_in root mode (seen.On search) there = there
 goes_in root mode (seen.Empty place) there = tt

@@ -2,18 +2,18 @@
 use Rattle.std.proofs.Common.{◌≡◌, ◌⊎◌, inl, inr, ⊎_elim, ℕ, ◌^◌, ◌<◌, Bool, false, Option, None, Some, [], option_map, refl, sym, ◌∙◌, ap, subst}
 use denote.Ref.{Bor}
 use Rattle.papaya_words.specs.Word.{kind_of, pair_of as number_of}
-use Rattle.papaya_words.specs.declared.probe.Refused.{Refused}
+use Rattle.papaya_words.specs.declared.refused.Refused.{Refused}
 use Rattle.papaya_words.specs.declared.word.Kind.TheVariants.{Marked}
 use Rattle.papaya_call.specs.Answers.{Says as Answers_say}
 use Rattle.papaya_call.specs.declared.answers.Operation.{Operation}
 use Rattle.papaya_call.specs.declared.answers.Operation.TheVariants as ops
-use Rattle.papaya_ask.specs.declared.ask.Answer.TheVariants.{Made as Made_number}
-use Rattle.papaya_ask.specs.declared.ask.Ask.{Ask as Call_ask}
-use Rattle.papaya_ask.specs.declared.ask.Ask.TheVariants.{ShowNone, ShowPair, Done as Ask_done}
-use Rattle.papaya_ask.specs.declared.ask.At.TheVariants.{Next, Slot}
-use Rattle.papaya_ask.specs.declared.call.Reply.{Reply}
-use Rattle.papaya_ask.specs.declared.call.Reply.TheVariants.{Inserted, Replaced, Removed, Aborted, Refused as Reply_refused}
-use Rattle.papaya_ask.specs.declared.call.Task.TheVariants.{Compute}
+use Rattle.papaya_call.specs.declared.ask.Answer.TheVariants.{Made as Made_number}
+use Rattle.papaya_call.specs.declared.ask.Ask.{Ask as Call_ask}
+use Rattle.papaya_call.specs.declared.ask.Ask.TheVariants.{ShowNone, ShowPair, Done as Ask_done}
+use Rattle.papaya_call.specs.declared.ask.At.TheVariants.{Next, Slot}
+use Rattle.papaya_call.specs.declared.call.Reply.{Reply}
+use Rattle.papaya_call.specs.declared.call.Reply.TheVariants.{Inserted, Replaced, Removed, Aborted, Refused as Reply_refused}
+use Rattle.papaya_call.specs.declared.call.Task.TheVariants.{Compute}
 use Rattle.papaya_call.specs.declared.compute.Purpose.{Purpose}
 use Rattle.papaya_call.specs.declared.compute.Purpose.TheVariants.{Fill, Replace, Again}
 use Rattle.papaya_call.specs.declared.machine.Machine.{Machine as Call_machine}
@@ -23,37 +23,37 @@ use Rattle.papaya_call.specs.declared.write.Write.{Write}
 use Rattle.papaya_call.specs.Compute.{nothing}
 use Rattle.papaya_call.specs.Machine as calls
 use Rattle.papaya_call.specs.Machine.{IsStandingState}
-use Rattle.papaya_alone.specs.Ahead.{IsPhaseRead}
-use Rattle.papaya_chain.specs.declared.ask.Ask.{Ask}
-use Rattle.papaya_chain.specs.declared.ask.Ask.TheVariants as asked
-use Rattle.papaya_chain.specs.declared.ask.Answer.{Answer}
-use Rattle.papaya_chain.specs.declared.ask.Answer.TheVariants as answers
-use Rattle.papaya_chain.specs.declared.machine.Machine.{Machine}
-use Rattle.papaya_chain.specs.declared.machine.Phase.TheVariants.{Calling}
-use Rattle.papaya_chain.specs.Machine.{IsFitAsk, IsStanding, after, ask_of}
-use Rattle.papaya_chain_law.specs.Goes.{Goes, IsOwnStep}
-use Rattle.papaya_chain_law.specs.Relies.{left_by}
-use Rattle.papaya_chain_law.proofs.Once.{chain_once}
+use Rattle.papaya_call_alone.specs.Ahead.{IsPhaseRead}
+use Rattle.papaya_call.specs.declared.chain.ask.Ask.{Ask}
+use Rattle.papaya_call.specs.declared.chain.ask.Ask.TheVariants as asked
+use Rattle.papaya_call.specs.declared.chain.ask.Answer.{Answer}
+use Rattle.papaya_call.specs.declared.chain.ask.Answer.TheVariants as answers
+use Rattle.papaya_call.specs.declared.chain.machine.Machine.{Machine}
+use Rattle.papaya_call.specs.declared.chain.machine.Phase.TheVariants.{Calling}
+use Rattle.papaya_call.specs.ChainMachine.{IsFitAsk, IsStanding, after, ask_of}
+use Rattle.papaya_call_law.specs.Goes.{Goes, IsOwnStep}
+use Rattle.papaya_call_law.specs.ChainRelies.{left_by}
+use Rattle.papaya_call_law.proofs.Once.{chain_once}
 use Rattle.papaya_call_law.specs.Alone.{IsRead}
 use Rattle.papaya_call_law.specs.Says.{Agrees, Inserts, IsSaidBy, Makes, Removes, Said, ShowsIn}
 use Rattle.papaya_call_law.specs.Says.{StandsOn, WasSaid, said_in, said_in_reply, said_of_compute}
 use Rattle.papaya_call_law.specs.Says.{said_to_choose, show}
 use Rattle.papaya_call_law.proofs.SaysOver.{machine_paired}
-use Rattle.papaya_store.specs.Asks.{PerformsAsk}
-use Rattle.papaya_store.specs.Performs.{Performs, own_value}
-use Rattle.papaya_store.specs.Store.{KeepsPairs, StoreState, Stored}
-use Rattle.papaya_store.specs.Tables.{word_at}
-use Rattle.papaya_store.specs.declared.pairs.Running.{Running}
-use Rattle.papaya_timeline.specs.Advances.{reply_in}
-use Rattle.papaya_timeline.specs.Content.{map_in}
-use Rattle.papaya_timeline.specs.Kept.{IsLawfulCore}
-use Rattle.papaya_timeline.specs.Solo.{whatever}
-use Rattle.papaya_timeline.proofs.ChainLemmas.{asks_own, chain_aborted}
-use Rattle.papaya_timeline.proofs.CoreLemmas.{reply_asked}
-use Rattle.papaya_timeline.proofs.KeptLemmas.{IsLawfulKeys}
-use Rattle.papaya_timeline.proofs.KeptStep as kept_steps
-use Rattle.papaya_timeline.proofs.MadePairs.{MakesOver}
-use Rattle.papaya_timeline.proofs.StoreLemmas.{performed_ask, unnumbered}
+use Rattle.papaya_core_store.specs.Asks.{PerformsAsk}
+use Rattle.papaya_core_store.specs.Performs.{Performs, own_value}
+use Rattle.papaya_core_store.specs.Store.{KeepsPairs, StoreState, Stored}
+use Rattle.papaya_core_store.specs.Tables.{word_at}
+use Rattle.papaya_core_store.specs.declared.pairs.Running.{Running}
+use Rattle.papaya_core_timeline.specs.Advances.{reply_in}
+use Rattle.papaya_core_timeline.specs.Content.{map_in}
+use Rattle.papaya_core_timeline.specs.Kept.{IsLawfulCore}
+use Rattle.papaya_core_timeline.specs.Solo.{whatever}
+use Rattle.papaya_core_timeline.proofs.ChainLemmas.{asks_own, chain_aborted}
+use Rattle.papaya_core_timeline.proofs.CoreLemmas.{reply_asked}
+use Rattle.papaya_core_timeline.proofs.KeptLemmas.{IsLawfulKeys}
+use Rattle.papaya_core_timeline.proofs.KeptStep as kept_steps
+use Rattle.papaya_core_timeline.proofs.MadePairs.{MakesOver}
+use Rattle.papaya_core_timeline.proofs.StoreLemmas.{performed_ask, unnumbered}
 use Rattle.papaya_seq.specs.Map.{IsLawfulMap, IsWriteCauseAt, MapState, next_of}
 use Rattle.papaya_seq.proofs.Answering.{IsShowing, answering_performs}
 use Rattle.papaya_seq.proofs.Causes.{IsLogRefusal, IsNoTableRefusal, IsPairStage, IsTableAsk, IsUnlogged, PairsFirst, refused_so, unlogged_more, write_cause}

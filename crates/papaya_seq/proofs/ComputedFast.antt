@@ -8,18 +8,18 @@ use denote.Ref.{Bor}
 use Rattle.papaya_words.specs.Counter.{added}
 use Rattle.papaya_words.specs.Word.{kind_of, live_word, pair_of as number_of}
 use Rattle.papaya_words.specs.declared.limits.TheConstants.{MAX_LOG_LEN}
-use Rattle.papaya_words.specs.declared.probe.Refused.{Refused}
-use Rattle.papaya_words.specs.declared.probe.Refused.TheVariants.{RemoveNothing}
-use Rattle.papaya_words.specs.declared.probe.ResizeMode.{ResizeMode}
+use Rattle.papaya_words.specs.declared.refused.Refused.{Refused}
+use Rattle.papaya_words.specs.declared.refused.Refused.TheVariants.{RemoveNothing}
+use Rattle.papaya_words.specs.declared.resize_mode.ResizeMode.{ResizeMode}
 use Rattle.papaya_words.specs.declared.word.Kind.{Kind}
 use Rattle.papaya_words.specs.declared.word.Kind.TheVariants as kinds
-use Rattle.papaya_ask.specs.declared.ask.Answer.TheVariants.{Exchanged, Made as Made_number, Op, Ok as Ok_done, Refused as Was_refused}
-use Rattle.papaya_ask.specs.declared.ask.Ask.TheVariants.{MakeValue, MakePairOf, ShowPair}
-use Rattle.papaya_ask.specs.declared.ask.OpKind.TheVariants as told
-use Rattle.papaya_ask.specs.declared.search.Place.{Place}
-use Rattle.papaya_ask.specs.declared.call.Task.TheVariants.{Compute}
-use Rattle.papaya_ask.specs.declared.call.Reply.{Reply}
-use Rattle.papaya_ask.specs.declared.call.Reply.TheVariants.{Inserted, Replaced, Removed, Aborted, Refused as Reply_refused}
+use Rattle.papaya_call.specs.declared.ask.Answer.TheVariants.{Exchanged, Made as Made_number, Op, Ok as Ok_done, Refused as Was_refused}
+use Rattle.papaya_call.specs.declared.ask.Ask.TheVariants.{MakeValue, MakePairOf, ShowPair}
+use Rattle.papaya_call.specs.declared.ask.OpKind.TheVariants as told
+use Rattle.papaya_call.specs.declared.search.Place.{Place}
+use Rattle.papaya_call.specs.declared.call.Task.TheVariants.{Compute}
+use Rattle.papaya_call.specs.declared.call.Reply.{Reply}
+use Rattle.papaya_call.specs.declared.call.Reply.TheVariants.{Inserted, Replaced, Removed, Aborted, Refused as Reply_refused}
 use Rattle.papaya_call.specs.declared.answers.Operation.{Operation}
 use Rattle.papaya_call.specs.declared.answers.Operation.TheVariants as ops
 use Rattle.papaya_call.specs.declared.compute.Gap.TheVariants.{At}
@@ -39,19 +39,19 @@ use Rattle.papaya_call.specs.Machine.{after, asks as call_asks, computes, made_t
 use Rattle.papaya_call.specs.Made.{grown, nothing_made, of_ask, of_grown, own_ask, own_grown}
 use Rattle.papaya_call.specs.Remove.{grave_word}
 use Rattle.papaya_call.specs.Write.{claimed_by}
-use Rattle.papaya_chain.specs.declared.ask.Answer.{Answer as Chain_answer}
-use Rattle.papaya_chain.specs.declared.ask.Answer.TheVariants as answers
-use Rattle.papaya_chain.specs.declared.ask.Ask.TheVariants as asks
-use Rattle.papaya_store.specs.declared.pairs.Pair.{Pair}
-use Rattle.papaya_store.specs.declared.pairs.Pair.TheVariants as pairs
-use Rattle.papaya_store.specs.declared.pairs.Part.{Part}
-use Rattle.papaya_store.specs.declared.pairs.Part.TheVariants.{Own, Logged}
-use Rattle.papaya_store.specs.declared.pairs.Running.{Running}
-use Rattle.papaya_store.specs.Pairs.{key_from}
-use Rattle.papaya_store.specs.Performs.{Refuses}
-use Rattle.papaya_store.specs.Store.{StoreState, Stored, pair_of}
-use Rattle.papaya_store.specs.Tables.{put, word_at}
-use Rattle.papaya_keys.specs.declared.compute.Computed.{Computed}
+use Rattle.papaya_call.specs.declared.chain.ask.Answer.{Answer as Chain_answer}
+use Rattle.papaya_call.specs.declared.chain.ask.Answer.TheVariants as answers
+use Rattle.papaya_call.specs.declared.chain.ask.Ask.TheVariants as asks
+use Rattle.papaya_core_store.specs.declared.pairs.Pair.{Pair}
+use Rattle.papaya_core_store.specs.declared.pairs.Pair.TheVariants as pairs
+use Rattle.papaya_core_store.specs.declared.pairs.Part.{Part}
+use Rattle.papaya_core_store.specs.declared.pairs.Part.TheVariants.{Own, Logged}
+use Rattle.papaya_core_store.specs.declared.pairs.Running.{Running}
+use Rattle.papaya_core_store.specs.Pairs.{key_from}
+use Rattle.papaya_core_store.specs.Performs.{Refuses}
+use Rattle.papaya_core_store.specs.Store.{StoreState, Stored, pair_of}
+use Rattle.papaya_core_store.specs.Tables.{put, word_at}
+use Rattle.papaya_words_keys.specs.declared.results.Computed.{Computed}
 use Rattle.papaya_seq.specs.ComputeRuns.{IsComputedFrom, IsOperated, ended_by, told_by, value_by}
 use Rattle.papaya_seq.specs.Computes.{AreOf}
 use Rattle.papaya_seq.specs.Computing.{IsComputed}
@@ -60,7 +60,7 @@ use Rattle.papaya_seq.specs.Looks.{Comes}
 use Rattle.papaya_seq.specs.Map.{deref_pair, entry_of}
 use Rattle.papaya_seq.specs.Searches.{IsRootTurn}
 use Rattle.papaya_seq.specs.Writes.{IsWritten, claiming, burying, slot_of, storing}
-use Rattle.papaya_seq.specs.declared.search.Turn.TheVariants as turns
+use Rattle.papaya_seq.specs.declared.search.ProbeHit.TheVariants as turns
 use Rattle.papaya_seq.proofs.FastPath.{driven, logging, under_way}
 use Rattle.papaya_seq.proofs.Exchanging.{exchange_made}
 

@@ -4,14 +4,14 @@ use Rattle.std.specs.Prelude.{MatchOption}
 use denote.Ref.{Bor}
 use Rattle.std.specs.Cmp.{IsEquivalence}
 use Rattle.papaya_words.specs.Word.{kind_of, pair_of as number_of}
-use Rattle.papaya_words.specs.declared.probe.Refused.{Refused}
+use Rattle.papaya_words.specs.declared.refused.Refused.{Refused}
 use Rattle.papaya_words.specs.declared.word.Kind.{Kind}
 use Rattle.papaya_words.specs.declared.word.Kind.TheVariants.{Live}
-use Rattle.papaya_ask.specs.declared.ask.Answer.{Answer as Call_answer}
-use Rattle.papaya_ask.specs.declared.ask.Answer.TheVariants.{Op}
-use Rattle.papaya_ask.specs.declared.ask.Ask.TheVariants.{ShowNone, ShowPair}
-use Rattle.papaya_ask.specs.declared.call.Reply.{Reply}
-use Rattle.papaya_ask.specs.declared.call.Task.TheVariants.{Compute}
+use Rattle.papaya_call.specs.declared.ask.Answer.{Answer as Call_answer}
+use Rattle.papaya_call.specs.declared.ask.Answer.TheVariants.{Op}
+use Rattle.papaya_call.specs.declared.ask.Ask.TheVariants.{ShowNone, ShowPair}
+use Rattle.papaya_call.specs.declared.call.Reply.{Reply}
+use Rattle.papaya_call.specs.declared.call.Task.TheVariants.{Compute}
 use Rattle.papaya_call.specs.declared.answers.Operation.{Operation}
 use Rattle.papaya_call.specs.declared.answers.Operation.TheVariants as ops
 use Rattle.papaya_call.specs.declared.compute.Gap.TheVariants.{At}
@@ -20,22 +20,22 @@ use Rattle.papaya_call.specs.declared.machine.State.TheVariants.{Offering, Showi
 use Rattle.papaya_call.specs.Compute.{nothing}
 use Rattle.papaya_call.specs.Machine as calls
 use Rattle.papaya_call.specs.Machine.{computes as finds, started}
-use Rattle.papaya_chain.specs.declared.ask.Answer.{Answer}
-use Rattle.papaya_chain.specs.declared.ask.Answer.TheVariants as answers
-use Rattle.papaya_chain.specs.declared.ask.Ask.TheVariants as asks
-use Rattle.papaya_chain.specs.Machine.{IsStanding, after, ask_of}
-use Rattle.papaya_chain_law.proofs.Standing.{chain_stands}
-use Rattle.papaya_keys.specs.Hashes.{hash_of}
-use Rattle.papaya_keys.specs.declared.compute.Computed.{Computed}
-use Rattle.papaya_store.specs.declared.pairs.Part.{Part}
-use Rattle.papaya_store.specs.declared.pairs.Part.TheVariants.{Own}
-use Rattle.papaya_store.specs.declared.pairs.Running.{Running}
-use Rattle.papaya_store.specs.Store.{StoreState, Stored, pair_of}
-use Rattle.papaya_timeline.specs.Advances.{reply_in}
-use Rattle.papaya_timeline.specs.Content.{map_in}
-use Rattle.papaya_timeline.specs.Solo.{whatever}
-use Rattle.papaya_timeline.proofs.KeptCore.{keys_lawful}
-use Rattle.papaya_timeline.proofs.KeptSettings.{IsLawfulKeys}
+use Rattle.papaya_call.specs.declared.chain.ask.Answer.{Answer}
+use Rattle.papaya_call.specs.declared.chain.ask.Answer.TheVariants as answers
+use Rattle.papaya_call.specs.declared.chain.ask.Ask.TheVariants as asks
+use Rattle.papaya_call.specs.ChainMachine.{IsStanding, after, ask_of}
+use Rattle.papaya_call_law.proofs.ChainStanding.{chain_stands}
+use Rattle.papaya_words_keys.specs.Hashes.{hash_of}
+use Rattle.papaya_words_keys.specs.declared.results.Computed.{Computed}
+use Rattle.papaya_core_store.specs.declared.pairs.Part.{Part}
+use Rattle.papaya_core_store.specs.declared.pairs.Part.TheVariants.{Own}
+use Rattle.papaya_core_store.specs.declared.pairs.Running.{Running}
+use Rattle.papaya_core_store.specs.Store.{StoreState, Stored, pair_of}
+use Rattle.papaya_core_timeline.specs.Advances.{reply_in}
+use Rattle.papaya_core_timeline.specs.Content.{map_in}
+use Rattle.papaya_core_timeline.specs.Solo.{whatever}
+use Rattle.papaya_core_timeline.proofs.KeptCore.{keys_lawful}
+use Rattle.papaya_core_timeline.proofs.KeptSettings.{IsLawfulKeys}
 use Rattle.papaya_seq.specs.ComputeRuns.{IsComputedFrom, IsLogged, TakesAt, ended_by, show_of, told_by, value_by}
 use Rattle.papaya_seq.specs.Computes.{AreOf, ComputesBy, Says, Takes}
 use Rattle.papaya_seq.specs.Computing.{IsComputed, IsKept, Replies}
@@ -44,8 +44,8 @@ use Rattle.papaya_seq.specs.Looks.{Comes}
 use Rattle.papaya_seq.specs.MadeAlone.{IsComputedAlone}
 use Rattle.papaya_seq.specs.Map.{IsLawfulMap, KeepsAndGrows, MapState, deref_pair, entry_of}
 use Rattle.papaya_seq.specs.Searches.{IsRootTurn}
-use Rattle.papaya_seq.specs.declared.search.Turn.{Turn}
-use Rattle.papaya_seq.specs.declared.search.Turn.TheVariants as turns
+use Rattle.papaya_seq.specs.declared.search.ProbeHit.{ProbeHit}
+use Rattle.papaya_seq.specs.declared.search.ProbeHit.TheVariants as turns
 use Rattle.papaya_seq.proofs.Alone.{map_answered, map_hasher, map_lawful, map_logged}
 use Rattle.papaya_seq.proofs.FastPath.{call_answers, comes_drives}
 use Rattle.papaya_seq.proofs.ComputeAsked.{none_held, none_went, pair_held, pair_went}
@@ -188,7 +188,7 @@ module _ {K V S H F T : Type 0} (eq : K → K → Bool) (input : K → List (Lis
         (comes_drives eq hash s.store k None 0 loads begun m comes) (Some f) None None begins
 
     -- its closure may be called at what the search found
-    pub computation_takes : (pre : Option (Bor K × Bor V) → Type 0) → Takes pre (map_in eq s.store k) → (turn : Turn)
+    pub computation_takes : (pre : Option (Bor K × Bor V) → Type 0) → Takes pre (map_in eq s.store k) → (turn : ProbeHit)
         → IsRootTurn (eq k) s.store (hash s.store.hasher k) turn → TakesAt pre s.store turn
     computation_takes pre takes (turns.Empty place) root =
         let came = root.sees begun in

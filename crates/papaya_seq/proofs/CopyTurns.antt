@@ -4,55 +4,55 @@ use Rattle.std.proofs.Common.{false, cond, List, [], ◌∷◌, ◌++◌, Option
 use Rattle.std.proofs.Common.{subst}
 use Rattle.papaya_words.specs.Word.{kind_of, pair_of as number_of, hint_of, live_word, may_hold, shut_hint}
 use Rattle.papaya_words.specs.declared.word.Kind.{Kind}
-use Rattle.papaya_words.specs.declared.probe.ResizeMode.{ResizeMode}
-use Rattle.papaya_ask.specs.declared.ask.Answer.{Answer as Call_answer}
-use Rattle.papaya_ask.specs.declared.ask.Answer.TheVariants.{Word as Word_read, Exchanged, Found as Found_instead, Size, Ok as Ok_done}
-use Rattle.papaya_ask.specs.declared.ask.At.{At}
-use Rattle.papaya_ask.specs.declared.ask.At.TheVariants.{Slot as Slot_at}
-use Rattle.papaya_ask.specs.declared.copy_ask.CopyAsk.{CopyAsk}
-use Rattle.papaya_ask.specs.declared.copy_ask.CopyAsk.TheVariants.{Exchange, WriteHint}
-use Rattle.papaya_ask.specs.declared.search.Place.{Place}
-use Rattle.papaya_ask.specs.declared.search.Search.TheVariants as searches
-use Rattle.papaya_ask.specs.declared.search.Probed.{Probed}
-use Rattle.papaya_ask.specs.declared.search.Probed.TheVariants as seen
-use Rattle.papaya_ask.specs.Search as search_specs
-use Rattle.papaya_ask.specs.Search.{first_place, next_place}
-use Rattle.papaya_copy.specs.Carry as carries
-use Rattle.papaya_copy.specs.Copying.{leads}
-use Rattle.papaya_copy.specs.Settle.{at_exchanged, at_found, at_hash, at_ok, at_size, at_word}
-use Rattle.papaya_copy.specs.Settle.{copied_as, finishes as settle_finishes, look_at as settle_look}
-use Rattle.papaya_copy.specs.Settle.{marked_as, settle_ask, settled_by}
-use Rattle.papaya_copy.specs.Step.{next_in, next_slot, settled_to, slot_of}
-use Rattle.papaya_copy.specs.declared.carry.Carried.TheVariants.{On as Carry_on}
-use Rattle.papaya_copy.specs.declared.carry.Carry.{Carry}
-use Rattle.papaya_copy.specs.declared.carry.Carry.TheVariants.{Hashing, Sizing, Looking, Reading, Placing, Placed}
-use Rattle.papaya_copy.specs.declared.copying.Aim.{Aim}
-use Rattle.papaya_copy.specs.declared.copying.Copied.{Copied}
-use Rattle.papaya_copy.specs.declared.copying.Copied.TheVariants as copied_to
-use Rattle.papaya_copy.specs.declared.copying.Copying.{Copying}
-use Rattle.papaya_copy.specs.declared.copying.Copying.TheVariants.{Stepping}
-use Rattle.papaya_copy.specs.declared.settle.Settle.{Settle}
-use Rattle.papaya_copy.specs.declared.settle.Settle.TheVariants as settles
-use Rattle.papaya_copy.specs.declared.settle.Settled.{Settled}
-use Rattle.papaya_copy.specs.declared.settle.Settled.TheVariants.{On, Settled as Was_settled}
-use Rattle.papaya_copy.specs.declared.settle.Slot.{Slot}
-use Rattle.papaya_copy.specs.declared.step.Chunk.{Chunk}
-use Rattle.papaya_copy.specs.declared.step.Step.TheVariants.{Settling, Advancing}
-use Rattle.papaya_copy.specs.declared.step.Stepped.TheVariants as stepped
-use Rattle.papaya_chain.specs.declared.ask.Answer.{Answer}
-use Rattle.papaya_chain.specs.declared.ask.Answer.TheVariants.{Call, Hash}
-use Rattle.papaya_chain.specs.declared.machine.Machine.{Machine}
-use Rattle.papaya_chain.specs.declared.machine.Phase.TheVariants.{Copying as Copying_root}
-use Rattle.papaya_chain.specs.declared.ask.Ask.{Ask}
-use Rattle.papaya_chain.specs.declared.ask.Ask.TheVariants as asks
-use Rattle.papaya_chain.specs.declared.resizer.Resizer.{Resizer}
-use Rattle.papaya_chain.specs.Machine.{after, after_copied, copying_after}
-use Rattle.papaya_chain.specs.Resizer as resizers
-use Rattle.papaya_store.specs.Copies.{PerformsCopy, hash_in}
-use Rattle.papaya_store.specs.Performs.{Exchanges, size_of}
-use Rattle.papaya_store.specs.Store.{StoreState, Stored, pair_of}
-use Rattle.papaya_store.specs.Tables.{hint_at, note, put, table_of, word_at}
-use Rattle.papaya_timeline.proofs.StoreLemmas.{matched, numbered, performed_copy, unnumbered}
+use Rattle.papaya_words.specs.declared.resize_mode.ResizeMode.{ResizeMode}
+use Rattle.papaya_call.specs.declared.ask.Answer.{Answer as Call_answer}
+use Rattle.papaya_call.specs.declared.ask.Answer.TheVariants.{Word as Word_read, Exchanged, Found as Found_instead, Size, Ok as Ok_done}
+use Rattle.papaya_call.specs.declared.ask.At.{At}
+use Rattle.papaya_call.specs.declared.ask.At.TheVariants.{Slot as Slot_at}
+use Rattle.papaya_call.specs.declared.copy_ask.CopyAsk.{CopyAsk}
+use Rattle.papaya_call.specs.declared.copy_ask.CopyAsk.TheVariants.{Exchange, WriteHint}
+use Rattle.papaya_call.specs.declared.search.Place.{Place}
+use Rattle.papaya_call.specs.declared.search.Search.TheVariants as searches
+use Rattle.papaya_call.specs.declared.search.ProbeStep.{ProbeStep}
+use Rattle.papaya_call.specs.declared.search.ProbeStep.TheVariants as seen
+use Rattle.papaya_call.specs.Search as search_specs
+use Rattle.papaya_call.specs.Search.{first_place, next_place}
+use Rattle.papaya_call.specs.Carry as carries
+use Rattle.papaya_call.specs.Copying.{leads}
+use Rattle.papaya_call.specs.Settle.{at_exchanged, at_found, at_hash, at_ok, at_size, at_word}
+use Rattle.papaya_call.specs.Settle.{copied_as, finishes as settle_finishes, look_at as settle_look}
+use Rattle.papaya_call.specs.Settle.{marked_as, settle_ask, settled_by}
+use Rattle.papaya_call.specs.Step.{next_in, next_slot, settled_to, slot_of}
+use Rattle.papaya_call.specs.declared.copy.carry.Carried.TheVariants.{On as Carry_on}
+use Rattle.papaya_call.specs.declared.copy.carry.Carry.{Carry}
+use Rattle.papaya_call.specs.declared.copy.carry.Carry.TheVariants.{Hashing, Sizing, Looking, Reading, Placing, Placed}
+use Rattle.papaya_call.specs.declared.copy.copying.Aim.{Aim}
+use Rattle.papaya_call.specs.declared.copy.copying.Copied.{Copied}
+use Rattle.papaya_call.specs.declared.copy.copying.Copied.TheVariants as copied_to
+use Rattle.papaya_call.specs.declared.copy.copying.Copying.{Copying}
+use Rattle.papaya_call.specs.declared.copy.copying.Copying.TheVariants.{Stepping}
+use Rattle.papaya_call.specs.declared.copy.settle.Settle.{Settle}
+use Rattle.papaya_call.specs.declared.copy.settle.Settle.TheVariants as settles
+use Rattle.papaya_call.specs.declared.copy.settle.Settled.{Settled}
+use Rattle.papaya_call.specs.declared.copy.settle.Settled.TheVariants.{On, Settled as Was_settled}
+use Rattle.papaya_call.specs.declared.copy.settle.SlotToCopy.{SlotToCopy}
+use Rattle.papaya_call.specs.declared.copy.step.Chunk.{Chunk}
+use Rattle.papaya_call.specs.declared.copy.step.Step.TheVariants.{Settling, Advancing}
+use Rattle.papaya_call.specs.declared.copy.step.Stepped.TheVariants as stepped
+use Rattle.papaya_call.specs.declared.chain.ask.Answer.{Answer}
+use Rattle.papaya_call.specs.declared.chain.ask.Answer.TheVariants.{Call, Hash}
+use Rattle.papaya_call.specs.declared.chain.machine.Machine.{Machine}
+use Rattle.papaya_call.specs.declared.chain.machine.Phase.TheVariants.{Copying as Copying_root}
+use Rattle.papaya_call.specs.declared.chain.ask.Ask.{Ask}
+use Rattle.papaya_call.specs.declared.chain.ask.Ask.TheVariants as asks
+use Rattle.papaya_call.specs.declared.chain.resizer.Resizer.{Resizer}
+use Rattle.papaya_call.specs.ChainMachine.{after, after_copied, copying_after}
+use Rattle.papaya_call.specs.Resizer as resizers
+use Rattle.papaya_core_store.specs.CopyAsks.{PerformsCopy, hash_in}
+use Rattle.papaya_core_store.specs.Performs.{Exchanges, size_of}
+use Rattle.papaya_core_store.specs.Store.{StoreState, Stored, pair_of}
+use Rattle.papaya_core_store.specs.Tables.{hint_at, note, put, table_of, word_at}
+use Rattle.papaya_core_timeline.proofs.StoreLemmas.{matched, numbered, performed_copy, unnumbered}
 use Rattle.papaya_seq.specs.Copies.{Comes, Copies, IsSized, Settles, asked_in, copy_in, copy_of, led_on}
 use Rattle.papaya_seq.specs.Searches.{passed_by, passed_on, seen_at}
 use Rattle.papaya_seq.proofs.Exchanging.{exchange_done, exchange_made}
@@ -98,7 +98,7 @@ module _ {K V S : Type 0} (eq : K → K → Bool) (hash : S → K → ℕ) where
         let (more, later) = rest initial number in
         (told ++ more, copies_then asked_in (led_on mode initial number) told more s from s' to s'' end led later)
 
-    module _ (slot : Slot) where
+    module _ (slot : SlotToCopy) where
       pub settles_none : (s : StoreState K V S) (at : Settled) → Settles eq hash mode slot s at s at
       settles_none s at aim chunk is initial number = ([], (refl, refl))
 
@@ -109,7 +109,7 @@ module _ {K V S : Type 0} (eq : K → K → Bool) (hash : S → K → ℕ) where
 
       module _ (s s' : StoreState K V S) (settle : Settle) where
         -- one ask is answered
-        one : (answer : Answer) (to : Slot → Settled) → PerformsCopy eq hash false (settle_ask settle slot) s answer s'
+        one : (answer : Answer) (to : SlotToCopy → Settled) → PerformsCopy eq hash false (settle_ask settle slot) s answer s'
             → ((aim : Aim) (chunk : Chunk) (initial number : ℕ)
             → leads aim mode (settled_to chunk (to (slot_of chunk))) ≡ copying_after (Stepping aim (Settling chunk settle)) mode initial number answer)
             → Settles eq hash mode slot s (On settle) s' (to slot)
@@ -195,7 +195,7 @@ module _ {K V S : Type 0} (eq : K → K → Bool) (hash : S → K → ℕ) where
         reads_passed hashed zero at place is = reads hashed at place is
         reads_passed hashed (suc n) at place is = go (seen_at s hashed at) refl is (λ next. reads_passed hashed n next place)
           where
-            go : (told : Probed) → seen_at s hashed at ≡ told → passed_on (λ next. passed_by s hashed n next) told ≡ seen.On (searches.Reading place)
+            go : (told : ProbeStep) → seen_at s hashed at ≡ told → passed_on (λ next. passed_by s hashed n next) told ≡ seen.On (searches.Reading place)
                 → ((next : Place) → passed_by s hashed n next ≡ seen.On (searches.Reading place)
                 → Settles eq hash mode slot s (carried (Looking hashed next)) s (carried (Reading hashed place)))
                 → Settles eq hash mode slot s (carried (Looking hashed at)) s (carried (Reading hashed place))

@@ -3,9 +3,9 @@ use Rattle.std.proofs.Common.{◌≡◌, ℕ, ◌<◌, ◌^◌, Bool, ℤ, pos, 
 use Rattle.std.proofs.lemmas.Int.{fits_signed_from_abs, ints, int_wrap_fits, to_z-of_z, to_z_pos}
 use Rattle.std.specs.Int.{w64, int_wrap}
 use Rattle.papaya_words.specs.Counter.{count_of}
-use Rattle.papaya_timeline.specs.Content.{content}
-use Rattle.papaya_timeline.specs.Counted.{IsCounted}
-use Rattle.papaya_store.specs.Store.{StoreState}
+use Rattle.papaya_core_timeline.specs.Content.{content}
+use Rattle.papaya_core_timeline.specs.Counted.{IsCounted}
+use Rattle.papaya_core_store.specs.Store.{StoreState}
 
 -- a list of no length
 no_items : {A : Type 0} (xs : List A) → length xs ≡ 0 → xs ≡ []

@@ -1,12 +1,12 @@
 -- How far a call of a map for one caller is from its end.
 use Rattle.std.proofs.Common.{ℕ, suc, Option, None, Some}
-use Rattle.papaya_ask.specs.declared.call.Reply.{Reply}
-use Rattle.papaya_alone.specs.Rank.{measure}
-use Rattle.papaya_chain.specs.declared.machine.Machine.{Machine}
-use Rattle.papaya_chain.specs.Machine.{ask_of}
-use Rattle.papaya_timeline.specs.Advances.{reply_in}
-use Rattle.papaya_timeline.specs.Ends.{budget_of}
-use Rattle.papaya_store.specs.Store.{StoreState}
+use Rattle.papaya_call.specs.declared.call.Reply.{Reply}
+use Rattle.papaya_call_alone.specs.Rank.{measure}
+use Rattle.papaya_call.specs.declared.chain.machine.Machine.{Machine}
+use Rattle.papaya_call.specs.ChainMachine.{ask_of}
+use Rattle.papaya_core_timeline.specs.Advances.{reply_in}
+use Rattle.papaya_core_timeline.specs.Ends.{budget_of}
+use Rattle.papaya_core_store.specs.Store.{StoreState}
 
 -- nothing is left to a call that has replied
 abbrev pub left_to : Option Reply → ℕ → ℕ

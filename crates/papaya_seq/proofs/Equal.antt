@@ -6,9 +6,9 @@ use Rattle.std.specs.Prelude.{Decides, is_some}
 use Rattle.std.proofs.lemmas.Bool.{cases_Bool, cond-true, cond-false}
 use Rattle.std.specs.Cmp.{IsEquivalence}
 use Rattle.std.specs.List.{AllByRecursion}
-use Rattle.papaya_law.specs.Content.{AreApart, lookup}
-use Rattle.papaya_timeline.specs.Content.{content, map_in}
-use Rattle.papaya_store.specs.Store.{StoreState, Stored}
+use Rattle.papaya_words_law.specs.Content.{AreApart, lookup}
+use Rattle.papaya_core_timeline.specs.Content.{content, map_in}
+use Rattle.papaya_core_store.specs.Store.{StoreState, Stored}
 use Rattle.papaya_seq.specs.Map.{entry_of, value_of}
 use Rattle.papaya_seq.specs.Clones.{AreEqual, HasEqual}
 

@@ -1,12 +1,12 @@
 -- An exchange of the word that stands there.
 use Rattle.std.proofs.Common.{◌≡◌, ℕ, ◌==◌, true, MatchBool, refl, sym, subst, eq-eqb}
-use Rattle.papaya_ask.specs.declared.ask.Answer.{Answer}
-use Rattle.papaya_ask.specs.declared.ask.Answer.TheVariants.{Exchanged, Found as Found_instead}
-use Rattle.papaya_ask.specs.declared.ask.At.{At}
-use Rattle.papaya_store.specs.Performs.{Exchanges}
-use Rattle.papaya_store.specs.Store.{StoreState}
-use Rattle.papaya_store.specs.Tables.{put, word_at}
-use Rattle.papaya_timeline.proofs.StoreLemmas.{matched}
+use Rattle.papaya_call.specs.declared.ask.Answer.{Answer}
+use Rattle.papaya_call.specs.declared.ask.Answer.TheVariants.{Exchanged, Found as Found_instead}
+use Rattle.papaya_call.specs.declared.ask.At.{At}
+use Rattle.papaya_core_store.specs.Performs.{Exchanges}
+use Rattle.papaya_core_store.specs.Store.{StoreState}
+use Rattle.papaya_core_store.specs.Tables.{put, word_at}
+use Rattle.papaya_core_timeline.proofs.StoreLemmas.{matched}
 
 module _ {K V S : Type 0} (s : StoreState K V S) (at : At) (old new : ℕ) (stands : word_at s.words at ≡ old) where
   -- it may be made

@@ -7,20 +7,20 @@ use Rattle.std.specs.Prelude.{pos}
 use Rattle.papaya_words.specs.Counter.{added}
 use Rattle.papaya_words.specs.Word.{kind_of, live_word, pair_of as number_of}
 use Rattle.papaya_words.specs.declared.word.Kind.TheVariants.{Live}
-use Rattle.papaya_words.specs.declared.probe.ResizeMode.{ResizeMode}
+use Rattle.papaya_words.specs.declared.resize_mode.ResizeMode.{ResizeMode}
 use Rattle.papaya_words.specs.declared.limits.TheConstants.{MAX_LOG_LEN}
-use Rattle.papaya_words.specs.declared.probe.Refused.{Refused}
-use Rattle.papaya_ask.specs.declared.ask.Answer.{Answer}
-use Rattle.papaya_ask.specs.declared.ask.Answer.TheVariants.{Exchanged, Yes, Made as Made_number, Ok as Ok_done, Refused as Was_refused}
-use Rattle.papaya_ask.specs.declared.ask.Ask.{Ask}
-use Rattle.papaya_ask.specs.declared.ask.Ask.TheVariants.{Load, Exchange, LoadHint, WriteHint}
-use Rattle.papaya_ask.specs.declared.ask.Ask.TheVariants.{SameKey, ShowNone, ShowPair, SizeOf}
-use Rattle.papaya_ask.specs.declared.ask.Ask.TheVariants.{MakeKey, MakeValue, MakePair, MakePairOf}
-use Rattle.papaya_ask.specs.declared.ask.Ask.TheVariants.{MakeTable, AddToShard, Done as Ask_done}
-use Rattle.papaya_ask.specs.declared.search.Place.{Place}
-use Rattle.papaya_ask.specs.declared.call.Task.TheVariants.{Insert}
-use Rattle.papaya_ask.specs.declared.call.Reply.{Reply}
-use Rattle.papaya_ask.specs.declared.call.Reply.TheVariants.{Inserted, Occupied, Replaced, Refused as Reply_refused}
+use Rattle.papaya_words.specs.declared.refused.Refused.{Refused}
+use Rattle.papaya_call.specs.declared.ask.Answer.{Answer}
+use Rattle.papaya_call.specs.declared.ask.Answer.TheVariants.{Exchanged, Yes, Made as Made_number, Ok as Ok_done, Refused as Was_refused}
+use Rattle.papaya_call.specs.declared.ask.Ask.{Ask}
+use Rattle.papaya_call.specs.declared.ask.Ask.TheVariants.{Load, Exchange, LoadHint, WriteHint}
+use Rattle.papaya_call.specs.declared.ask.Ask.TheVariants.{SameKey, ShowNone, ShowPair, SizeOf}
+use Rattle.papaya_call.specs.declared.ask.Ask.TheVariants.{MakeKey, MakeValue, MakePair, MakePairOf}
+use Rattle.papaya_call.specs.declared.ask.Ask.TheVariants.{MakeTable, AddToShard, Done as Ask_done}
+use Rattle.papaya_call.specs.declared.search.Place.{Place}
+use Rattle.papaya_call.specs.declared.call.Task.TheVariants.{Insert}
+use Rattle.papaya_call.specs.declared.call.Reply.{Reply}
+use Rattle.papaya_call.specs.declared.call.Reply.TheVariants.{Inserted, Occupied, Replaced, Refused as Reply_refused}
 use Rattle.papaya_call.specs.declared.machine.Machine.{Machine}
 use Rattle.papaya_call.specs.declared.machine.State.{State}
 use Rattle.papaya_call.specs.declared.machine.State.TheVariants.{AtRoot, Writing, Counting, Noting, Ended}
@@ -31,26 +31,26 @@ use Rattle.papaya_call.specs.Machine.{found, goes, made_in, occupies, refuses, r
 use Rattle.papaya_call.specs.Machine.{write_taken, written}
 use Rattle.papaya_call.specs.Made.{nothing_made, of_ask, of_grown, own_ask, own_grown}
 use Rattle.papaya_call.specs.Write.{claimed_by, made_to_write, put_ask, served_ask, served_of, serves, with_pair_at, write_grown}
-use Rattle.papaya_chain.specs.declared.ask.Answer.{Answer as Chain_answer}
-use Rattle.papaya_chain.specs.declared.ask.Answer.TheVariants as answers
-use Rattle.papaya_chain.specs.declared.ask.Ask.TheVariants as asks
-use Rattle.papaya_chain.specs.Machine as chain
-use Rattle.papaya_store.specs.declared.pairs.Pair.{Pair}
-use Rattle.papaya_store.specs.declared.pairs.Pair.TheVariants as pairs
-use Rattle.papaya_store.specs.declared.pairs.Part.{Part}
-use Rattle.papaya_store.specs.declared.pairs.Part.TheVariants.{Own, Logged}
-use Rattle.papaya_store.specs.Pairs.{key_from}
-use Rattle.papaya_store.specs.declared.pairs.Running.{Running}
-use Rattle.papaya_store.specs.Performs.{Performs, Refuses, same_stored}
-use Rattle.papaya_store.specs.Store.{StoreState, Stored, pair_of}
-use Rattle.papaya_store.specs.Tables.{word_at}
-use Rattle.papaya_timeline.specs.Solo.{whatever}
+use Rattle.papaya_call.specs.declared.chain.ask.Answer.{Answer as Chain_answer}
+use Rattle.papaya_call.specs.declared.chain.ask.Answer.TheVariants as answers
+use Rattle.papaya_call.specs.declared.chain.ask.Ask.TheVariants as asks
+use Rattle.papaya_call.specs.ChainMachine as chain
+use Rattle.papaya_core_store.specs.declared.pairs.Pair.{Pair}
+use Rattle.papaya_core_store.specs.declared.pairs.Pair.TheVariants as pairs
+use Rattle.papaya_core_store.specs.declared.pairs.Part.{Part}
+use Rattle.papaya_core_store.specs.declared.pairs.Part.TheVariants.{Own, Logged}
+use Rattle.papaya_core_store.specs.Pairs.{key_from}
+use Rattle.papaya_core_store.specs.declared.pairs.Running.{Running}
+use Rattle.papaya_core_store.specs.Performs.{Performs, Refuses, same_stored}
+use Rattle.papaya_core_store.specs.Store.{StoreState, Stored, pair_of}
+use Rattle.papaya_core_store.specs.Tables.{word_at}
+use Rattle.papaya_core_timeline.specs.Solo.{whatever}
 use Rattle.papaya_seq.specs.Drives.{Drives, IsDriven, IsOfStore, IsReplied, at_hand}
 use Rattle.papaya_seq.specs.Looks.{Comes, IsSearchAsk, IsToldBy, matches_in}
 use Rattle.papaya_seq.specs.Searches.{IsRootTurn, seen_by}
 use Rattle.papaya_seq.specs.Writes.{IsWritten, claiming, slot_of, storing}
-use Rattle.papaya_seq.specs.declared.search.Turn.{Turn}
-use Rattle.papaya_seq.specs.declared.search.Turn.TheVariants as turns
+use Rattle.papaya_seq.specs.declared.search.ProbeHit.{ProbeHit}
+use Rattle.papaya_seq.specs.declared.search.ProbeHit.TheVariants as turns
 use Rattle.papaya_seq.proofs.Driving.{calling, calling_by, goes_itself}
 use Rattle.papaya_seq.proofs.Exchanging.{exchange_made}
 use Rattle.papaya_seq.proofs.Logs.{placed_serves}
@@ -403,7 +403,7 @@ module _ {K V S : Type 0} (eq : K → K → Bool) (hash : S → K → ℕ) where
     inserts replace state = at_hand (record (started (Insert replace) hashed mode initial None) { state = state }) key (Some value)
 
     -- it came there
-    root_led : (replace : Bool) (turn : Turn) (state : State) → IsRootTurn (eq key) s hashed turn
+    root_led : (replace : Bool) (turn : ProbeHit) (state : State) → IsRootTurn (eq key) s hashed turn
         → goes (started (Insert replace) hashed mode initial None) (seen_by turn) ≡ state → (reply : Reply) (left : Option V) (s' : StoreState K V S)
         → IsReplied eq hash s (inserts replace state) reply left s' → IsReplied eq hash s (inserts replace AtRoot) reply left s'
     root_led replace turn state root is reply left s' done =

@@ -4,13 +4,13 @@ use Rattle.std.proofs.lemmas.Bool.{cases_Bool, cond-true, cond-false}
 use Rattle.std.proofs.lemmas.List.Sums.{fold_push}
 use Rattle.papaya_words.specs.Probe.{IsEntriesFor}
 use Rattle.papaya_words.specs.declared.limits.TheConstants.{DEFAULT_CHUNK}
-use Rattle.papaya_words.specs.declared.probe.Refused.{Refused}
-use Rattle.papaya_words.specs.declared.probe.ResizeMode.{ResizeMode}
-use Rattle.papaya_words.specs.declared.probe.ResizeMode.TheVariants.{Incremental}
-use Rattle.papaya_timeline.specs.Content.{content}
-use Rattle.papaya_timeline.specs.New.{IsNew}
-use Rattle.papaya_store.specs.Store.{StoreState, Stored}
-use Rattle.papaya_law.specs.Content.{lookup}
+use Rattle.papaya_words.specs.declared.refused.Refused.{Refused}
+use Rattle.papaya_words.specs.declared.resize_mode.ResizeMode.{ResizeMode}
+use Rattle.papaya_words.specs.declared.resize_mode.ResizeMode.TheVariants.{Incremental}
+use Rattle.papaya_core_timeline.specs.Content.{content}
+use Rattle.papaya_core_timeline.specs.New.{IsNew}
+use Rattle.papaya_core_store.specs.Store.{StoreState, Stored}
+use Rattle.papaya_words_law.specs.Content.{lookup}
 use Rattle.papaya_seq.specs.Entries.{Entries, Fills, HasJust, IsCut, IsPut, entries_in, kept, nothing, put, put_all}
 use Rattle.papaya_seq.specs.Map.{Inserts, Keeps, MapState, core_of, entry_of, kept_key, slots_of}
 

@@ -1,24 +1,24 @@
 -- What an answered ask leaves of the arena of pairs and of the shards of the count: an insertion logs one pair at most.
 use Rattle.std.proofs.Common.{◌≡◌, inl, inr, ℕ, ◌+◌, ◌≤◌, ◌==◌, length, ◌∙◌, ap, arith, Bool}
 use Rattle.std.proofs.lemmas.List.{length_push}
-use Rattle.papaya_ask.specs.declared.ask.Answer.{Answer as Call_answer}
-use Rattle.papaya_ask.specs.declared.ask.Ask.{Ask as Call_ask}
-use Rattle.papaya_ask.specs.declared.ask.Ask.TheVariants.{Load, Exchange, LoadHint, WriteHint}
-use Rattle.papaya_ask.specs.declared.ask.Ask.TheVariants.{SameKey, ShowNone, ShowPair, SizeOf}
-use Rattle.papaya_ask.specs.declared.ask.Ask.TheVariants.{MakeKey, MakeValue, MakePair, MakePairOf}
-use Rattle.papaya_ask.specs.declared.ask.Ask.TheVariants.{MakeTable, AddToShard, Done as Ask_done}
-use Rattle.papaya_ask.specs.declared.copy_ask.CopyAsk.{CopyAsk}
-use Rattle.papaya_ask.specs.declared.copy_ask.CopyAsk.TheVariants as copies
+use Rattle.papaya_call.specs.declared.ask.Answer.{Answer as Call_answer}
+use Rattle.papaya_call.specs.declared.ask.Ask.{Ask as Call_ask}
+use Rattle.papaya_call.specs.declared.ask.Ask.TheVariants.{Load, Exchange, LoadHint, WriteHint}
+use Rattle.papaya_call.specs.declared.ask.Ask.TheVariants.{SameKey, ShowNone, ShowPair, SizeOf}
+use Rattle.papaya_call.specs.declared.ask.Ask.TheVariants.{MakeKey, MakeValue, MakePair, MakePairOf}
+use Rattle.papaya_call.specs.declared.ask.Ask.TheVariants.{MakeTable, AddToShard, Done as Ask_done}
+use Rattle.papaya_call.specs.declared.copy_ask.CopyAsk.{CopyAsk}
+use Rattle.papaya_call.specs.declared.copy_ask.CopyAsk.TheVariants as copies
 use Rattle.papaya_call.specs.Answers.{Says}
-use Rattle.papaya_store.specs.declared.pairs.Running.{Running}
-use Rattle.papaya_store.specs.Copies.{PerformsCopy}
+use Rattle.papaya_core_store.specs.declared.pairs.Running.{Running}
+use Rattle.papaya_core_store.specs.CopyAsks.{PerformsCopy}
 use Rattle.papaya_call_law.specs.Says.{MakesPair}
-use Rattle.papaya_store.specs.Pairs.{pair_with}
-use Rattle.papaya_store.specs.Performs.{Performs}
-use Rattle.papaya_store.specs.Store.{StoreState}
-use Rattle.papaya_store.specs.Tables.{word_at}
-use Rattle.papaya_timeline.proofs.ShowLemmas.{none_shown, pair_shown}
-use Rattle.papaya_timeline.proofs.StoreLemmas.{LogsOrNot, matched, of_logs, own_logs}
+use Rattle.papaya_core_store.specs.Pairs.{pair_with}
+use Rattle.papaya_core_store.specs.Performs.{Performs}
+use Rattle.papaya_core_store.specs.Store.{StoreState}
+use Rattle.papaya_core_store.specs.Tables.{word_at}
+use Rattle.papaya_core_timeline.proofs.ShowLemmas.{none_shown, pair_shown}
+use Rattle.papaya_core_timeline.proofs.StoreLemmas.{LogsOrNot, matched, of_logs, own_logs}
 use Rattle.papaya_seq.specs.Map.{LogsOne}
 
 -- an ask for no pair

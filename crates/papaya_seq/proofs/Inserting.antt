@@ -2,23 +2,23 @@
 use Rattle.std.proofs.Common.{◌≡◌, ℕ, ◌==◌, Bool, true, false, Option, None, Some, refl, sym, subst}
 use Rattle.std.proofs.lemmas.Bool.{cond_both}
 use Rattle.papaya_words.specs.Word.{kind_of, pair_of}
-use Rattle.papaya_words.specs.declared.probe.ResizeMode.{ResizeMode}
+use Rattle.papaya_words.specs.declared.resize_mode.ResizeMode.{ResizeMode}
 use Rattle.papaya_words.specs.declared.word.Kind.{Kind}
 use Rattle.papaya_words.specs.declared.word.Kind.TheVariants as kinds
-use Rattle.papaya_ask.specs.declared.ask.Answer.{Answer}
-use Rattle.papaya_ask.specs.declared.ask.Answer.TheVariants.{Word as Word_read, Exchanged}
-use Rattle.papaya_ask.specs.declared.ask.Answer.TheVariants.{Found as Found_instead, Yes, Op, Size}
-use Rattle.papaya_ask.specs.declared.ask.Answer.TheVariants.{Made as Made_number, Ok as Ok_done}
-use Rattle.papaya_ask.specs.declared.ask.Answer.TheVariants.{Refused as Was_refused}
-use Rattle.papaya_ask.specs.declared.call.Reply.TheVariants.{Replaced, Occupied}
-use Rattle.papaya_ask.specs.declared.call.Task.{Task}
-use Rattle.papaya_ask.specs.declared.call.Task.TheVariants.{Insert}
-use Rattle.papaya_ask.specs.declared.search.Place.{Place}
-use Rattle.papaya_ask.specs.declared.search.Search.{Search}
-use Rattle.papaya_ask.specs.declared.search.Search.TheVariants.{Sizing, Looking, Reading, Comparing}
-use Rattle.papaya_ask.specs.declared.search.Probed.{Probed}
-use Rattle.papaya_ask.specs.declared.search.Probed.TheVariants as seen
-use Rattle.papaya_ask.specs.Search.{at_word as search_loaded, at_yes as search_compared}
+use Rattle.papaya_call.specs.declared.ask.Answer.{Answer}
+use Rattle.papaya_call.specs.declared.ask.Answer.TheVariants.{Word as Word_read, Exchanged}
+use Rattle.papaya_call.specs.declared.ask.Answer.TheVariants.{Found as Found_instead, Yes, Op, Size}
+use Rattle.papaya_call.specs.declared.ask.Answer.TheVariants.{Made as Made_number, Ok as Ok_done}
+use Rattle.papaya_call.specs.declared.ask.Answer.TheVariants.{Refused as Was_refused}
+use Rattle.papaya_call.specs.declared.call.Reply.TheVariants.{Replaced, Occupied}
+use Rattle.papaya_call.specs.declared.call.Task.{Task}
+use Rattle.papaya_call.specs.declared.call.Task.TheVariants.{Insert}
+use Rattle.papaya_call.specs.declared.search.Place.{Place}
+use Rattle.papaya_call.specs.declared.search.Search.{Search}
+use Rattle.papaya_call.specs.declared.search.Search.TheVariants.{Sizing, Looking, Reading, Comparing}
+use Rattle.papaya_call.specs.declared.search.ProbeStep.{ProbeStep}
+use Rattle.papaya_call.specs.declared.search.ProbeStep.TheVariants as seen
+use Rattle.papaya_call.specs.Search.{at_word as search_loaded, at_yes as search_compared}
 use Rattle.papaya_call.specs.declared.compute.Remembered.{Remembered}
 use Rattle.papaya_call.specs.declared.machine.Machine.{Machine}
 use Rattle.papaya_call.specs.declared.machine.State.{State}
@@ -30,7 +30,7 @@ use Rattle.papaya_call.specs.Made.{told as told_made}
 use Rattle.papaya_call.specs.Write.{claimed_by, serves}
 use Rattle.papaya_call_law.proofs.Makings.{exchanged_leads, numbered_leads, refuses_leads, told_leads, write_then, write_then_is}
 use Rattle.papaya_call.specs.Machine.{after, found, goes_as, needed, occupies, replaces}
-use Rattle.papaya_alone.specs.Rank.{table_of}
+use Rattle.papaya_call_alone.specs.Rank.{table_of}
 use Rattle.papaya_seq.proofs.TableSearch.{IsSeenIn, MayCompare, compared_in, loaded_in, sized_in}
 
 -- an insertion's search is in this table, or has ended there
@@ -83,7 +83,7 @@ module _ (t : ℕ) where
   found_in false held at word is = occupies_in (kind_of word) at word is
 
   -- what an insertion's search saw leads here
-  goes_in : (replace : Bool) (mode : ResizeMode) (held : Remembered) (saw : Probed) → IsSeenIn Anything t saw → IsIn t (goes_as (Insert replace) mode held saw)
+  goes_in : (replace : Bool) (mode : ResizeMode) (held : Remembered) (saw : ProbeStep) → IsSeenIn Anything t saw → IsIn t (goes_as (Insert replace) mode held saw)
   goes_in replace mode held (seen.On search) is = is.0
   goes_in replace mode held (seen.Here at word) is = found_in replace held at word is.0
   goes_in replace mode held (seen.Empty at) is = is

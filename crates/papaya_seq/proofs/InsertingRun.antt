@@ -1,48 +1,48 @@
 -- An insertion of a map for one caller, from its begin to its reply.
 use Rattle.std.proofs.Common.{◌≡◌, ◌⊎◌, inl, inr, ℕ, ◌^◌, ◌<◌, Bool, true, false, Option, None, Some, refl, sym, ◌∙◌, ap, subst}
 use Rattle.std.proofs.lemmas.Bool.{cases_eq}
-use Rattle.papaya_words.specs.declared.probe.Refused.{Refused}
-use Rattle.papaya_ask.specs.declared.ask.Answer.TheVariants.{Op, Ok as Ok_done}
-use Rattle.papaya_ask.specs.declared.ask.Ask.TheVariants.{Load, Exchange, LoadHint, WriteHint}
-use Rattle.papaya_ask.specs.declared.ask.Ask.TheVariants.{SameKey, ShowNone, ShowPair, SizeOf}
-use Rattle.papaya_ask.specs.declared.ask.Ask.TheVariants.{MakeKey, MakeValue, MakePair, MakePairOf}
-use Rattle.papaya_ask.specs.declared.ask.Ask.TheVariants.{MakeTable, AddToShard, Done as Ask_done}
-use Rattle.papaya_ask.specs.declared.ask.OpKind.TheVariants.{Remove}
-use Rattle.papaya_ask.specs.declared.call.Reply.{Reply}
-use Rattle.papaya_ask.specs.declared.call.Reply.TheVariants.{Occupied, Refused as Reply_refused}
-use Rattle.papaya_ask.specs.declared.call.Task.TheVariants.{Insert}
+use Rattle.papaya_words.specs.declared.refused.Refused.{Refused}
+use Rattle.papaya_call.specs.declared.ask.Answer.TheVariants.{Op, Ok as Ok_done}
+use Rattle.papaya_call.specs.declared.ask.Ask.TheVariants.{Load, Exchange, LoadHint, WriteHint}
+use Rattle.papaya_call.specs.declared.ask.Ask.TheVariants.{SameKey, ShowNone, ShowPair, SizeOf}
+use Rattle.papaya_call.specs.declared.ask.Ask.TheVariants.{MakeKey, MakeValue, MakePair, MakePairOf}
+use Rattle.papaya_call.specs.declared.ask.Ask.TheVariants.{MakeTable, AddToShard, Done as Ask_done}
+use Rattle.papaya_call.specs.declared.ask.OpKind.TheVariants.{Remove}
+use Rattle.papaya_call.specs.declared.call.Reply.{Reply}
+use Rattle.papaya_call.specs.declared.call.Reply.TheVariants.{Occupied, Refused as Reply_refused}
+use Rattle.papaya_call.specs.declared.call.Task.TheVariants.{Insert}
 use Rattle.papaya_call.specs.Answers.{Says}
 use Rattle.papaya_call.specs.declared.machine.State.{State}
 use Rattle.papaya_call.specs.declared.machine.State.TheVariants.{Making, Searching, Writing, Ended}
-use Rattle.papaya_ask.specs.declared.search.Search.TheVariants.{Sizing}
-use Rattle.papaya_ask.specs.declared.ask.Ask.{Ask as Call_ask}
+use Rattle.papaya_call.specs.declared.search.Search.TheVariants.{Sizing}
+use Rattle.papaya_call.specs.declared.ask.Ask.{Ask as Call_ask}
 use Rattle.papaya_call.specs.declared.write.Write.{Write}
-use Rattle.papaya_copy.specs.Link.{link_ask}
+use Rattle.papaya_call.specs.Link.{link_ask}
 use Rattle.papaya_call.specs.declared.machine.Machine.{Machine as Call_machine}
 use Rattle.papaya_call.specs.Machine.{IsStandingState, ask_of as call_ask, at_root}
-use Rattle.papaya_chain.specs.declared.ask.Answer.{Answer}
-use Rattle.papaya_chain.specs.declared.ask.Answer.TheVariants as answers
-use Rattle.papaya_chain.specs.declared.ask.Ask.{Ask}
-use Rattle.papaya_chain.specs.declared.ask.Ask.TheVariants as asks
-use Rattle.papaya_chain.specs.declared.machine.Machine.{Machine}
-use Rattle.papaya_chain.specs.declared.machine.Phase.{Phase}
-use Rattle.papaya_chain.specs.declared.machine.Phase.TheVariants.{Calling, Linking, Copying as Copying_root}
-use Rattle.papaya_chain.specs.Machine.{IsFit, IsFitAsk, IsStanding, after, ask_of, asks_in, started}
+use Rattle.papaya_call.specs.declared.chain.ask.Answer.{Answer}
+use Rattle.papaya_call.specs.declared.chain.ask.Answer.TheVariants as answers
+use Rattle.papaya_call.specs.declared.chain.ask.Ask.{Ask}
+use Rattle.papaya_call.specs.declared.chain.ask.Ask.TheVariants as asks
+use Rattle.papaya_call.specs.declared.chain.machine.Machine.{Machine}
+use Rattle.papaya_call.specs.declared.chain.machine.Phase.{Phase}
+use Rattle.papaya_call.specs.declared.chain.machine.Phase.TheVariants.{Calling, Linking, Copying as Copying_root}
+use Rattle.papaya_call.specs.ChainMachine.{IsFit, IsFitAsk, IsStanding, after, ask_of, asks_in, started}
 use Rattle.papaya_call_law.specs.Says.{MakesPair}
 use Rattle.papaya_call_law.proofs.Makings.{IsPairAsk}
 use Rattle.papaya_call_law.proofs.ReliesHeld.{ended_in}
-use Rattle.papaya_chain_law.specs.Goes.{Goes}
-use Rattle.papaya_chain_law.specs.Relies.{left_by}
-use Rattle.papaya_store.specs.Asks.{PerformsAsk}
-use Rattle.papaya_store.specs.Store.{StoreState}
-use Rattle.papaya_store.specs.declared.pairs.Part.{Part}
-use Rattle.papaya_store.specs.declared.pairs.Part.TheVariants.{Own}
-use Rattle.papaya_store.specs.declared.pairs.Running.{Running}
-use Rattle.papaya_timeline.specs.Advances.{reply_in}
-use Rattle.papaya_timeline.specs.Content.{map_in}
-use Rattle.papaya_timeline.specs.Solo.{whatever}
-use Rattle.papaya_timeline.proofs.KeptSettings.{IsLawfulKeys}
-use Rattle.papaya_timeline.proofs.StoreLemmas.{performed_ask, unnumbered}
+use Rattle.papaya_call_law.specs.Goes.{Goes}
+use Rattle.papaya_call_law.specs.ChainRelies.{left_by}
+use Rattle.papaya_core_store.specs.Asks.{PerformsAsk}
+use Rattle.papaya_core_store.specs.Store.{StoreState}
+use Rattle.papaya_core_store.specs.declared.pairs.Part.{Part}
+use Rattle.papaya_core_store.specs.declared.pairs.Part.TheVariants.{Own}
+use Rattle.papaya_core_store.specs.declared.pairs.Running.{Running}
+use Rattle.papaya_core_timeline.specs.Advances.{reply_in}
+use Rattle.papaya_core_timeline.specs.Content.{map_in}
+use Rattle.papaya_core_timeline.specs.Solo.{whatever}
+use Rattle.papaya_core_timeline.proofs.KeptSettings.{IsLawfulKeys}
+use Rattle.papaya_core_timeline.proofs.StoreLemmas.{performed_ask, unnumbered}
 use Rattle.papaya_seq.specs.Map.{Grows, IsLawfulMap, IsResizing, LogsOne, IsTryCause, IsWriteCause, IsWriteCauseAt, MapState, insertion, next_of}
 use Rattle.papaya_seq.proofs.Answering.{answering, silent_performs}
 use Rattle.papaya_seq.proofs.Causes.{IsLogRefusal, IsNoTableRefusal, IsRemoveNothing, IsTableAsk}

@@ -1,14 +1,14 @@
 -- A call on one key as a value, with what it begins with.
 use Rattle.std.proofs.Common.{◌≡◌, ℕ, ◌^◌, ◌<◌, Bool, true, false, Option, None, Some, refl, subst}
-use Rattle.papaya_store.specs.declared.mode.Mode.{Mode}
-use Rattle.papaya_ask.specs.declared.call.Call.{Call}
-use Rattle.papaya_ask.specs.declared.call.Call.TheVariants as calls
-use Rattle.papaya_ask.specs.declared.call.Task.{Task}
-use Rattle.papaya_ask.specs.declared.call.Task.TheVariants.{Insert, RemoveIf, Compute}
-use Rattle.papaya_store.specs.declared.pairs.Running.{Running}
-use Rattle.papaya_timeline.specs.declared.seat.Work.TheVariants as works
-use Rattle.papaya_timeline.specs.Begins.{begun, begun_work}
-use Rattle.papaya_timeline.specs.Maps.{key_of}
+use Rattle.papaya_core_store.specs.declared.store.Mode.{Mode}
+use Rattle.papaya_call.specs.declared.call.Call.{Call}
+use Rattle.papaya_call.specs.declared.call.Call.TheVariants as calls
+use Rattle.papaya_call.specs.declared.call.Task.{Task}
+use Rattle.papaya_call.specs.declared.call.Task.TheVariants.{Insert, RemoveIf, Compute}
+use Rattle.papaya_core_store.specs.declared.pairs.Running.{Running}
+use Rattle.papaya_core_timeline.specs.declared.seat.Work.TheVariants as works
+use Rattle.papaya_core_timeline.specs.Begins.{begun, begun_work}
+use Rattle.papaya_core_timeline.specs.Maps.{key_of}
 use Rattle.papaya_seq.specs.Map.{insertion}
 
 -- A call on this key, which begins so.

@@ -8,28 +8,28 @@ use Rattle.std.specs.Prelude.{slice_index_or}
 use Rattle.std.specs.List.{All, Contains}
 use Rattle.papaya_words.specs.Table.{TableWords}
 use Rattle.papaya_words.specs.Word.{kind_of, pair_of as number_of}
-use Rattle.papaya_store.specs.declared.mode.Mode.{Mode}
+use Rattle.papaya_core_store.specs.declared.store.Mode.{Mode}
 use Rattle.papaya_words.specs.declared.word.Kind.{Kind}
 use Rattle.papaya_words.specs.declared.word.Kind.TheVariants as kinds
 use Rattle.papaya_call_law.specs.Alone.{IsBare}
-use Rattle.papaya_ask.specs.declared.ask.At.TheVariants.{Next, Root, Slot}
-use Rattle.papaya_law.specs.ChainContent.{missing_in, unless_found}
-use Rattle.papaya_law.specs.Content.{lookup}
-use Rattle.papaya_law.specs.Exchange.{Word, Empty, State, run, start}
-use Rattle.papaya_law.specs.Code.{IsOfKind, code}
-use Rattle.papaya_ask.specs.Search.{IsSize}
-use Rattle.papaya_law.specs.Grows.{Comes}
-use Rattle.papaya_law.specs.Invariant.{IsSound}
-use Rattle.papaya_law.proofs.CodeViews.{word_of_kind}
-use Rattle.papaya_law.proofs.Logs.{on_comes}
-use Rattle.papaya_law.proofs.OneMap.{sound}
-use Rattle.papaya_timeline.specs.Content.{content, listed, pairs_from, pairs_of_kind, pairs_of_slots}
-use Rattle.papaya_timeline.specs.declared.seat.Seat.{Seat}
-use Rattle.papaya_timeline.specs.Kept.{IsLawfulCore, setting_of, coding_of, low}
-use Rattle.papaya_store.specs.Store.{StoreState, Stored, pair_of}
-use Rattle.papaya_store.specs.Tables.{table_of, word_at}
-use Rattle.papaya_store.proofs.Logs.{pair_below, pair_number}
-use Rattle.papaya_timeline.proofs.KeptSettings.{IsLawfulKeys, tables_hashed}
+use Rattle.papaya_call.specs.declared.ask.At.TheVariants.{Next, Root, Slot}
+use Rattle.papaya_words_law.specs.ChainContent.{missing_in, unless_found}
+use Rattle.papaya_words_law.specs.Content.{lookup}
+use Rattle.papaya_words_law.specs.Exchange.{Word, Empty, State, run, start}
+use Rattle.papaya_words_law.specs.Code.{IsOfKind, code}
+use Rattle.papaya_call.specs.Search.{IsSize}
+use Rattle.papaya_words_law.specs.Grows.{Comes}
+use Rattle.papaya_words_law.specs.Invariant.{IsSound}
+use Rattle.papaya_words_law.proofs.CodeViews.{word_of_kind}
+use Rattle.papaya_words_law.proofs.Logs.{on_comes}
+use Rattle.papaya_words_law.proofs.OneMap.{sound}
+use Rattle.papaya_core_timeline.specs.Content.{content, listed, pairs_from, pairs_of_kind, pairs_of_slots}
+use Rattle.papaya_core_timeline.specs.declared.seat.Seat.{Seat}
+use Rattle.papaya_core_timeline.specs.Kept.{IsLawfulCore, setting_of, coding_of, low}
+use Rattle.papaya_core_store.specs.Store.{StoreState, Stored, pair_of}
+use Rattle.papaya_core_store.specs.Tables.{table_of, word_at}
+use Rattle.papaya_core_store.proofs.Logs.{pair_below, pair_number}
+use Rattle.papaya_core_timeline.proofs.KeptSettings.{IsLawfulKeys, tables_hashed}
 use Rattle.papaya_seq.specs.Map.{HasNone, Holds, IsLawfulMap}
 
 module _ {K V S A : Type 0} (eq : K → K → Bool) (hash : K → ℕ) (callers : List (Seat K V A)) (mode : Mode) (store : StoreState K V S)

@@ -1,15 +1,15 @@
 -- Calls that leave the map where they are refused: those on a key, and those that resize the map.
 use Rattle.std.proofs.Common.{◌≡◌, ℕ, None, Some, refl, sym, ◌∙◌, ap}
-use Rattle.papaya_store.specs.declared.mode.Mode.{Mode}
-use Rattle.papaya_ask.specs.declared.call.Call.{Call}
-use Rattle.papaya_ask.specs.declared.call.Call.TheVariants.{Get, Insert, TryInsert, RemoveIf, Compute, Reserve, CopyAll, Clear, Retain, Walk}
-use Rattle.papaya_chain.specs.declared.resizer.Resizer.{Resizer}
-use Rattle.papaya_timeline.specs.declared.seat.Work.{Work}
-use Rattle.papaya_timeline.specs.declared.seat.Work.TheVariants as works
-use Rattle.papaya_timeline.specs.Begins.{begun_work}
-use Rattle.papaya_timeline.specs.Callers.{resizer_in}
-use Rattle.papaya_timeline.specs.Maps.{Map, Same, key_of}
-use Rattle.papaya_timeline.specs.Solo.{IsDoneBy, IsLeftBy}
+use Rattle.papaya_core_store.specs.declared.store.Mode.{Mode}
+use Rattle.papaya_call.specs.declared.call.Call.{Call}
+use Rattle.papaya_call.specs.declared.call.Call.TheVariants.{Get, Insert, TryInsert, RemoveIf, Compute, Reserve, CopyAll, Clear, Retain, Walk}
+use Rattle.papaya_call.specs.declared.chain.resizer.Resizer.{Resizer}
+use Rattle.papaya_core_timeline.specs.declared.seat.Work.{Work}
+use Rattle.papaya_core_timeline.specs.declared.seat.Work.TheVariants as works
+use Rattle.papaya_core_timeline.specs.Begins.{begun_work}
+use Rattle.papaya_core_timeline.specs.Callers.{resizer_in}
+use Rattle.papaya_core_timeline.specs.Maps.{Map, Same, key_of}
+use Rattle.papaya_core_timeline.specs.Solo.{IsDoneBy, IsLeftBy}
 
 module _ {K V A : Type 0} where
   pub left_same : (call : Call K V A) (k : K) → key_of call ≡ Some k → (m m' : Map K V) → IsLeftBy call m m' → Same m m'

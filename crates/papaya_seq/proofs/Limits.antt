@@ -1,14 +1,14 @@
 -- A map with a limit: how many numbers were taken for pairs.
 use Rattle.std.proofs.Common.{◌≡◌, ℕ, ◌<◌, ◌≤◌, Bool, List, [], ◌∷◌, Some, MatchOption, subst, arith}
-use Rattle.papaya_ask.specs.declared.ask.At.TheVariants.{Made as Made_word}
-use Rattle.papaya_law.specs.Allows.{AllAllowed, Allows}
-use Rattle.papaya_law.specs.Exchange.{Exchange, Open, Claim, Replace, Bury, Link, Mark, Close}
-use Rattle.papaya_law.specs.Exchange.{Place, Finish, Advance, Promote, Abort, Take, Setting, State}
-use Rattle.papaya_law.specs.Exchange.{after, run, start}
-use Rattle.papaya_store.specs.declared.mode.Mode.{Mode}
-use Rattle.papaya_store.specs.Store.{StoreState, Stored}
-use Rattle.papaya_timeline.specs.Kept.{IsLawfulCore, low, setting_of}
-use Rattle.papaya_timeline.specs.declared.seat.Seat.{Seat}
+use Rattle.papaya_call.specs.declared.ask.At.TheVariants.{Made as Made_word}
+use Rattle.papaya_words_law.specs.Allows.{AllAllowed, Allows}
+use Rattle.papaya_words_law.specs.Exchange.{Exchange, Open, Claim, Replace, Bury, Link, Mark, Close}
+use Rattle.papaya_words_law.specs.Exchange.{Place, Finish, Advance, Promote, Abort, Take, Setting, State}
+use Rattle.papaya_words_law.specs.Exchange.{after, run, start}
+use Rattle.papaya_core_store.specs.declared.store.Mode.{Mode}
+use Rattle.papaya_core_store.specs.Store.{StoreState, Stored}
+use Rattle.papaya_core_timeline.specs.Kept.{IsLawfulCore, low, setting_of}
+use Rattle.papaya_core_timeline.specs.declared.seat.Seat.{Seat}
 
 -- exchanges that were allowed take no number past the limit
 allowed_most : {K P : Type 0} (g : Setting K P) (n : ℕ) → g.most ≡ Some n → (es : List (Exchange P)) (s : State P) → s.made ≤ n → AllAllowed g s es

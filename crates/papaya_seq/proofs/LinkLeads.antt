@@ -1,39 +1,39 @@
 -- Where the making of a table stands after an answer: it begins there, or the answer led it there.
 use Rattle.std.proofs.Common.{◌≡◌, ◌⊎◌, inl, inr, ℕ, Option, None, Some, refl, sym, ap, subst}
-use Rattle.papaya_words.specs.declared.probe.Refused.{Refused}
-use Rattle.papaya_words.specs.declared.probe.ResizeMode.{ResizeMode}
-use Rattle.papaya_ask.specs.declared.ask.Answer.TheVariants as told
-use Rattle.papaya_copy.specs.declared.carry.Carry.{Carry}
-use Rattle.papaya_copy.specs.declared.carry.Carry.TheVariants as carries
-use Rattle.papaya_copy.specs.declared.copying.Aim.{Aim}
-use Rattle.papaya_copy.specs.declared.copying.Copied.{Copied}
-use Rattle.papaya_copy.specs.declared.copying.Copied.TheVariants as copied
-use Rattle.papaya_copy.specs.declared.copying.Copying.{Copying}
-use Rattle.papaya_copy.specs.declared.copying.Copying.TheVariants.{Stepping, Lone}
-use Rattle.papaya_copy.specs.declared.link.Link.{Link}
-use Rattle.papaya_copy.specs.declared.link.Link.TheVariants as links
-use Rattle.papaya_copy.specs.declared.link.Linked.{Linked}
-use Rattle.papaya_copy.specs.declared.link.Linked.TheVariants as linked
-use Rattle.papaya_copy.specs.declared.settle.Settle.{Settle}
-use Rattle.papaya_copy.specs.declared.settle.Settle.TheVariants as settles
-use Rattle.papaya_copy.specs.declared.settle.Slot.{Slot}
-use Rattle.papaya_copy.specs.declared.step.Chunk.{Chunk}
-use Rattle.papaya_copy.specs.declared.step.Step.TheVariants as steps
-use Rattle.papaya_copy.specs.Carry as carry
-use Rattle.papaya_copy.specs.Copying as copying
-use Rattle.papaya_copy.specs.Link as link
-use Rattle.papaya_copy.specs.Settle as settle
-use Rattle.papaya_copy.specs.Step as step
-use Rattle.papaya_chain.specs.declared.ask.Answer.{Answer}
-use Rattle.papaya_chain.specs.declared.ask.Answer.TheVariants as answers
-use Rattle.papaya_chain.specs.declared.machine.Machine.{Machine}
-use Rattle.papaya_chain.specs.declared.machine.Phase.{Phase}
-use Rattle.papaya_chain.specs.declared.machine.Phase.TheVariants.{Calling, Linking, Copying as Copying_root}
-use Rattle.papaya_chain.specs.Machine.{after, after_copied, after_in, after_linked, copying_after, link_after, onward}
+use Rattle.papaya_words.specs.declared.refused.Refused.{Refused}
+use Rattle.papaya_words.specs.declared.resize_mode.ResizeMode.{ResizeMode}
+use Rattle.papaya_call.specs.declared.ask.Answer.TheVariants as told
+use Rattle.papaya_call.specs.declared.copy.carry.Carry.{Carry}
+use Rattle.papaya_call.specs.declared.copy.carry.Carry.TheVariants as carries
+use Rattle.papaya_call.specs.declared.copy.copying.Aim.{Aim}
+use Rattle.papaya_call.specs.declared.copy.copying.Copied.{Copied}
+use Rattle.papaya_call.specs.declared.copy.copying.Copied.TheVariants as copied
+use Rattle.papaya_call.specs.declared.copy.copying.Copying.{Copying}
+use Rattle.papaya_call.specs.declared.copy.copying.Copying.TheVariants.{Stepping, Lone}
+use Rattle.papaya_call.specs.declared.copy.link.Link.{Link}
+use Rattle.papaya_call.specs.declared.copy.link.Link.TheVariants as links
+use Rattle.papaya_call.specs.declared.copy.link.Linked.{Linked}
+use Rattle.papaya_call.specs.declared.copy.link.Linked.TheVariants as linked
+use Rattle.papaya_call.specs.declared.copy.settle.Settle.{Settle}
+use Rattle.papaya_call.specs.declared.copy.settle.Settle.TheVariants as settles
+use Rattle.papaya_call.specs.declared.copy.settle.SlotToCopy.{SlotToCopy}
+use Rattle.papaya_call.specs.declared.copy.step.Chunk.{Chunk}
+use Rattle.papaya_call.specs.declared.copy.step.Step.TheVariants as steps
+use Rattle.papaya_call.specs.Carry as carry
+use Rattle.papaya_call.specs.Copying as copying
+use Rattle.papaya_call.specs.Link as link
+use Rattle.papaya_call.specs.Settle as settle
+use Rattle.papaya_call.specs.Step as step
+use Rattle.papaya_call.specs.declared.chain.ask.Answer.{Answer}
+use Rattle.papaya_call.specs.declared.chain.ask.Answer.TheVariants as answers
+use Rattle.papaya_call.specs.declared.chain.machine.Machine.{Machine}
+use Rattle.papaya_call.specs.declared.chain.machine.Phase.{Phase}
+use Rattle.papaya_call.specs.declared.chain.machine.Phase.TheVariants.{Calling, Linking, Copying as Copying_root}
+use Rattle.papaya_call.specs.ChainMachine.{after, after_copied, after_in, after_linked, copying_after, link_after, onward}
 use Rattle.papaya_call_law.specs.Copier.{link_in_carry, link_in_copying, link_in_settle}
-use Rattle.papaya_chain_law.specs.Goes.{link_in}
-use Rattle.papaya_chain_law.proofs.LinkStates as states
-use Rattle.papaya_chain_law.proofs.LinkStates.{In, IsStable, Linked_in, Of}
+use Rattle.papaya_call_law.specs.Goes.{link_in}
+use Rattle.papaya_call_law.proofs.LinkStates as states
+use Rattle.papaya_call_law.proofs.LinkStates.{In, IsStable, Linked_in, Of}
 
 -- the making of a table begins
 abbrev pub IsBegun : Link → Type 0
@@ -110,7 +110,7 @@ settle_form initial number mode aim chunk marked hash made (answers.Call (told.R
 settle_form initial number mode aim chunk marked hash made (answers.Hash other) = refl
 settle_form initial number mode aim chunk marked hash made (answers.Count count) = refl
 
-lone_form : (initial number : ℕ) (mode : ResizeMode) (slot : Slot) (marked hash : ℕ) (made : Link) (answer : Answer)
+lone_form : (initial number : ℕ) (mode : ResizeMode) (slot : SlotToCopy) (marked hash : ℕ) (made : Link) (answer : Answer)
     → copying_after (Lone slot (settles.Carrying marked (carries.Linking hash made))) mode initial number answer ≡ copying.lone slot
     (settle.settled_by marked mode (carry.carried_on hash (link_after made mode initial answer)))
 lone_form initial number mode slot marked hash made (answers.Call (told.Word word)) = refl
@@ -164,7 +164,7 @@ module _ (mode : ResizeMode) (initial : ℕ) (answer : Answer) where
     settle_led aim chunk marked hash (linked.Table table) e = tt
     settle_led aim chunk marked hash (linked.Refused refused) e = tt
 
-    lone_led : (slot : Slot) (marked hash : ℕ) (end : Linked) → link_after made mode initial answer ≡ end
+    lone_led : (slot : SlotToCopy) (marked hash : ℕ) (end : Linked) → link_after made mode initial answer ≡ end
         → IsCopyLed made (copying.lone slot (settle.settled_by marked mode (carry.carried_on hash end)))
     lone_led slot marked hash (linked.On made') e = inr e
     lone_led slot marked hash (linked.Table table) e = tt

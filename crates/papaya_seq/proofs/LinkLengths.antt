@@ -4,34 +4,34 @@ use Rattle.std.proofs.lemmas.Bool.{cond_both}
 use Rattle.std.specs.List.{Contains}
 use Rattle.papaya_words.specs.Chunks.{chunk_count, chunk_len}
 use Rattle.papaya_words.specs.Table.{length_after}
-use Rattle.papaya_words.specs.declared.probe.Refused.{Refused}
-use Rattle.papaya_words.specs.declared.probe.Refused.TheVariants.{Capacity}
-use Rattle.papaya_words.specs.declared.probe.ResizeMode.{ResizeMode}
-use Rattle.papaya_ask.specs.declared.ask.Answer.TheVariants as told
-use Rattle.papaya_ask.specs.declared.copy_ask.CopyAsk.TheVariants as copies
-use Rattle.papaya_copy.specs.declared.carry.Carry.{Carry}
-use Rattle.papaya_copy.specs.declared.carry.Carry.TheVariants as carries
-use Rattle.papaya_copy.specs.declared.copying.Copying.{Copying}
-use Rattle.papaya_copy.specs.declared.copying.Copying.TheVariants.{Stepping, Lone}
-use Rattle.papaya_copy.specs.declared.link.Link.{Link}
-use Rattle.papaya_copy.specs.declared.link.Link.TheVariants as links
-use Rattle.papaya_copy.specs.declared.link.Linked.TheVariants as linked
-use Rattle.papaya_copy.specs.declared.settle.Settle.{Settle}
-use Rattle.papaya_copy.specs.declared.settle.Settle.TheVariants as settles
-use Rattle.papaya_copy.specs.declared.settle.Slot.{Slot}
-use Rattle.papaya_copy.specs.declared.step.Step.{Step}
-use Rattle.papaya_copy.specs.declared.step.Step.TheVariants as steps
-use Rattle.papaya_copy.specs.Carry.{carry_ask}
-use Rattle.papaya_copy.specs.Copying.{copying_ask}
-use Rattle.papaya_copy.specs.Link as link
-use Rattle.papaya_copy.specs.Link.{link_ask}
-use Rattle.papaya_copy.specs.Settle.{settle_ask}
-use Rattle.papaya_copy.specs.Step.{slot_of, step_ask}
-use Rattle.papaya_chain.specs.declared.ask.Answer.{Answer}
-use Rattle.papaya_chain.specs.declared.ask.Answer.TheVariants as answers
-use Rattle.papaya_chain.specs.Machine.{link_after}
+use Rattle.papaya_words.specs.declared.refused.Refused.{Refused}
+use Rattle.papaya_words.specs.declared.refused.Refused.TheVariants.{Capacity}
+use Rattle.papaya_words.specs.declared.resize_mode.ResizeMode.{ResizeMode}
+use Rattle.papaya_call.specs.declared.ask.Answer.TheVariants as told
+use Rattle.papaya_call.specs.declared.copy_ask.CopyAsk.TheVariants as copies
+use Rattle.papaya_call.specs.declared.copy.carry.Carry.{Carry}
+use Rattle.papaya_call.specs.declared.copy.carry.Carry.TheVariants as carries
+use Rattle.papaya_call.specs.declared.copy.copying.Copying.{Copying}
+use Rattle.papaya_call.specs.declared.copy.copying.Copying.TheVariants.{Stepping, Lone}
+use Rattle.papaya_call.specs.declared.copy.link.Link.{Link}
+use Rattle.papaya_call.specs.declared.copy.link.Link.TheVariants as links
+use Rattle.papaya_call.specs.declared.copy.link.Linked.TheVariants as linked
+use Rattle.papaya_call.specs.declared.copy.settle.Settle.{Settle}
+use Rattle.papaya_call.specs.declared.copy.settle.Settle.TheVariants as settles
+use Rattle.papaya_call.specs.declared.copy.settle.SlotToCopy.{SlotToCopy}
+use Rattle.papaya_call.specs.declared.copy.step.Step.{Step}
+use Rattle.papaya_call.specs.declared.copy.step.Step.TheVariants as steps
+use Rattle.papaya_call.specs.Carry.{carry_ask}
+use Rattle.papaya_call.specs.Copying.{copying_ask}
+use Rattle.papaya_call.specs.Link as link
+use Rattle.papaya_call.specs.Link.{link_ask}
+use Rattle.papaya_call.specs.Settle.{settle_ask}
+use Rattle.papaya_call.specs.Step.{slot_of, step_ask}
+use Rattle.papaya_call.specs.declared.chain.ask.Answer.{Answer}
+use Rattle.papaya_call.specs.declared.chain.ask.Answer.TheVariants as answers
+use Rattle.papaya_call.specs.ChainMachine.{link_after}
 use Rattle.papaya_call_law.specs.Copier.{link_in_carry, link_in_copying, link_in_settle, link_in_step}
-use Rattle.papaya_chain_law.proofs.LinkStates.{In, Linked_in}
+use Rattle.papaya_call_law.proofs.LinkStates.{In, Linked_in}
 use Rattle.papaya_seq.proofs.LinkLeads.{IsBegun, IsLed}
 
 -- the length after one that is no less than the initial capacity is not either
@@ -57,7 +57,7 @@ carry_makes : (goes : Carry) (marked slots limit chunks : ℕ) → carry_ask goe
 carry_makes (carries.Linking hash made) marked slots limit chunks e = let (behind, is) = link_makes made slots limit chunks e in (behind, ap (λ x. Some x) is)
 carry_makes other marked slots limit chunks e = absurd cc
 
-settle_makes : (goes : Settle) (slot : Slot) (slots limit chunks : ℕ) → settle_ask goes slot ≡ copies.MakeTable slots limit chunks → (behind : ℕ)
+settle_makes : (goes : Settle) (slot : SlotToCopy) (slots limit chunks : ℕ) → settle_ask goes slot ≡ copies.MakeTable slots limit chunks → (behind : ℕ)
     × (link_in_settle goes ≡ Some (links.Making behind slots limit chunks))
 settle_makes (settles.Carrying marked goes) slot slots limit chunks e = carry_makes goes marked slots limit chunks e
 settle_makes other slot slots limit chunks e = absurd cc

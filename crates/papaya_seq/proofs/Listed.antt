@@ -1,10 +1,10 @@
 -- The numbers that a walk lists, from pair to pair.
 use Rattle.std.proofs.Common.{◌≡◌, ℕ, ◌<◌, Bool, List, [], ◌∷◌, ◌++◌, length, map, None, Some, sym, ◌∙◌, ap, arith}
 use Rattle.std.proofs.lemmas.List.{append-nil, append_assoc}
-use Rattle.papaya_store.specs.Store.{StoreState, Stored}
-use Rattle.papaya_store.proofs.Logs.{pair_number}
+use Rattle.papaya_core_store.specs.Store.{StoreState, Stored}
+use Rattle.papaya_core_store.proofs.Logs.{pair_number}
 use Rattle.papaya_seq.specs.Walks.{IsNext, left_to}
-use Rattle.papaya_seq.specs.declared.stand.Stand.{Stand}
+use Rattle.papaya_seq.specs.declared.walks.Stand.{Stand}
 
 module _ {K V S : Type 0} (eq : K → K → Bool) (store : StoreState K V S) (at at' : Stand) where
   -- the numbers of these pairs

@@ -2,27 +2,27 @@
 use Rattle.std.proofs.Common.{◌≡◌, ⊎_elim, ℕ, ◌<◌, ◌^◌, Bool, true, List, [], ◌∷◌, Option, Some, None, option_map, refl, sym, ◌∙◌, ap, subst}
 use Rattle.std.specs.Int.{IsPowerOfTwo}
 use Rattle.std.specs.Cmp.{IsEquivalence}
-use Rattle.papaya_store.specs.declared.mode.Mode.{Mode}
-use Rattle.papaya_ask.specs.declared.ask.Answer.{Answer}
-use Rattle.papaya_ask.specs.declared.ask.Ask.TheVariants.{Done as Ask_done}
-use Rattle.papaya_ask.specs.declared.call.Call.TheVariants.{Get}
-use Rattle.papaya_ask.specs.declared.call.Task.TheVariants.{Get as Get_task}
-use Rattle.papaya_ask.specs.declared.call.Reply.{Reply}
-use Rattle.papaya_ask.specs.declared.call.Reply.TheVariants.{Absent, Found, Inserted, Replaced, Occupied, Removed, Kept, Aborted, Done, Refused}
+use Rattle.papaya_core_store.specs.declared.store.Mode.{Mode}
+use Rattle.papaya_call.specs.declared.ask.Answer.{Answer}
+use Rattle.papaya_call.specs.declared.ask.Ask.TheVariants.{Done as Ask_done}
+use Rattle.papaya_call.specs.declared.call.Call.TheVariants.{Get}
+use Rattle.papaya_call.specs.declared.call.Task.TheVariants.{Get as Get_task}
+use Rattle.papaya_call.specs.declared.call.Reply.{Reply}
+use Rattle.papaya_call.specs.declared.call.Reply.TheVariants.{Absent, Found, Inserted, Replaced, Occupied, Removed, Kept, Aborted, Done, Refused}
 use Rattle.papaya_call.specs.declared.machine.Machine.{Machine}
 use Rattle.papaya_call.specs.declared.machine.State.TheVariants.{Ended}
 use Rattle.papaya_call_law.specs.Alone.{HasMetNone}
 use Rattle.papaya_call.specs.Machine.{after, ask_of, started}
 use Rattle.papaya_call_law.proofs.Tasks.{same_task}
-use Rattle.papaya_timeline.specs.Content.{map_of}
-use Rattle.papaya_timeline.specs.Kept.{IsLawfulCore}
-use Rattle.papaya_timeline.specs.Maps.{Map, Does}
-use Rattle.papaya_timeline.specs.Solo.{IsAnswered}
-use Rattle.papaya_store.specs.Store.{StoreState, Stored}
-use Rattle.papaya_keys.specs.Hashes.{hash_of}
-use Rattle.papaya_timeline.proofs.SoloLaw.{alone_answered}
-use Rattle.papaya_timeline.proofs.KeptCore.{keys_lawful}
-use Rattle.papaya_timeline.proofs.KeptSettings.{IsLawfulKeys}
+use Rattle.papaya_core_timeline.specs.Content.{map_of}
+use Rattle.papaya_core_timeline.specs.Kept.{IsLawfulCore}
+use Rattle.papaya_core_timeline.specs.Maps.{Map, Does}
+use Rattle.papaya_core_timeline.specs.Solo.{IsAnswered}
+use Rattle.papaya_core_store.specs.Store.{StoreState, Stored}
+use Rattle.papaya_words_keys.specs.Hashes.{hash_of}
+use Rattle.papaya_core_timeline.proofs.SoloLaw.{alone_answered}
+use Rattle.papaya_core_timeline.proofs.KeptCore.{keys_lawful}
+use Rattle.papaya_core_timeline.proofs.KeptSettings.{IsLawfulKeys}
 use Rattle.papaya_seq.specs.Looks.{IsFound, LooksUp, Replies, reply_of}
 use Rattle.papaya_seq.specs.Map.{Holds, MapState, core_of}
 use Rattle.papaya_seq.proofs.Lawful.{IsMatched, MatchesNone, decided, logged_content, lookup_has_none, lookup_holds, none_held}

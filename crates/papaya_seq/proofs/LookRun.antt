@@ -1,43 +1,43 @@
 -- A lookup whose asks are answered by what stands in the tables is the whole of one call of the core.
 use Rattle.std.proofs.Common.{◌≡◌, ℕ, suc, ◌<◌, ◌^◌, Bool, false, List, [], ◌∷◌, Option, Some, None, inl, refl, sym, ◌∙◌, ap, subst}
 use Rattle.std.specs.Int.{IsPowerOfTwo}
-use Rattle.papaya_words.specs.declared.probe.Refused.{Refused}
-use Rattle.papaya_ask.specs.declared.ask.Answer.{Answer}
-use Rattle.papaya_ask.specs.declared.ask.Answer.TheVariants.{Yes}
-use Rattle.papaya_ask.specs.declared.ask.Ask.{Ask}
-use Rattle.papaya_ask.specs.declared.ask.Ask.TheVariants.{Load, Exchange, LoadHint, WriteHint}
-use Rattle.papaya_ask.specs.declared.ask.Ask.TheVariants.{SameKey, ShowNone, ShowPair, SizeOf}
-use Rattle.papaya_ask.specs.declared.ask.Ask.TheVariants.{MakeKey, MakeValue, MakePair, MakePairOf}
-use Rattle.papaya_ask.specs.declared.ask.Ask.TheVariants.{MakeTable, AddToShard, Done as Ask_done}
-use Rattle.papaya_ask.specs.declared.call.Call.TheVariants.{Get}
-use Rattle.papaya_ask.specs.declared.call.Task.TheVariants.{Get as Get_task}
-use Rattle.papaya_ask.specs.declared.call.Reply.{Reply}
-use Rattle.papaya_ask.specs.declared.call.Reply.TheVariants.{Refused as Reply_refused}
+use Rattle.papaya_words.specs.declared.refused.Refused.{Refused}
+use Rattle.papaya_call.specs.declared.ask.Answer.{Answer}
+use Rattle.papaya_call.specs.declared.ask.Answer.TheVariants.{Yes}
+use Rattle.papaya_call.specs.declared.ask.Ask.{Ask}
+use Rattle.papaya_call.specs.declared.ask.Ask.TheVariants.{Load, Exchange, LoadHint, WriteHint}
+use Rattle.papaya_call.specs.declared.ask.Ask.TheVariants.{SameKey, ShowNone, ShowPair, SizeOf}
+use Rattle.papaya_call.specs.declared.ask.Ask.TheVariants.{MakeKey, MakeValue, MakePair, MakePairOf}
+use Rattle.papaya_call.specs.declared.ask.Ask.TheVariants.{MakeTable, AddToShard, Done as Ask_done}
+use Rattle.papaya_call.specs.declared.call.Call.TheVariants.{Get}
+use Rattle.papaya_call.specs.declared.call.Task.TheVariants.{Get as Get_task}
+use Rattle.papaya_call.specs.declared.call.Reply.{Reply}
+use Rattle.papaya_call.specs.declared.call.Reply.TheVariants.{Refused as Reply_refused}
 use Rattle.papaya_call.specs.declared.machine.Machine.{Machine}
 use Rattle.papaya_call.specs.declared.machine.State.{State}
 use Rattle.papaya_call.specs.declared.machine.State.TheVariants.{Growing}
 use Rattle.papaya_call.specs.declared.need.Need.{Need}
 use Rattle.papaya_call.specs.Machine.{after, ask_of, started}
-use Rattle.papaya_chain.specs.declared.ask.Ask.TheVariants as chain_asks
-use Rattle.papaya_chain.specs.declared.ask.Answer.TheVariants as answers
-use Rattle.papaya_chain.specs.declared.machine.Machine.{Machine as Chain_machine}
-use Rattle.papaya_chain.specs.Machine as chain
+use Rattle.papaya_call.specs.declared.chain.ask.Ask.TheVariants as chain_asks
+use Rattle.papaya_call.specs.declared.chain.ask.Answer.TheVariants as answers
+use Rattle.papaya_call.specs.declared.chain.machine.Machine.{Machine as Chain_machine}
+use Rattle.papaya_call.specs.ChainMachine as chain
 use Rattle.papaya_call_law.proofs.Tasks.{same_task}
-use Rattle.papaya_store.specs.declared.pairs.Part.TheVariants.{Own}
-use Rattle.papaya_store.specs.declared.pairs.Running.{Running}
-use Rattle.papaya_timeline.specs.declared.trace.Entry.{Entry}
-use Rattle.papaya_timeline.specs.declared.trace.Event.{Event}
-use Rattle.papaya_timeline.specs.declared.trace.Event.TheVariants.{Begun, Replied}
-use Rattle.papaya_timeline.specs.declared.trace.Turn.TheVariants.{Begin, Finish}
-use Rattle.papaya_timeline.specs.Advances.{Advances, event_of, goes_on, reply_in as chain_reply}
-use Rattle.papaya_timeline.specs.Callers.{as_work}
-use Rattle.papaya_timeline.specs.Core.{CoreState}
-use Rattle.papaya_store.specs.Performs.{Performs, same_stored}
-use Rattle.papaya_timeline.specs.Kept.{IsLawfulCore}
-use Rattle.papaya_timeline.specs.Runs.{History, StepsRun, with_event}
-use Rattle.papaya_timeline.specs.Solo.{RunsAlone, whatever}
-use Rattle.papaya_store.specs.Store.{Stored, pair_of}
-use Rattle.papaya_timeline.proofs.KeptSettings.{IsLawfulKeys}
+use Rattle.papaya_core_store.specs.declared.pairs.Part.TheVariants.{Own}
+use Rattle.papaya_core_store.specs.declared.pairs.Running.{Running}
+use Rattle.papaya_core_timeline.specs.declared.trace.Entry.{Entry}
+use Rattle.papaya_core_timeline.specs.declared.trace.Event.{Event}
+use Rattle.papaya_core_timeline.specs.declared.trace.Event.TheVariants.{Begun, Replied}
+use Rattle.papaya_core_timeline.specs.declared.trace.Turn.TheVariants.{Begin, Finish}
+use Rattle.papaya_core_timeline.specs.Advances.{Advances, event_of, goes_on, reply_in as chain_reply}
+use Rattle.papaya_core_timeline.specs.Callers.{as_work}
+use Rattle.papaya_core_timeline.specs.Core.{CoreState}
+use Rattle.papaya_core_store.specs.Performs.{Performs, same_stored}
+use Rattle.papaya_core_timeline.specs.Kept.{IsLawfulCore}
+use Rattle.papaya_core_timeline.specs.Runs.{History, StepsRun, with_event}
+use Rattle.papaya_core_timeline.specs.Solo.{RunsAlone, whatever}
+use Rattle.papaya_core_store.specs.Store.{Stored, pair_of}
+use Rattle.papaya_core_timeline.proofs.KeptSettings.{IsLawfulKeys}
 use Rattle.papaya_seq.specs.Looks.{IsToldBy, Replies, matches_in}
 use Rattle.papaya_seq.specs.Map.{MapState, core_of}
 use Rattle.papaya_seq.proofs.Driving.{calling, goes_itself, reply_in}

@@ -5,20 +5,20 @@ use Rattle.std.proofs.Common.{arith, eq-eqb}
 use Rattle.std.proofs.lemmas.Bool.{cond_both}
 use Rattle.papaya_words.specs.Table.{TableWords}
 use Rattle.papaya_words.specs.Word.{kind_of, may_hold, pair_of as number_of}
-use Rattle.papaya_words.specs.declared.probe.ResizeMode.{ResizeMode}
-use Rattle.papaya_store.specs.declared.mode.Mode.{Mode}
-use Rattle.papaya_words.specs.declared.probe.ResizeMode.TheVariants.{Incremental, Blocking}
+use Rattle.papaya_words.specs.declared.resize_mode.ResizeMode.{ResizeMode}
+use Rattle.papaya_core_store.specs.declared.store.Mode.{Mode}
+use Rattle.papaya_words.specs.declared.resize_mode.ResizeMode.TheVariants.{Incremental, Blocking}
 use Rattle.papaya_words.specs.declared.word.Kind.{Kind}
 use Rattle.papaya_words.specs.declared.word.Kind.TheVariants as word_kinds
-use Rattle.papaya_ask.specs.declared.ask.Answer.{Answer}
-use Rattle.papaya_ask.specs.declared.ask.Answer.TheVariants.{Word as Word_read, Yes, Size}
-use Rattle.papaya_ask.specs.declared.ask.Ask.TheVariants.{Done as Ask_done}
-use Rattle.papaya_ask.specs.declared.ask.At.{At}
-use Rattle.papaya_ask.specs.declared.ask.At.TheVariants.{Next, Slot}
-use Rattle.papaya_ask.specs.declared.call.Reply.{Reply}
-use Rattle.papaya_ask.specs.declared.call.Reply.TheVariants.{Absent, Found, Inserted, Replaced, Occupied, Removed, Kept, Aborted, Done, Refused}
-use Rattle.papaya_ask.specs.declared.call.Task.{Task}
-use Rattle.papaya_ask.specs.declared.call.Task.TheVariants.{Get}
+use Rattle.papaya_call.specs.declared.ask.Answer.{Answer}
+use Rattle.papaya_call.specs.declared.ask.Answer.TheVariants.{Word as Word_read, Yes, Size}
+use Rattle.papaya_call.specs.declared.ask.Ask.TheVariants.{Done as Ask_done}
+use Rattle.papaya_call.specs.declared.ask.At.{At}
+use Rattle.papaya_call.specs.declared.ask.At.TheVariants.{Next, Slot}
+use Rattle.papaya_call.specs.declared.call.Reply.{Reply}
+use Rattle.papaya_call.specs.declared.call.Reply.TheVariants.{Absent, Found, Inserted, Replaced, Occupied, Removed, Kept, Aborted, Done, Refused}
+use Rattle.papaya_call.specs.declared.call.Task.{Task}
+use Rattle.papaya_call.specs.declared.call.Task.TheVariants.{Get}
 use Rattle.papaya_call.specs.declared.compute.Remembered.{Remembered}
 use Rattle.papaya_call.specs.declared.machine.Machine.{Machine}
 use Rattle.papaya_call.specs.declared.machine.State.{State}
@@ -27,10 +27,10 @@ use Rattle.papaya_call.specs.declared.machine.State.TheVariants.{Writing, Offeri
 use Rattle.papaya_call.specs.declared.machine.State.TheVariants.{Pairing, Putting, Burying}
 use Rattle.papaya_call.specs.declared.machine.State.TheVariants.{Counting, Noting, Uncounting}
 use Rattle.papaya_call.specs.declared.machine.State.TheVariants.{Leaving, Growing, Ended}
-use Rattle.papaya_ask.specs.declared.search.Place.{Place}
-use Rattle.papaya_ask.specs.declared.search.Search.TheVariants.{Sizing, Looking, Reading, Comparing}
-use Rattle.papaya_ask.specs.declared.search.Probed.{Probed}
-use Rattle.papaya_ask.specs.declared.search.Probed.TheVariants as seen
+use Rattle.papaya_call.specs.declared.search.Place.{Place}
+use Rattle.papaya_call.specs.declared.search.Search.TheVariants.{Sizing, Looking, Reading, Comparing}
+use Rattle.papaya_call.specs.declared.search.ProbeStep.{ProbeStep}
+use Rattle.papaya_call.specs.declared.search.ProbeStep.TheVariants as seen
 use Rattle.papaya_call.specs.declared.made.Made.{Made}
 use Rattle.papaya_call.specs.declared.made.Number.{Number}
 use Rattle.papaya_call.specs.declared.made.Number.TheVariants.{Wanted, Free, Taken}
@@ -39,15 +39,15 @@ use Rattle.papaya_call.specs.Machine.{started, after, ask_of, asks, at_root, pas
 use Rattle.papaya_call_law.proofs.AloneCurrent.{machine_stable}
 use Rattle.papaya_call_law.proofs.AloneSteps.{machine_nears}
 use Rattle.papaya_call_law.proofs.AloneUnmatched.{machine_meets_none}
-use Rattle.papaya_ask.specs.Search.{IsSize, next_place, go_on, hinted, look_at, look, match_at, at_yes as search_compared}
+use Rattle.papaya_call.specs.Search.{IsSize, next_place, go_on, hinted, look_at, look, match_at, at_yes as search_compared}
 use Rattle.papaya_call_law.proofs.Tasks.{same_task}
-use Rattle.papaya_store.specs.Performs.{size_of}
-use Rattle.papaya_store.specs.Store.{StoreState, Stored, pair_of}
-use Rattle.papaya_store.specs.Tables.{hint_at, table_of, word_at}
+use Rattle.papaya_core_store.specs.Performs.{size_of}
+use Rattle.papaya_core_store.specs.Store.{StoreState, Stored, pair_of}
+use Rattle.papaya_core_store.specs.Tables.{hint_at, table_of, word_at}
 use Rattle.papaya_seq.specs.Looks.{IsToldBy, Replies, matches_in}
-use Rattle.papaya_timeline.specs.Kept.{IsLawfulCore}
-use Rattle.papaya_timeline.proofs.KeptSettings.{IsLawfulKeys}
-use Rattle.papaya_timeline.proofs.KeptTables.{table_low}
+use Rattle.papaya_core_timeline.specs.Kept.{IsLawfulCore}
+use Rattle.papaya_core_timeline.proofs.KeptSettings.{IsLawfulKeys}
+use Rattle.papaya_core_timeline.proofs.KeptTables.{table_low}
 use Rattle.papaya_seq.proofs.Numbered.{begun_number}
 use Rattle.papaya_seq.proofs.Lawful.{MatchesNone, core_bare, core_next_rises, core_next_there, core_root_there}
 
@@ -69,7 +69,7 @@ some_number : (n : ℕ) → (n == 0) ≡ false → n ≡ 0 → ⊥
 some_number n some zero = let f : true ≡ false = sym (eq-eqb n 0 zero) ∙ some in cc
 
 -- a search of table t that saw this asks for no table's size next, and stays in the table
-abbrev SeesPlace : ℕ → Probed → Type 0
+abbrev SeesPlace : ℕ → ProbeStep → Type 0
 SeesPlace t (seen.On (Sizing u)) = ⊥
 SeesPlace t (seen.On (Looking at)) = at.table ≡ t
 SeesPlace t (seen.On (Reading at)) = at.table ≡ t
@@ -126,7 +126,7 @@ module _ (tables : ℕ) where
   passes_ahead Blocking fill t = omega arith
 
   -- a search stays in its table until it is over
-  goes_ahead : (mode : ResizeMode) (held : Remembered) (t : ℕ) (s : Probed) → SeesPlace t s → tables_ahead tables (goes_as Get mode held s) ≤ tables - t
+  goes_ahead : (mode : ResizeMode) (held : Remembered) (t : ℕ) (s : ProbeStep) → SeesPlace t s → tables_ahead tables (goes_as Get mode held s) ≤ tables - t
   goes_ahead mode held t (seen.On (Sizing u)) place = absurd place
   goes_ahead mode held t (seen.On (Looking at)) place = omega (arith, place)
   goes_ahead mode held t (seen.On (Reading at)) place = omega (arith, place)
@@ -171,7 +171,7 @@ module _ {K V S : Type 0} (store : StoreState K V S) where
   passes_looking Blocking fill t = tt
 
   -- where a search leads that asks for no table's size next
-  goes_looking : (mode : ResizeMode) (held : Remembered) (t : ℕ) (s : Probed) → SeesPlace t s → IsLooking (goes_as Get mode held s)
+  goes_looking : (mode : ResizeMode) (held : Remembered) (t : ℕ) (s : ProbeStep) → SeesPlace t s → IsLooking (goes_as Get mode held s)
   goes_looking mode held t (seen.On (Sizing u)) place = absurd place
   goes_looking mode held t (seen.On (Looking at)) place = tt
   goes_looking mode held t (seen.On (Reading at)) place = tt

@@ -3,31 +3,31 @@ use Rattle.std.proofs.Common.{◌≡◌, ℕ, ◌<◌, ◌≤◌, ◌==◌, if�
 use Rattle.std.proofs.Common.{Some, None, length, inl, inr, refl, sym, ◌∙◌, ap, subst, arith}
 use Rattle.std.proofs.lemmas.Bool.{cases_eq, ne_eqb}
 use Rattle.papaya_words.specs.Table.{TableWords}
-use Rattle.papaya_words.specs.declared.probe.ResizeMode.{ResizeMode}
-use Rattle.papaya_words.specs.declared.probe.ResizeMode.TheVariants.{Incremental, Blocking}
-use Rattle.papaya_ask.specs.declared.ask.Answer.{Answer}
-use Rattle.papaya_ask.specs.declared.ask.Answer.TheVariants.{Size, Word as Word_read}
-use Rattle.papaya_ask.specs.declared.ask.At.TheVariants.{Next}
-use Rattle.papaya_ask.specs.declared.call.Reply.TheVariants.{Absent}
-use Rattle.papaya_ask.specs.declared.call.Task.TheVariants.{Get}
-use Rattle.papaya_ask.specs.declared.search.Place.{Place}
-use Rattle.papaya_ask.specs.declared.search.Probed.{Probed}
-use Rattle.papaya_ask.specs.declared.search.Search.TheVariants.{Sizing, Looking}
-use Rattle.papaya_ask.specs.Search.{IsSize, first_place}
+use Rattle.papaya_words.specs.declared.resize_mode.ResizeMode.{ResizeMode}
+use Rattle.papaya_words.specs.declared.resize_mode.ResizeMode.TheVariants.{Incremental, Blocking}
+use Rattle.papaya_call.specs.declared.ask.Answer.{Answer}
+use Rattle.papaya_call.specs.declared.ask.Answer.TheVariants.{Size, Word as Word_read}
+use Rattle.papaya_call.specs.declared.ask.At.TheVariants.{Next}
+use Rattle.papaya_call.specs.declared.call.Reply.TheVariants.{Absent}
+use Rattle.papaya_call.specs.declared.call.Task.TheVariants.{Get}
+use Rattle.papaya_call.specs.declared.search.Place.{Place}
+use Rattle.papaya_call.specs.declared.search.ProbeStep.{ProbeStep}
+use Rattle.papaya_call.specs.declared.search.Search.TheVariants.{Sizing, Looking}
+use Rattle.papaya_call.specs.Search.{IsSize, first_place}
 use Rattle.papaya_call.specs.declared.machine.Machine.{Machine}
 use Rattle.papaya_call.specs.declared.machine.State.{State}
 use Rattle.papaya_call.specs.declared.machine.State.TheVariants.{AtRoot, Searching, Leaving, Ended}
 use Rattle.papaya_call.specs.Machine.{after, ask_of, goes, passes, started}
-use Rattle.papaya_store.specs.declared.mode.Mode.{Mode}
-use Rattle.papaya_store.specs.Performs.{size_of}
-use Rattle.papaya_store.specs.Store.{StoreState}
-use Rattle.papaya_store.specs.Tables.{table_of, word_at}
-use Rattle.papaya_timeline.specs.Kept.{IsLawfulCore}
-use Rattle.papaya_timeline.proofs.KeptSettings.{IsLawfulKeys}
+use Rattle.papaya_core_store.specs.declared.store.Mode.{Mode}
+use Rattle.papaya_core_store.specs.Performs.{size_of}
+use Rattle.papaya_core_store.specs.Store.{StoreState}
+use Rattle.papaya_core_store.specs.Tables.{table_of, word_at}
+use Rattle.papaya_core_timeline.specs.Kept.{IsLawfulCore}
+use Rattle.papaya_core_timeline.proofs.KeptSettings.{IsLawfulKeys}
 use Rattle.papaya_seq.specs.Looks.{Comes, IsToldBy}
 use Rattle.papaya_seq.specs.Searches.{IsTurn, SeesFrom, seen_by}
-use Rattle.papaya_seq.specs.declared.search.Turn.{Turn}
-use Rattle.papaya_seq.specs.declared.search.Turn.TheVariants as turns
+use Rattle.papaya_seq.specs.declared.search.ProbeHit.{ProbeHit}
+use Rattle.papaya_seq.specs.declared.search.ProbeHit.TheVariants as turns
 use Rattle.papaya_seq.proofs.LookSteps.{IsLookUp, look_up_begins, look_up_goes, lookup_left, lookup_nears}
 
 -- a lookup that loaded the number of a table stands here
@@ -38,7 +38,7 @@ numbered_some : (n : ℕ) → (n ≡ 0 → ⊥) → numbered n ≡ Searching (Si
 numbered_some n some = ap (λ (b : Bool). if b then Ended Absent else Searching (Sizing n)) (ne_eqb n 0 some)
 
 -- a turn that neither goes on, nor found a pair, nor passed the table
-pub empty_else : (turn : Turn) → ((at : Place) → turn ≡ turns.Next at → ⊥) → ((at : Place) (word : ℕ) → turn ≡ turns.Here at word → ⊥)
+pub empty_else : (turn : ProbeHit) → ((at : Place) → turn ≡ turns.Next at → ⊥) → ((at : Place) (word : ℕ) → turn ≡ turns.Here at word → ⊥)
     → ((t : ℕ) → turn ≡ turns.Over t → ⊥) → (at : Place) × (turn ≡ turns.Empty at)
 empty_else (turns.Next at) on here over = absurd (on at refl)
 empty_else (turns.Empty at) on here over = (at, refl)
@@ -84,7 +84,7 @@ module _ {K V S : Type 0} (eq : K → K → Bool) (hash : K → ℕ) (mode : Mod
     )
 
     -- a search of the root led on
-    pub root_led : (seen : Probed) → SeesFrom matches store h AtRoot seen → HasCome (goes begun seen)
+    pub root_led : (seen : ProbeStep) → SeesFrom matches store h AtRoot seen → HasCome (goes begun seen)
     root_led seen sees =
         let came = sees begun in
         (look_up_comes begun came.0 begun (stands_at (goes begun seen)) (look_up_begins eq hash mode store lawful matches h initial) came.1).0
@@ -123,7 +123,7 @@ module _ {K V S : Type 0} (eq : K → K → Bool) (hash : K → ℕ) (mode : Mod
     ]
 
     -- a search of a table led on
-    pub turned : (at : Place) (turn : Turn) → IsTurn matches store h at turn → HasCome (Searching (Looking at)) → HasCome (goes begun (seen_by turn))
+    pub turned : (at : Place) (turn : ProbeHit) → IsTurn matches store h at turn → HasCome (Searching (Looking at)) → HasCome (goes begun (seen_by turn))
         × (left_at (goes begun (seen_by turn)) ≤ left_at (Searching (Looking at)))
     turned at turn is kept =
         let came = is.sees begun in
@@ -143,7 +143,7 @@ module _ {K V S : Type 0} (eq : K → K → Bool) (hash : K → ℕ) (mode : Mod
 
     -- a table was searched
     pub searched : (t slots limit : ℕ) → size_of (table_of store.words.tables t) ≡ Size slots limit → HasCome (numbered t) → (at : Place)
-        → at ≡ first_place h t slots limit → (turn : Turn) → IsTurn matches store h at turn → HasCome (goes begun (seen_by turn))
+        → at ≡ first_place h t slots limit → (turn : ProbeHit) → IsTurn matches store h at turn → HasCome (goes begun (seen_by turn))
         × (left_at (goes begun (seen_by turn)) < left_at (numbered t))
     searched t slots limit size kept at is turn by =
         let (fit, looks, nearer) = first_looked t slots limit size kept in

@@ -2,33 +2,33 @@
 use Rattle.std.proofs.Common.{◌≡◌, inl, inr, ℕ, Bool, false, None, Option, Some, List, ◌++◌, sym, ◌∙◌, ap, subst, refl, arith}
 use Rattle.std.proofs.lemmas.Bool.{cases_Bool}
 use Rattle.papaya_words.specs.Table.{TableWords}
-use Rattle.papaya_ask.specs.declared.ask.At.TheVariants.{Next, Root, Slot}
-use Rattle.papaya_ask.specs.declared.call.Task.{Task}
-use Rattle.papaya_ask.specs.declared.call.Task.TheVariants.{Insert}
+use Rattle.papaya_call.specs.declared.ask.At.TheVariants.{Next, Root, Slot}
+use Rattle.papaya_call.specs.declared.call.Task.{Task}
+use Rattle.papaya_call.specs.declared.call.Task.TheVariants.{Insert}
 use Rattle.papaya_call.specs.declared.machine.State.TheVariants.{Growing, Writing}
 use Rattle.papaya_call.specs.declared.need.Need.{Need}
 use Rattle.papaya_call.specs.declared.need.Need.TheVariants.{Room, Pair as Pair_at}
 use Rattle.papaya_call.specs.declared.write.Write.{Write}
 use Rattle.papaya_call.specs.Machine.{needed}
-use Rattle.papaya_law.specs.Allows.{AllAllowed}
-use Rattle.papaya_law.specs.Code.{Coding, IsHashed}
-use Rattle.papaya_law.specs.Exchange.{Empty, Exchange, Setting, State, run, start as first_state}
-use Rattle.papaya_law.specs.Meaning.{map_left}
-use Rattle.papaya_law.specs.View.{look, view, IsPassed}
-use Rattle.papaya_law.proofs.Codes.{code_empty}
-use Rattle.papaya_law.proofs.OneMap.{means_map}
+use Rattle.papaya_words_law.specs.Allows.{AllAllowed}
+use Rattle.papaya_words_law.specs.Code.{Coding, IsHashed}
+use Rattle.papaya_words_law.specs.Exchange.{Empty, Exchange, Setting, State, run, start as first_state}
+use Rattle.papaya_words_law.specs.Meaning.{map_left}
+use Rattle.papaya_words_law.specs.View.{look, view, IsPassed}
+use Rattle.papaya_words_law.proofs.Codes.{code_empty}
+use Rattle.papaya_words_law.proofs.OneMap.{means_map}
 use Rattle.papaya_call_law.specs.Relies.{HasComeTo, ReliesGrowing, ReliesStage}
 use Rattle.papaya_call_law.specs.Told.{word_of}
 use Rattle.papaya_call_law.proofs.ReliesNames.{come_reached}
 use Rattle.papaya_call_law.proofs.ReliesRemovals.{moving_further}
-use Rattle.papaya_store.specs.declared.pairs.Running.{Running}
-use Rattle.papaya_store.specs.Store.{Stored}
-use Rattle.papaya_store.specs.Tables.{table_of, word_at, word_in}
-use Rattle.papaya_timeline.specs.Callers.{running}
-use Rattle.papaya_timeline.specs.Content.{map_in}
-use Rattle.papaya_timeline.specs.Core.{CoreState, IsCore}
-use Rattle.papaya_timeline.specs.Kept.{CallTrace, IsCall, IsKept, coding_of, low, setting_of}
-use Rattle.papaya_timeline.proofs.KeptLemmas.{IsLawfulKeys, hashed_setting, map_kept}
+use Rattle.papaya_core_store.specs.declared.pairs.Running.{Running}
+use Rattle.papaya_core_store.specs.Store.{Stored}
+use Rattle.papaya_core_store.specs.Tables.{table_of, word_at, word_in}
+use Rattle.papaya_core_timeline.specs.Callers.{running}
+use Rattle.papaya_core_timeline.specs.Content.{map_in}
+use Rattle.papaya_core_timeline.specs.Core.{CoreState, IsCore}
+use Rattle.papaya_core_timeline.specs.Kept.{CallTrace, IsCall, IsKept, coding_of, low, setting_of}
+use Rattle.papaya_core_timeline.proofs.KeptLemmas.{IsLawfulKeys, hashed_setting, map_kept}
 use Rattle.papaya_seq.specs.Map.{next_in, next_of}
 
 -- a table's next one as a word

@@ -4,27 +4,27 @@ use Rattle.std.proofs.Common.{length, MatchOption, Option, None, Some, pos, refl
 use Rattle.std.proofs.Common.{subst, arith}
 use Rattle.papaya_words.specs.Table.{TableWords}
 use Rattle.papaya_call.specs.Made.{IsLimit}
-use Rattle.papaya_ask.specs.declared.ask.At.{At}
-use Rattle.papaya_ask.specs.declared.ask.At.TheVariants.{Root, Next, Aborted, Done, Slot, Made as Made_word}
-use Rattle.papaya_law.specs.Allows.{AllAllowed, Allows}
-use Rattle.papaya_law.specs.Code.{Coding}
-use Rattle.papaya_law.specs.Grows.{Comes}
-use Rattle.papaya_law.specs.Invariant.{named}
-use Rattle.papaya_law.specs.Copying.{IsCopied, IsSettled, IsTaker, IsTarget}
-use Rattle.papaya_law.specs.Exchange.{Word, Empty, Closed, Live, Marked, Copied, Buried}
-use Rattle.papaya_law.specs.Exchange.{Exchange, Open, Claim, Replace, Bury, Link, Mark, Close}
-use Rattle.papaya_law.specs.Exchange.{Place, Finish, Advance, Promote, Abort, Take, Setting, State}
-use Rattle.papaya_law.specs.Exchange.{after, run, start}
-use Rattle.papaya_law.specs.Hints.{IsHint, IsHintOf}
-use Rattle.papaya_law.specs.View.{IsNextPlace, IsReached, View}
-use Rattle.papaya_law.proofs.Moments.{allowed_append, run-append}
+use Rattle.papaya_call.specs.declared.ask.At.{At}
+use Rattle.papaya_call.specs.declared.ask.At.TheVariants.{Root, Next, Aborted, Done, Slot, Made as Made_word}
+use Rattle.papaya_words_law.specs.Allows.{AllAllowed, Allows}
+use Rattle.papaya_words_law.specs.Code.{Coding}
+use Rattle.papaya_words_law.specs.Grows.{Comes}
+use Rattle.papaya_words_law.specs.Invariant.{named}
+use Rattle.papaya_words_law.specs.Copying.{IsCopied, IsSettled, IsTaker, IsTarget}
+use Rattle.papaya_words_law.specs.Exchange.{Word, Empty, Closed, Live, Marked, Copied, Buried}
+use Rattle.papaya_words_law.specs.Exchange.{Exchange, Open, Claim, Replace, Bury, Link, Mark, Close}
+use Rattle.papaya_words_law.specs.Exchange.{Place, Finish, Advance, Promote, Abort, Take, Setting, State}
+use Rattle.papaya_words_law.specs.Exchange.{after, run, start}
+use Rattle.papaya_words_law.specs.Hints.{IsHint, IsHintOf}
+use Rattle.papaya_words_law.specs.View.{IsNextPlace, IsReached, View}
+use Rattle.papaya_words_law.proofs.Moments.{allowed_append, run-append}
 use Rattle.papaya_call_law.specs.Told.{word_of}
-use Rattle.papaya_store.specs.declared.mode.Mode.{Mode}
-use Rattle.papaya_store.specs.Store.{StoreState, Stored}
-use Rattle.papaya_store.specs.Tables.{hint_at, table_of, word_at}
-use Rattle.papaya_law.specs.ChainContent.{joined}
-use Rattle.papaya_timeline.specs.Content.{content, pairs_from, pairs_of_slots}
-use Rattle.papaya_timeline.specs.Kept.{IsKept, coding_of, low, setting_of}
+use Rattle.papaya_core_store.specs.declared.store.Mode.{Mode}
+use Rattle.papaya_core_store.specs.Store.{StoreState, Stored}
+use Rattle.papaya_core_store.specs.Tables.{hint_at, table_of, word_at}
+use Rattle.papaya_words_law.specs.ChainContent.{joined}
+use Rattle.papaya_core_timeline.specs.Content.{content, pairs_from, pairs_of_slots}
+use Rattle.papaya_core_timeline.specs.Kept.{IsKept, coding_of, low, setting_of}
 use Rattle.papaya_seq.specs.Map.{IsLawfulMap}
 use Rattle.papaya_seq.proofs.RetainLists.{slots_same}
 

@@ -7,17 +7,17 @@ use Rattle.std.specs.Prelude.{MatchBool, pos}
 use Rattle.papaya_words.specs.Counter.{added}
 use Rattle.papaya_words.specs.Word.{hint_of, live_word, pair_of as number_of}
 use Rattle.papaya_words.specs.declared.limits.TheConstants.{MAX_LOG_LEN}
-use Rattle.papaya_ask.specs.declared.ask.Answer.{Answer}
-use Rattle.papaya_ask.specs.declared.call.Reply.TheVariants.{Inserted, Replaced}
+use Rattle.papaya_call.specs.declared.ask.Answer.{Answer}
+use Rattle.papaya_call.specs.declared.call.Reply.TheVariants.{Inserted, Replaced}
 use Rattle.papaya_call.specs.declared.write.Write.{Write}
-use Rattle.papaya_store.specs.declared.pairs.Pair.{Pair}
-use Rattle.papaya_store.specs.declared.pairs.Pair.TheVariants as pairs
-use Rattle.papaya_store.specs.declared.pairs.Part.{Part}
-use Rattle.papaya_store.specs.declared.pairs.Part.TheVariants.{Own, Logged}
-use Rattle.papaya_store.specs.Pairs.{key_from, pair_with}
-use Rattle.papaya_store.specs.Performs.{Exchanges, IsLogged}
-use Rattle.papaya_store.specs.Store.{StoreState}
-use Rattle.papaya_store.specs.Tables.{note, put, word_at}
+use Rattle.papaya_core_store.specs.declared.pairs.Pair.{Pair}
+use Rattle.papaya_core_store.specs.declared.pairs.Pair.TheVariants as pairs
+use Rattle.papaya_core_store.specs.declared.pairs.Part.{Part}
+use Rattle.papaya_core_store.specs.declared.pairs.Part.TheVariants.{Own, Logged}
+use Rattle.papaya_core_store.specs.Pairs.{key_from, pair_with}
+use Rattle.papaya_core_store.specs.Performs.{Exchanges, IsLogged}
+use Rattle.papaya_core_store.specs.Store.{StoreState}
+use Rattle.papaya_core_store.specs.Tables.{note, put, word_at}
 use Rattle.papaya_seq.specs.Writes.{IsKeyFor, IsStored, IsWritten, slot_of, storing}
 use Rattle.papaya_seq.proofs.Exchanging.{exchange_done}
 

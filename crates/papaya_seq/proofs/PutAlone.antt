@@ -1,8 +1,8 @@
 -- Entries that were put into a map one after the other, one entry on.
 use Rattle.std.proofs.Common.{◌≡◌, ℕ, ◌≤◌, Bool, List, [], ◌∷◌, ◌++◌, Result, Ok, Err, OnOk, map, inl, inr, refl, sym, ap, subst}
 use Rattle.std.specs.List.{AllZip}
-use Rattle.papaya_words.specs.declared.probe.Refused.{Refused}
-use Rattle.papaya_ask.specs.declared.call.Call.TheVariants.{Insert, Reserve}
+use Rattle.papaya_words.specs.declared.refused.Refused.{Refused}
+use Rattle.papaya_call.specs.declared.call.Call.TheVariants.{Insert, Reserve}
 use Rattle.papaya_seq.specs.Clones.{Clones}
 use Rattle.papaya_seq.specs.MadeAlone.{IsDoneAlone}
 use Rattle.papaya_seq.specs.Map.{MapState}

@@ -14,24 +14,24 @@ use Rattle.std.specs.List.{All}
 use Rattle.std.proofs.lemmas.List.Elements.{All-nil}
 use Rattle.papaya_words.specs.Counter.{Count}
 use Rattle.papaya_words.specs.Mode.{IsChunked}
-use Rattle.papaya_store.specs.declared.mode.Mode.{Mode}
+use Rattle.papaya_core_store.specs.declared.store.Mode.{Mode}
 use Rattle.papaya_words.specs.Probe.{IsEntriesFor}
-use Rattle.papaya_keys.specs.Sizes.{IsSizeRefusal, IsTooMuch}
-use Rattle.papaya_store.specs.New.{HasCapacity}
-use Rattle.papaya_store.specs.Tables.{Tables}
+use Rattle.papaya_words_keys.specs.Sizes.{IsSizeRefusal, IsTooMuch}
+use Rattle.papaya_core_store.specs.New.{HasCapacity}
+use Rattle.papaya_core_store.specs.Tables.{Tables}
 use Rattle.papaya_seq.specs.Lengths.{IsAskedFor, IsLongEnough, lengths_of}
 use Rattle.papaya_seq.proofs.TableLengths.{new_long}
 use Rattle.papaya_words.specs.declared.limits.TheConstants.{DEFAULT_CHUNK, MAX_SHARDS}
-use Rattle.papaya_words.specs.declared.probe.Refused.{Refused}
-use Rattle.papaya_words.specs.declared.probe.Refused.TheVariants.{Memory, Capacity, Limit}
-use Rattle.papaya_words.specs.declared.probe.ResizeMode.{ResizeMode}
-use Rattle.papaya_words.specs.declared.probe.ResizeMode.TheVariants.{Blocking, Incremental}
-use Rattle.papaya_law.specs.Content.{AreApart, lookup}
-use Rattle.papaya_timeline.specs.Content.{content, map_in}
-use Rattle.papaya_timeline.specs.Core.{unlimited}
-use Rattle.papaya_timeline.specs.New.{IsNew}
-use Rattle.papaya_store.specs.Store.{StoreState, Stored, pair_of}
-use Rattle.papaya_store.proofs.Logs.{pair_below}
+use Rattle.papaya_words.specs.declared.refused.Refused.{Refused}
+use Rattle.papaya_words.specs.declared.refused.Refused.TheVariants.{Memory, Capacity, Limit}
+use Rattle.papaya_words.specs.declared.resize_mode.ResizeMode.{ResizeMode}
+use Rattle.papaya_words.specs.declared.resize_mode.ResizeMode.TheVariants.{Blocking, Incremental}
+use Rattle.papaya_words_law.specs.Content.{AreApart, lookup}
+use Rattle.papaya_core_timeline.specs.Content.{content, map_in}
+use Rattle.papaya_core_timeline.specs.Core.{unlimited}
+use Rattle.papaya_core_timeline.specs.New.{IsNew}
+use Rattle.papaya_core_store.specs.Store.{StoreState, Stored, pair_of}
+use Rattle.papaya_core_store.proofs.Logs.{pair_below}
 use Rattle.papaya_seq.specs.Clones.{AreEqual, HasFreeParts, HasParts, IsCloneRefusal, IsCloned, IsCopied, IsCopyCut, IsRebuildRefusal, IsRebuilt}
 use Rattle.papaya_seq.specs.Map.{Keeps, MapState, Unchanged, core_of, entry_of}
 use Rattle.papaya_seq.specs.Resizes.{IsReserveCause}

@@ -4,37 +4,37 @@ use denote.Ref.{Bor}
 use Rattle.std.specs.Fn.{Mut}
 use Rattle.papaya_words.specs.Counter.{count_of}
 use Rattle.papaya_words.specs.Table.{TableWords, length_after}
-use Rattle.papaya_words.specs.declared.probe.Refused.{Refused}
-use Rattle.papaya_ask.specs.declared.ask.Ask.{Ask as Call_ask}
-use Rattle.papaya_ask.specs.declared.ask.Ask.TheVariants.{Load, Exchange, LoadHint, SameKey}
-use Rattle.papaya_ask.specs.declared.ask.Ask.TheVariants.{ShowPair, SizeOf, AddToShard, MakeKey}
-use Rattle.papaya_ask.specs.declared.ask.Ask.TheVariants.{MakeValue, MakePair, MakePairOf}
-use Rattle.papaya_ask.specs.declared.ask.Ask.TheVariants.{MakeTable as Make_own, ShowNone}
-use Rattle.papaya_ask.specs.declared.ask.Answer.{Answer as Call_answer}
-use Rattle.papaya_ask.specs.declared.ask.Answer.TheVariants.{Size, Refused as Was_refused}
-use Rattle.papaya_ask.specs.declared.ask.At.{At}
-use Rattle.papaya_ask.specs.declared.ask.At.TheVariants.{Root, Next, Aborted, Done, Slot, Made}
-use Rattle.papaya_ask.specs.declared.call.Task.TheVariants.{RemoveIf}
-use Rattle.papaya_ask.specs.declared.copy_ask.CopyAsk.{CopyAsk}
-use Rattle.papaya_ask.specs.declared.copy_ask.CopyAsk.TheVariants as copies
+use Rattle.papaya_words.specs.declared.refused.Refused.{Refused}
+use Rattle.papaya_call.specs.declared.ask.Ask.{Ask as Call_ask}
+use Rattle.papaya_call.specs.declared.ask.Ask.TheVariants.{Load, Exchange, LoadHint, SameKey}
+use Rattle.papaya_call.specs.declared.ask.Ask.TheVariants.{ShowPair, SizeOf, AddToShard, MakeKey}
+use Rattle.papaya_call.specs.declared.ask.Ask.TheVariants.{MakeValue, MakePair, MakePairOf}
+use Rattle.papaya_call.specs.declared.ask.Ask.TheVariants.{MakeTable as Make_own, ShowNone}
+use Rattle.papaya_call.specs.declared.ask.Answer.{Answer as Call_answer}
+use Rattle.papaya_call.specs.declared.ask.Answer.TheVariants.{Size, Refused as Was_refused}
+use Rattle.papaya_call.specs.declared.ask.At.{At}
+use Rattle.papaya_call.specs.declared.ask.At.TheVariants.{Root, Next, Aborted, Done, Slot, Made}
+use Rattle.papaya_call.specs.declared.call.Task.TheVariants.{RemoveIf}
+use Rattle.papaya_call.specs.declared.copy_ask.CopyAsk.{CopyAsk}
+use Rattle.papaya_call.specs.declared.copy_ask.CopyAsk.TheVariants as copies
 use Rattle.papaya_call.specs.Machine as calls
-use Rattle.papaya_copy.specs.declared.link.Link.TheVariants as links
-use Rattle.papaya_chain.specs.declared.ask.Ask.{Ask}
-use Rattle.papaya_chain.specs.declared.ask.Ask.TheVariants as asks
-use Rattle.papaya_chain.specs.declared.ask.Answer.{Answer}
-use Rattle.papaya_chain.specs.declared.ask.Answer.TheVariants as answers
-use Rattle.papaya_chain.specs.declared.machine.Machine.{Machine}
-use Rattle.papaya_chain.specs.Machine.{after, ask_of, asks_in, started}
-use Rattle.papaya_chain_law.specs.Goes.{IsCause, IsToMake, WasNotMade, WouldBeTooLong, link_in}
-use Rattle.papaya_chain_law.proofs.LinkStates.{In}
+use Rattle.papaya_call.specs.declared.copy.link.Link.TheVariants as links
+use Rattle.papaya_call.specs.declared.chain.ask.Ask.{Ask}
+use Rattle.papaya_call.specs.declared.chain.ask.Ask.TheVariants as asks
+use Rattle.papaya_call.specs.declared.chain.ask.Answer.{Answer}
+use Rattle.papaya_call.specs.declared.chain.ask.Answer.TheVariants as answers
+use Rattle.papaya_call.specs.declared.chain.machine.Machine.{Machine}
+use Rattle.papaya_call.specs.ChainMachine.{after, ask_of, asks_in, started}
+use Rattle.papaya_call_law.specs.Goes.{IsCause, IsToMake, WasNotMade, WouldBeTooLong, link_in}
+use Rattle.papaya_call_law.proofs.LinkStates.{In}
 use Rattle.papaya_call_law.specs.Relies.{IsNumberAsk}
-use Rattle.papaya_store.specs.Copies.{PerformsCopy}
-use Rattle.papaya_store.specs.Performs.{Exchanges, size_of}
-use Rattle.papaya_store.specs.Store.{StoreState}
-use Rattle.papaya_store.specs.Tables.{Tables, note, put, put_at, put_in, table_of, word_at}
-use Rattle.papaya_timeline.proofs.KeptHints.{noted-grown}
-use Rattle.papaya_timeline.proofs.KeptTables.{HasMoreTables, grown-same, made-grown, table_at, written-grown}
-use Rattle.papaya_timeline.proofs.StoreLemmas.{matched}
+use Rattle.papaya_core_store.specs.CopyAsks.{PerformsCopy}
+use Rattle.papaya_core_store.specs.Performs.{Exchanges, size_of}
+use Rattle.papaya_core_store.specs.Store.{StoreState}
+use Rattle.papaya_core_store.specs.Tables.{Tables, note, put, put_at, put_in, table_of, word_at}
+use Rattle.papaya_core_timeline.proofs.KeptHints.{noted-grown}
+use Rattle.papaya_core_timeline.proofs.KeptTables.{HasMoreTables, grown-same, made-grown, table_at, written-grown}
+use Rattle.papaya_core_timeline.proofs.StoreLemmas.{matched}
 use Rattle.papaya_seq.specs.Map.{MapState}
 use Rattle.papaya_seq.specs.Removes.{IsRemovalAnswer}
 use Rattle.papaya_seq.proofs.Causes.{HasSlots, IsNoTableRefusal, table_long, table_refused}

@@ -5,14 +5,14 @@ use Rattle.std.proofs.lemmas.Bool.{cases_Bool}
 use Rattle.std.specs.Cmp.{IsEquivalence}
 use Rattle.std.specs.Fn.{Mut}
 use Rattle.papaya_call_law.specs.Says.{Agrees, said_of_removal}
-use Rattle.papaya_words.specs.declared.probe.Refused.{Refused as Refused_words}
-use Rattle.papaya_ask.specs.declared.call.Reply.{Reply}
-use Rattle.papaya_ask.specs.declared.call.Reply.TheVariants.{Absent, Found, Inserted, Replaced, Occupied, Removed, Kept, Aborted, Done, Refused}
-use Rattle.papaya_timeline.specs.Content.{content, map_in}
-use Rattle.papaya_timeline.specs.Maps.{Does, IsUpdate}
-use Rattle.papaya_timeline.specs.Solo.{IsAnswered}
-use Rattle.papaya_store.specs.Store.{StoreState, Stored, pair_of}
-use Rattle.papaya_timeline.proofs.SoloTimeline.{lookup_alike}
+use Rattle.papaya_words.specs.declared.refused.Refused.{Refused as Refused_words}
+use Rattle.papaya_call.specs.declared.call.Reply.{Reply}
+use Rattle.papaya_call.specs.declared.call.Reply.TheVariants.{Absent, Found, Inserted, Replaced, Occupied, Removed, Kept, Aborted, Done, Refused}
+use Rattle.papaya_core_timeline.specs.Content.{content, map_in}
+use Rattle.papaya_core_timeline.specs.Maps.{Does, IsUpdate}
+use Rattle.papaya_core_timeline.specs.Solo.{IsAnswered}
+use Rattle.papaya_core_store.specs.Store.{StoreState, Stored, pair_of}
+use Rattle.papaya_core_timeline.proofs.SoloTimeline.{lookup_alike}
 use Rattle.papaya_seq.specs.Map.{Removes, Unchanged}
 use Rattle.papaya_seq.specs.Removes.{IsCalledFor, IsHeld, IsRemoval, Judges}
 use Rattle.papaya_seq.proofs.Lawful.{MatchesNone, logged_content, lookup_has_none, lookup_holds, none_held}

@@ -7,8 +7,8 @@ use Rattle.std.specs.Fn.{Mut}
 use Rattle.std.proofs.lemmas.Bool.{cond_both}
 use Rattle.papaya_words.specs.Table.{TableWords}
 use Rattle.papaya_words.specs.Word.{kind_of, pair_of as number_of}
-use Rattle.papaya_words.specs.declared.probe.ResizeMode.{ResizeMode}
-use Rattle.papaya_words.specs.declared.probe.ResizeMode.TheVariants.{Incremental, Blocking}
+use Rattle.papaya_words.specs.declared.resize_mode.ResizeMode.{ResizeMode}
+use Rattle.papaya_words.specs.declared.resize_mode.ResizeMode.TheVariants.{Incremental, Blocking}
 use Rattle.papaya_words.specs.declared.word.Kind.TheVariants as kinds
 use Rattle.papaya_call.specs.Machine.{ask_of as call_ask_of, goes_as, passes, removes}
 use Rattle.papaya_call.specs.Remove.{grave_word}
@@ -21,28 +21,28 @@ use Rattle.papaya_call.specs.declared.machine.State.TheVariants.{Counting, Notin
 use Rattle.papaya_call.specs.declared.machine.State.TheVariants.{Leaving, Growing, Ended}
 use Rattle.papaya_call.specs.declared.remove.Removal.{Removal}
 use Rattle.papaya_call.specs.declared.made.Made.{Made}
-use Rattle.papaya_ask.specs.Search.{hinted, look}
-use Rattle.papaya_ask.specs.declared.ask.Answer.{Answer as Call_answer}
-use Rattle.papaya_ask.specs.declared.ask.Answer.TheVariants.{Word as Word_read, Exchanged, Yes, Ok as Ok_done}
-use Rattle.papaya_ask.specs.declared.ask.At.TheVariants.{Next, Slot}
-use Rattle.papaya_ask.specs.declared.call.Reply.{Reply}
-use Rattle.papaya_ask.specs.declared.call.Reply.TheVariants.{Absent, Refused as Reply_refused}
-use Rattle.papaya_ask.specs.declared.call.Task.TheVariants.{RemoveIf}
-use Rattle.papaya_ask.specs.declared.search.Search.TheVariants.{Sizing, Looking, Reading, Comparing}
-use Rattle.papaya_ask.specs.declared.search.Probed.{Probed}
-use Rattle.papaya_ask.specs.declared.search.Probed.TheVariants as seen
-use Rattle.papaya_chain.specs.declared.ask.Answer.{Answer}
-use Rattle.papaya_chain.specs.declared.ask.Answer.TheVariants as answers
-use Rattle.papaya_chain.specs.declared.machine.Machine.{Machine}
-use Rattle.papaya_chain.specs.declared.machine.Phase.TheVariants.{Calling}
-use Rattle.papaya_chain.specs.Machine.{after, ask_of, asks_in, started}
+use Rattle.papaya_call.specs.Search.{hinted, look}
+use Rattle.papaya_call.specs.declared.ask.Answer.{Answer as Call_answer}
+use Rattle.papaya_call.specs.declared.ask.Answer.TheVariants.{Word as Word_read, Exchanged, Yes, Ok as Ok_done}
+use Rattle.papaya_call.specs.declared.ask.At.TheVariants.{Next, Slot}
+use Rattle.papaya_call.specs.declared.call.Reply.{Reply}
+use Rattle.papaya_call.specs.declared.call.Reply.TheVariants.{Absent, Refused as Reply_refused}
+use Rattle.papaya_call.specs.declared.call.Task.TheVariants.{RemoveIf}
+use Rattle.papaya_call.specs.declared.search.Search.TheVariants.{Sizing, Looking, Reading, Comparing}
+use Rattle.papaya_call.specs.declared.search.ProbeStep.{ProbeStep}
+use Rattle.papaya_call.specs.declared.search.ProbeStep.TheVariants as seen
+use Rattle.papaya_call.specs.declared.chain.ask.Answer.{Answer}
+use Rattle.papaya_call.specs.declared.chain.ask.Answer.TheVariants as answers
+use Rattle.papaya_call.specs.declared.chain.machine.Machine.{Machine}
+use Rattle.papaya_call.specs.declared.chain.machine.Phase.TheVariants.{Calling}
+use Rattle.papaya_call.specs.ChainMachine.{after, ask_of, asks_in, started}
 use Rattle.papaya_call_law.specs.Alone.{IsRead}
 use Rattle.papaya_call_law.proofs.AloneSteps.{exchange_done}
-use Rattle.papaya_store.specs.Performs.{size_of}
-use Rattle.papaya_store.specs.Store.{StoreState, Stored, pair_of}
-use Rattle.papaya_store.specs.Tables.{Tables, hint_at, put, put_in, table_of, word_at}
-use Rattle.papaya_timeline.proofs.CoreLemmas.{cases_same}
-use Rattle.papaya_timeline.proofs.KeptTables.{table_at, written-here, written-other, written-root}
+use Rattle.papaya_core_store.specs.Performs.{size_of}
+use Rattle.papaya_core_store.specs.Store.{StoreState, Stored, pair_of}
+use Rattle.papaya_core_store.specs.Tables.{Tables, hint_at, put, put_in, table_of, word_at}
+use Rattle.papaya_core_timeline.proofs.CoreLemmas.{cases_same}
+use Rattle.papaya_core_timeline.proofs.KeptTables.{table_at, written-here, written-other, written-root}
 use Rattle.papaya_seq.specs.Looks.{matches_in}
 use Rattle.papaya_seq.specs.Map.{next_in, next_of, slots_in, slots_of}
 use Rattle.papaya_seq.specs.Removes.{IsRemovalAnswer, IsShown}
@@ -126,7 +126,7 @@ passes_root root (Incremental chunk) fill t here = here
 passes_root root Blocking fill t here = tt
 
 -- where a search of it leads
-goes_root : (root : ℕ) (mode : ResizeMode) (held : Remembered) (sight : Probed) → IsSeenIn (λ word. IsSettledKind (kind_of word)) root sight
+goes_root : (root : ℕ) (mode : ResizeMode) (held : Remembered) (sight : ProbeStep) → IsSeenIn (λ word. IsSettledKind (kind_of word)) root sight
     → IsRootStage root (goes_as RemoveIf mode held sight)
 goes_root root mode held (seen.On search) is = is
 goes_root root mode held (seen.Empty at) is = tt

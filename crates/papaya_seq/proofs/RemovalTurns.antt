@@ -5,8 +5,8 @@ use Rattle.std.specs.Fn.{Called, Mut}
 use Rattle.std.proofs.lemmas.Bool.{cond_both}
 use Rattle.papaya_words.specs.Table.{TableWords}
 use Rattle.papaya_words.specs.Word.{kind_of, pair_of as number_of}
-use Rattle.papaya_words.specs.declared.probe.ResizeMode.{ResizeMode}
-use Rattle.papaya_words.specs.declared.probe.ResizeMode.TheVariants.{Incremental, Blocking}
+use Rattle.papaya_words.specs.declared.resize_mode.ResizeMode.{ResizeMode}
+use Rattle.papaya_words.specs.declared.resize_mode.ResizeMode.TheVariants.{Incremental, Blocking}
 use Rattle.papaya_words.specs.declared.word.Kind.{Kind}
 use Rattle.papaya_words.specs.declared.word.Kind.TheVariants as kinds
 use Rattle.papaya_call.specs.Machine.{IsStandingState, after as call_after, agreed, asks as call_asks, ask_of as call_ask_of, at_root, goes_as, left, passes, removes}
@@ -20,31 +20,31 @@ use Rattle.papaya_call.specs.declared.machine.State.TheVariants.{Counting, Notin
 use Rattle.papaya_call.specs.declared.machine.State.TheVariants.{Leaving, Growing, Ended}
 use Rattle.papaya_call.specs.declared.remove.Removal.{Removal}
 use Rattle.papaya_call.specs.declared.made.Made.{Made}
-use Rattle.papaya_ask.specs.Search.{at_yes as search_compared, hinted, look}
-use Rattle.papaya_ask.specs.declared.ask.Answer.{Answer as Call_answer}
-use Rattle.papaya_ask.specs.declared.ask.Answer.TheVariants.{Word as Word_read}
-use Rattle.papaya_ask.specs.declared.ask.Ask.TheVariants.{ShowPair}
-use Rattle.papaya_ask.specs.declared.ask.At.TheVariants.{Next, Root, Slot}
-use Rattle.papaya_ask.specs.declared.call.Reply.TheVariants.{Absent}
-use Rattle.papaya_ask.specs.declared.call.Task.{Task}
-use Rattle.papaya_ask.specs.declared.call.Task.TheVariants.{RemoveIf}
-use Rattle.papaya_ask.specs.declared.search.Search.TheVariants.{Sizing, Looking, Reading, Comparing}
-use Rattle.papaya_ask.specs.declared.search.Probed.{Probed}
-use Rattle.papaya_ask.specs.declared.search.Probed.TheVariants as seen
-use Rattle.papaya_chain.specs.declared.ask.Answer.{Answer}
-use Rattle.papaya_chain.specs.declared.ask.Answer.TheVariants as answers
-use Rattle.papaya_chain.specs.declared.machine.Machine.{Machine}
-use Rattle.papaya_chain.specs.declared.machine.Phase.{Phase}
-use Rattle.papaya_chain.specs.declared.machine.Phase.TheVariants.{Calling, Linking, Copying as Copying_root}
-use Rattle.papaya_chain.specs.Machine.{after, ask_of, asks_in}
-use Rattle.papaya_chain_law.specs.Goes.{Goes, IsOwnStep}
-use Rattle.papaya_chain_law.specs.Relies.{left_by}
+use Rattle.papaya_call.specs.Search.{at_yes as search_compared, hinted, look}
+use Rattle.papaya_call.specs.declared.ask.Answer.{Answer as Call_answer}
+use Rattle.papaya_call.specs.declared.ask.Answer.TheVariants.{Word as Word_read}
+use Rattle.papaya_call.specs.declared.ask.Ask.TheVariants.{ShowPair}
+use Rattle.papaya_call.specs.declared.ask.At.TheVariants.{Next, Root, Slot}
+use Rattle.papaya_call.specs.declared.call.Reply.TheVariants.{Absent}
+use Rattle.papaya_call.specs.declared.call.Task.{Task}
+use Rattle.papaya_call.specs.declared.call.Task.TheVariants.{RemoveIf}
+use Rattle.papaya_call.specs.declared.search.Search.TheVariants.{Sizing, Looking, Reading, Comparing}
+use Rattle.papaya_call.specs.declared.search.ProbeStep.{ProbeStep}
+use Rattle.papaya_call.specs.declared.search.ProbeStep.TheVariants as seen
+use Rattle.papaya_call.specs.declared.chain.ask.Answer.{Answer}
+use Rattle.papaya_call.specs.declared.chain.ask.Answer.TheVariants as answers
+use Rattle.papaya_call.specs.declared.chain.machine.Machine.{Machine}
+use Rattle.papaya_call.specs.declared.chain.machine.Phase.{Phase}
+use Rattle.papaya_call.specs.declared.chain.machine.Phase.TheVariants.{Calling, Linking, Copying as Copying_root}
+use Rattle.papaya_call.specs.ChainMachine.{after, ask_of, asks_in}
+use Rattle.papaya_call_law.specs.Goes.{Goes, IsOwnStep}
+use Rattle.papaya_call_law.specs.ChainRelies.{left_by}
 use Rattle.papaya_call_law.specs.Alone.{IsRead}
 use Rattle.papaya_call_law.specs.Says.{Said, Agrees, Inserts, Makes, Removes, said_in}
 use Rattle.papaya_call_law.proofs.AloneSteps.{exchange_done}
-use Rattle.papaya_store.specs.Performs.{size_of}
-use Rattle.papaya_store.specs.Store.{StoreState, Stored, pair_of}
-use Rattle.papaya_store.specs.Tables.{hint_at, table_of, word_at}
+use Rattle.papaya_core_store.specs.Performs.{size_of}
+use Rattle.papaya_core_store.specs.Store.{StoreState, Stored, pair_of}
+use Rattle.papaya_core_store.specs.Tables.{hint_at, table_of, word_at}
 use Rattle.papaya_seq.specs.Looks.{matches_in}
 use Rattle.papaya_seq.specs.Removes.{IsRemovalAnswer, IsShown, JudgesTo}
 use Rattle.papaya_seq.proofs.SeekTurns.{IsAnswered}
@@ -66,7 +66,7 @@ removes_unsaid kinds.Buried at word = refl
 removes_unsaid kinds.Closed at word = refl
 
 -- a search leads to such a state
-goes_unsaid : (mode : ResizeMode) (held : Remembered) (sight : Probed) → IsUnsaid (goes_as RemoveIf mode held sight)
+goes_unsaid : (mode : ResizeMode) (held : Remembered) (sight : ProbeStep) → IsUnsaid (goes_as RemoveIf mode held sight)
 goes_unsaid mode held (seen.On search) = refl
 goes_unsaid mode held (seen.Empty at) = refl
 goes_unsaid mode held (seen.Here at word) = removes_unsaid (kind_of word) at word

@@ -2,30 +2,30 @@
 use Rattle.std.proofs.Common.{Some, ◌≡◌, ⊎_elim, ◌⊎◌, inl, inr, ℕ, ◌^◌, ◌<◌, Bool, true, None, [], refl, sym, ◌∙◌, subst}
 use denote.Ref.{Bor}
 use Rattle.std.specs.Fn.{Mut}
-use Rattle.papaya_words.specs.declared.probe.Refused.{Refused}
-use Rattle.papaya_ask.specs.declared.ask.Ask.{Ask as Call_ask}
-use Rattle.papaya_ask.specs.declared.ask.Ask.TheVariants.{ShowPair, Done as Ask_done}
+use Rattle.papaya_words.specs.declared.refused.Refused.{Refused}
+use Rattle.papaya_call.specs.declared.ask.Ask.{Ask as Call_ask}
+use Rattle.papaya_call.specs.declared.ask.Ask.TheVariants.{ShowPair, Done as Ask_done}
 use Rattle.papaya_seq.specs.Removes.{IsRemovalAsk}
-use Rattle.papaya_ask.specs.declared.call.Reply.{Reply}
-use Rattle.papaya_ask.specs.declared.call.Reply.TheVariants.{Refused as Reply_refused}
-use Rattle.papaya_ask.specs.declared.call.Task.TheVariants.{RemoveIf}
-use Rattle.papaya_chain.specs.declared.ask.Answer.{Answer}
-use Rattle.papaya_chain.specs.declared.ask.Ask.TheVariants as asks
-use Rattle.papaya_chain.specs.declared.machine.Machine.{Machine}
-use Rattle.papaya_chain.specs.declared.machine.Phase.{Phase}
-use Rattle.papaya_chain.specs.declared.machine.Phase.TheVariants.{Calling, Linking, Copying as Copying_root}
-use Rattle.papaya_chain.specs.Machine.{IsFit, IsFitAsk, IsStanding, after, ask_of, asks_in, started}
+use Rattle.papaya_call.specs.declared.call.Reply.{Reply}
+use Rattle.papaya_call.specs.declared.call.Reply.TheVariants.{Refused as Reply_refused}
+use Rattle.papaya_call.specs.declared.call.Task.TheVariants.{RemoveIf}
+use Rattle.papaya_call.specs.declared.chain.ask.Answer.{Answer}
+use Rattle.papaya_call.specs.declared.chain.ask.Ask.TheVariants as asks
+use Rattle.papaya_call.specs.declared.chain.machine.Machine.{Machine}
+use Rattle.papaya_call.specs.declared.chain.machine.Phase.{Phase}
+use Rattle.papaya_call.specs.declared.chain.machine.Phase.TheVariants.{Calling, Linking, Copying as Copying_root}
+use Rattle.papaya_call.specs.ChainMachine.{IsFit, IsFitAsk, IsStanding, after, ask_of, asks_in, started}
 use Rattle.papaya_call.specs.Machine.{IsStandingState, ask_of as call_ask_of}
 use Rattle.papaya_call_law.specs.Relies.{IsNumberAsk}
-use Rattle.papaya_store.specs.Store.{StoreState}
-use Rattle.papaya_store.specs.Tables.{word_at}
-use Rattle.papaya_alone.specs.Ahead.{IsPhaseRead}
-use Rattle.papaya_timeline.specs.Advances.{reply_in}
-use Rattle.papaya_timeline.proofs.KeptLemmas.{IsLawfulKeys}
+use Rattle.papaya_core_store.specs.Store.{StoreState}
+use Rattle.papaya_core_store.specs.Tables.{word_at}
+use Rattle.papaya_call_alone.specs.Ahead.{IsPhaseRead}
+use Rattle.papaya_core_timeline.specs.Advances.{reply_in}
+use Rattle.papaya_core_timeline.proofs.KeptLemmas.{IsLawfulKeys}
 use Rattle.papaya_seq.specs.Map.{IsLawfulMap, MapState, next_of, slots_of}
 use Rattle.papaya_seq.proofs.Ending.{left_of}
 use Rattle.papaya_seq.proofs.Lawful.{IsMatched, MatchesNone, decided}
-use Rattle.papaya_chain_law.specs.Goes.{IsCause}
+use Rattle.papaya_call_law.specs.Goes.{IsCause}
 use Rattle.papaya_seq.proofs.Causes.{IsNoTableRefusal}
 use Rattle.papaya_seq.proofs.RemovalRefused.{IsCounting, cause_table, counting_begun, counting_more}
 use Rattle.papaya_seq.proofs.RemovalRoot.{IsInRoot, IsRootStage, in_root_begun, in_root_more}

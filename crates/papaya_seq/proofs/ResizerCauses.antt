@@ -5,35 +5,35 @@ use Rattle.std.proofs.Common.{eqb-true, leb-false}
 use Rattle.std.proofs.lemmas.Bool.{cond_both}
 use Rattle.papaya_words.specs.Counter.{count_of}
 use Rattle.papaya_words.specs.Table.{TableWords, length_after}
-use Rattle.papaya_words.specs.declared.probe.Refused.{Refused}
-use Rattle.papaya_words.specs.declared.probe.Refused.TheVariants.{Capacity}
-use Rattle.papaya_ask.specs.declared.ask.Answer.TheVariants.{Size, Refused as Was_refused}
-use Rattle.papaya_ask.specs.declared.ask.At.TheVariants.{Root, Next}
-use Rattle.papaya_ask.specs.declared.call.Reply.TheVariants.{Refused as Reply_refused}
-use Rattle.papaya_ask.specs.declared.copy_ask.CopyAsk.{CopyAsk}
-use Rattle.papaya_ask.specs.declared.copy_ask.CopyAsk.TheVariants as copies
-use Rattle.papaya_copy.specs.declared.link.Link.TheVariants as links
-use Rattle.papaya_copy.specs.Link.{link_ask}
-use Rattle.papaya_chain.specs.declared.ask.Answer.{Answer}
-use Rattle.papaya_chain.specs.declared.ask.Answer.TheVariants as answers
-use Rattle.papaya_chain.specs.declared.resizer.Resize.{Resize}
-use Rattle.papaya_chain.specs.declared.resizer.Resize.TheVariants as resizes
-use Rattle.papaya_chain.specs.declared.resizer.Resizer.{Resizer}
-use Rattle.papaya_chain.specs.declared.resizer.State.{State}
-use Rattle.papaya_chain.specs.declared.resizer.State.TheVariants as stages
-use Rattle.papaya_chain.specs.Resizer.{after, after_in, ask_of, asks_in, at_next, at_root, judges, makes, reply_in, reply_of}
-use Rattle.papaya_chain.specs.Room.{entries_of, room_of, room_of_len}
-use Rattle.papaya_chain.proofs.Room.{entries_are, has_room}
-use Rattle.papaya_chain_law.specs.Resizers.{HasLink, IsResizeCause, IsTooMuchRoom, WasNotMade, WouldBeTooLong}
-use Rattle.papaya_chain_law.proofs.CopyRefusals.{copying_asks}
-use Rattle.papaya_store.specs.Copies.{PerformsCopy}
-use Rattle.papaya_store.specs.Performs.{size_of}
-use Rattle.papaya_store.specs.Store.{StoreState}
-use Rattle.papaya_store.specs.Tables.{table_of, word_at}
-use Rattle.papaya_timeline.specs.Content.{content, pairs_from}
-use Rattle.papaya_timeline.proofs.CallersLemmas.{same_item}
-use Rattle.papaya_timeline.proofs.KeptTables.{HasMoreTables}
-use Rattle.papaya_timeline.proofs.SoloResizes.{counts}
+use Rattle.papaya_words.specs.declared.refused.Refused.{Refused}
+use Rattle.papaya_words.specs.declared.refused.Refused.TheVariants.{Capacity}
+use Rattle.papaya_call.specs.declared.ask.Answer.TheVariants.{Size, Refused as Was_refused}
+use Rattle.papaya_call.specs.declared.ask.At.TheVariants.{Root, Next}
+use Rattle.papaya_call.specs.declared.call.Reply.TheVariants.{Refused as Reply_refused}
+use Rattle.papaya_call.specs.declared.copy_ask.CopyAsk.{CopyAsk}
+use Rattle.papaya_call.specs.declared.copy_ask.CopyAsk.TheVariants as copies
+use Rattle.papaya_call.specs.declared.copy.link.Link.TheVariants as links
+use Rattle.papaya_call.specs.Link.{link_ask}
+use Rattle.papaya_call.specs.declared.chain.ask.Answer.{Answer}
+use Rattle.papaya_call.specs.declared.chain.ask.Answer.TheVariants as answers
+use Rattle.papaya_call.specs.declared.chain.resizer.Resize.{Resize}
+use Rattle.papaya_call.specs.declared.chain.resizer.Resize.TheVariants as resizes
+use Rattle.papaya_call.specs.declared.chain.resizer.Resizer.{Resizer}
+use Rattle.papaya_call.specs.declared.chain.resizer.ResizerState.{ResizerState}
+use Rattle.papaya_call.specs.declared.chain.resizer.ResizerState.TheVariants as stages
+use Rattle.papaya_call.specs.Resizer.{after, after_in, ask_of, asks_in, at_next, at_root, judges, makes, reply_in, reply_of}
+use Rattle.papaya_call.specs.TableSize.{entries_of, room_of, room_of_len}
+use Rattle.papaya_call.proofs.TableSizes.{entries_are, has_room}
+use Rattle.papaya_call_law.specs.Resizers.{HasLink, IsResizeCause, IsTooMuchRoom, WasNotMade, WouldBeTooLong}
+use Rattle.papaya_call_law.proofs.CopyRefusals.{copying_asks}
+use Rattle.papaya_core_store.specs.CopyAsks.{PerformsCopy}
+use Rattle.papaya_core_store.specs.Performs.{size_of}
+use Rattle.papaya_core_store.specs.Store.{StoreState}
+use Rattle.papaya_core_store.specs.Tables.{table_of, word_at}
+use Rattle.papaya_core_timeline.specs.Content.{content, pairs_from}
+use Rattle.papaya_core_timeline.proofs.CallersLemmas.{same_item}
+use Rattle.papaya_core_timeline.proofs.KeptTables.{HasMoreTables}
+use Rattle.papaya_core_timeline.proofs.SoloResizes.{counts}
 use Rattle.papaya_seq.specs.Map.{MapState, next_of, slots_in, slots_of}
 use Rattle.papaya_seq.specs.Resizes.{IsPastLimit, IsReserveCause, IsRoomThere}
 use Rattle.papaya_seq.proofs.Causes.{HasSlots, IsNoTableRefusal, table_long, table_refused}
@@ -52,14 +52,14 @@ rootless eq store none = ap (λ r. pairs_from eq store (length store.words.table
     ∙ no_pairs eq store (length store.words.tables)
 
 -- one that counts by the slots of a table asked for them
-sizing_asks : (stage : State) (behind copied : ℕ) (unfit : Bool) → HasLink stage (links.Sizing behind copied unfit)
+sizing_asks : (stage : ResizerState) (behind copied : ℕ) (unfit : Bool) → HasLink stage (links.Sizing behind copied unfit)
     → asks_in stage ≡ Some (copies.SizeOf behind)
 sizing_asks (stages.Linking link) behind copied unfit e = ap (λ y. Some (link_ask y)) e
 sizing_asks (stages.Copying from copying) behind copied unfit e = ap (λ y. Some y) (copying_asks copying (links.Sizing behind copied unfit) e)
 sizing_asks _ behind copied unfit e = absurd e
 
 -- what no room is for ends at the root, or when the pairs are counted
-abbrev pub IsEarly : State → Type 0
+abbrev pub IsEarly : ResizerState → Type 0
 IsEarly stages.AtRoot = Unit {0}
 IsEarly (stages.Sizing root) = Unit {0}
 IsEarly (stages.Counting root len) = Unit {0}
@@ -67,7 +67,7 @@ IsEarly (stages.Refused refused) = refused ≡ Capacity
 IsEarly _ = ⊥
 
 -- where there is room for so many pairs, it ends when they are counted
-abbrev pub IsIdle : (root slots : ℕ) → State → Type 0
+abbrev pub IsIdle : (root slots : ℕ) → ResizerState → Type 0
 IsIdle root slots stages.AtRoot = Unit {0}
 IsIdle root slots (stages.Sizing t) = t ≡ root
 IsIdle root slots (stages.Counting t len) = len ≡ slots
@@ -75,7 +75,7 @@ IsIdle root slots stages.Done = Unit {0}
 IsIdle root slots _ = ⊥
 
 -- where no pairs are being moved, the end of a resize looks for the table after the root alone
-abbrev pub IsCalm : (root : ℕ) → State → Type 0
+abbrev pub IsCalm : (root : ℕ) → ResizerState → Type 0
 IsCalm root stages.AtRoot = Unit {0}
 IsCalm root (stages.Looking t len None) = t ≡ root
 IsCalm root stages.Done = Unit {0}
@@ -206,7 +206,7 @@ module _ {K V S : Type 0} (eq : K → K → Bool) (hash : S → K → ℕ) (s : 
     early_sized more root None = tt
     early_sized more root (Some table) = tt
 
-    early_stage : (more : ℕ) → room_of (length (content eq s.store) + more) ≡ None → (stage : State) → z.state ≡ stage → store ≡ s.store
+    early_stage : (more : ℕ) → room_of (length (content eq s.store) + more) ≡ None → (stage : ResizerState) → z.state ≡ stage → store ≡ s.store
         → IsEarly stage → (store' ≡ s.store) × IsEarly (after_in (resizes.Reserve more) z.mode z.initial z.number answer stage)
     early_stage more none stages.AtRoot at same h =
         let (is, stays) = performs_at (copies.Load Root) (ap asks_in at) in (
@@ -262,7 +262,7 @@ module _ {K V S : Type 0} (eq : K → K → Bool) (hash : S → K → ℕ) (s : 
         (cond_both (nat_le room.len len) stages.Done (stages.Looking root len (Some room)) (IsIdle s.store.words.root (slots_of s.store)) (λ _. tt)
         (λ short. let more : len < max (entries_of pairs) 8 = leb-false room.len len short in absurd (omega (arith, more, here, enough, least))))
 
-    idle_stage : 8 ≤ slots_of s.store → (more : ℕ) → entries_of (length (content eq s.store) + more) ≤ slots_of s.store → (stage : State)
+    idle_stage : 8 ≤ slots_of s.store → (more : ℕ) → entries_of (length (content eq s.store) + more) ≤ slots_of s.store → (stage : ResizerState)
         → z.state ≡ stage → store ≡ s.store → IsIdle s.store.words.root (slots_of s.store) stage → (store' ≡ s.store)
         × IsIdle s.store.words.root (slots_of s.store) (after_in (resizes.Reserve more) z.mode z.initial z.number answer stage)
     idle_stage least more enough stages.AtRoot at same h =
@@ -304,7 +304,7 @@ module _ {K V S : Type 0} (eq : K → K → Bool) (hash : S → K → ℕ) (s : 
     next_idle _ is there h = absurd there
 
     -- and where no pairs are being moved, the end of a resize does nothing
-    calm_stage : next_of s.store ≡ 0 → (stage : State) → z.state ≡ stage → store ≡ s.store → IsCalm s.store.words.root stage → (store' ≡ s.store)
+    calm_stage : next_of s.store ≡ 0 → (stage : ResizerState) → z.state ≡ stage → store ≡ s.store → IsCalm s.store.words.root stage → (store' ≡ s.store)
         × IsCalm s.store.words.root (after_in resizes.CopyAll z.mode z.initial z.number answer stage)
     calm_stage last stages.AtRoot at same h =
         let (is, stays) = performs_at (copies.Load Root) (ap asks_in at) in (

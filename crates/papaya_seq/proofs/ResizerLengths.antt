@@ -6,40 +6,40 @@ use Rattle.std.proofs.lemmas.Bool.{cases_lt, cond_both, eqb-true, leb-false}
 use Rattle.std.proofs.lemmas.List.Elements.{All-append, All-cons, All-contains, All-nil, Contains-append_left}
 use Rattle.std.specs.List.{All, Contains}
 use Rattle.papaya_words.specs.declared.limits.TheConstants.{LEAST_TABLE_LEN}
-use Rattle.papaya_words.specs.declared.probe.ResizeMode.{ResizeMode}
-use Rattle.papaya_ask.specs.declared.ask.Answer.{Answer as Call_answer}
-use Rattle.papaya_ask.specs.declared.ask.Answer.TheVariants as told
-use Rattle.papaya_ask.specs.declared.ask.At.TheVariants.{Root}
-use Rattle.papaya_ask.specs.declared.copy_ask.CopyAsk.{CopyAsk}
-use Rattle.papaya_ask.specs.declared.copy_ask.CopyAsk.TheVariants as copies
-use Rattle.papaya_copy.specs.declared.copying.Copied.{Copied}
-use Rattle.papaya_copy.specs.declared.copying.Copied.TheVariants as copied_to
-use Rattle.papaya_copy.specs.declared.link.Link.{Link}
-use Rattle.papaya_copy.specs.declared.link.Linked.{Linked}
-use Rattle.papaya_copy.specs.declared.link.Linked.TheVariants as linked_to
-use Rattle.papaya_copy.specs.Link.{follows, link_ask}
-use Rattle.papaya_copy.specs.Copying.{copying_ask}
-use Rattle.papaya_chain.specs.declared.ask.Answer.{Answer}
-use Rattle.papaya_chain.specs.declared.ask.Answer.TheVariants as answers
-use Rattle.papaya_chain.specs.declared.resizer.Resize.{Resize}
-use Rattle.papaya_chain.specs.declared.resizer.Resize.TheVariants as resizes
-use Rattle.papaya_chain.specs.declared.resizer.Resizer.{Resizer}
-use Rattle.papaya_chain.specs.declared.resizer.Room.{Room}
-use Rattle.papaya_chain.specs.declared.resizer.State.{State}
-use Rattle.papaya_chain.specs.declared.resizer.State.TheVariants as stages
-use Rattle.papaya_chain.specs.Machine as machine
-use Rattle.papaya_chain.specs.Resizer.{after, after_in, ask_of, asks_in, at_count, at_last, at_next}
-use Rattle.papaya_chain.specs.Resizer.{at_root, called, copied, copies as copies_root, counted}
-use Rattle.papaya_chain.specs.Resizer.{judges, linked, makes, over, told_root}
-use Rattle.papaya_chain.specs.Room.{entries_of, room_of, room_of_len}
+use Rattle.papaya_words.specs.declared.resize_mode.ResizeMode.{ResizeMode}
+use Rattle.papaya_call.specs.declared.ask.Answer.{Answer as Call_answer}
+use Rattle.papaya_call.specs.declared.ask.Answer.TheVariants as told
+use Rattle.papaya_call.specs.declared.ask.At.TheVariants.{Root}
+use Rattle.papaya_call.specs.declared.copy_ask.CopyAsk.{CopyAsk}
+use Rattle.papaya_call.specs.declared.copy_ask.CopyAsk.TheVariants as copies
+use Rattle.papaya_call.specs.declared.copy.copying.Copied.{Copied}
+use Rattle.papaya_call.specs.declared.copy.copying.Copied.TheVariants as copied_to
+use Rattle.papaya_call.specs.declared.copy.link.Link.{Link}
+use Rattle.papaya_call.specs.declared.copy.link.Linked.{Linked}
+use Rattle.papaya_call.specs.declared.copy.link.Linked.TheVariants as linked_to
+use Rattle.papaya_call.specs.Link.{follows, link_ask}
+use Rattle.papaya_call.specs.Copying.{copying_ask}
+use Rattle.papaya_call.specs.declared.chain.ask.Answer.{Answer}
+use Rattle.papaya_call.specs.declared.chain.ask.Answer.TheVariants as answers
+use Rattle.papaya_call.specs.declared.chain.resizer.Resize.{Resize}
+use Rattle.papaya_call.specs.declared.chain.resizer.Resize.TheVariants as resizes
+use Rattle.papaya_call.specs.declared.chain.resizer.Resizer.{Resizer}
+use Rattle.papaya_call.specs.declared.chain.resizer.TableSize.{TableSize}
+use Rattle.papaya_call.specs.declared.chain.resizer.ResizerState.{ResizerState}
+use Rattle.papaya_call.specs.declared.chain.resizer.ResizerState.TheVariants as stages
+use Rattle.papaya_call.specs.ChainMachine as machine
+use Rattle.papaya_call.specs.Resizer.{after, after_in, ask_of, asks_in, at_count, at_last, at_next}
+use Rattle.papaya_call.specs.Resizer.{at_root, called, copied, copies as copies_root, counted}
+use Rattle.papaya_call.specs.Resizer.{judges, linked, makes, over, told_root}
+use Rattle.papaya_call.specs.TableSize.{entries_of, room_of, room_of_len}
 use Rattle.papaya_call_law.specs.Copier.{link_in_copying}
-use Rattle.papaya_chain_law.proofs.CopyRefusals.{copying_asks}
-use Rattle.papaya_chain_law.proofs.LinkStates.{In, Linked_in}
-use Rattle.papaya_store.specs.Copies.{PerformsCopy}
-use Rattle.papaya_store.specs.Performs.{size_of}
-use Rattle.papaya_store.specs.Store.{StoreState}
-use Rattle.papaya_store.specs.Tables.{table_of}
-use Rattle.papaya_timeline.proofs.CallersLemmas.{same_item}
+use Rattle.papaya_call_law.proofs.CopyRefusals.{copying_asks}
+use Rattle.papaya_call_law.proofs.LinkStates.{In, Linked_in}
+use Rattle.papaya_core_store.specs.CopyAsks.{PerformsCopy}
+use Rattle.papaya_core_store.specs.Performs.{size_of}
+use Rattle.papaya_core_store.specs.Store.{StoreState}
+use Rattle.papaya_core_store.specs.Tables.{table_of}
+use Rattle.papaya_core_timeline.proofs.CallersLemmas.{same_item}
 use Rattle.papaya_seq.specs.Lengths.{IsLongEnough, lengths_of}
 use Rattle.papaya_seq.specs.Map.{MapState}
 use Rattle.papaya_seq.proofs.CallLengths.{table_length}
@@ -49,7 +49,7 @@ use Rattle.papaya_seq.proofs.Sizes.{sized_as}
 use Rattle.papaya_seq.proofs.TableLengths.{IsLengthened, copy_long}
 
 -- the making that is under way, if one is
-abbrev pub stage_link : State → Option Link
+abbrev pub stage_link : ResizerState → Option Link
 stage_link (stages.Linking link) = Some link
 stage_link (stages.Copying from copying) = link_in_copying copying
 stage_link _ = None
@@ -59,7 +59,7 @@ module _ (initial : ℕ) where
   abbrev pub IsEnough : ℕ → Type 0
   IsEnough len = initial ≤ len
 
-  abbrev pub IsRoomy : Option Room → Type 0
+  abbrev pub IsRoomy : Option TableSize → Type 0
   IsRoomy None = Unit {0}
   IsRoomy (Some room) = initial ≤ room.len
 
@@ -70,7 +70,7 @@ module _ (initial : ℕ) where
 
   module _ (lengths : List ℕ) where
     -- what a resizer goes by
-    abbrev pub IsLongStage : State → Type 0
+    abbrev pub IsLongStage : ResizerState → Type 0
     IsLongStage (stages.Making room) = initial ≤ room.len
     IsLongStage (stages.Counting root len) = initial ≤ len
     IsLongStage (stages.Looking root len room) = IsRoomy room
@@ -79,7 +79,7 @@ module _ (initial : ℕ) where
     IsLongStage _ = Unit {0}
 
     -- a table that it asks for is long enough
-    pub stage_good : (stage : State) (slots limit chunks : ℕ) → asks_in stage ≡ Some (copies.MakeTable slots limit chunks) → IsLongStage stage → initial ≤ slots
+    pub stage_good : (stage : ResizerState) (slots limit chunks : ℕ) → asks_in stage ≡ Some (copies.MakeTable slots limit chunks) → IsLongStage stage → initial ≤ slots
     stage_good (stages.Making room) slots limit chunks e h = let same : room.len
         ≡ slots = (let f : copies.MakeTable room.len room.limit 0 ≡ copies.MakeTable slots limit chunks = cc e in cc f) in subst (λ n. initial ≤ n) same h
     stage_good (stages.Linking made) slots limit chunks e h = link_good IsEnough lengths made slots limit chunks
@@ -89,7 +89,7 @@ module _ (initial : ℕ) where
     stage_good other slots limit chunks e h = absurd cc
 
     -- where it goes on while nothing is linked or copied
-    makes_long : (room : Option Room) → IsRoomy room → IsLongStage (makes room)
+    makes_long : (room : Option TableSize) → IsRoomy room → IsLongStage (makes room)
     makes_long None h = tt
     makes_long (Some room) h = h
 
@@ -99,7 +99,7 @@ module _ (initial : ℕ) where
     root_long resizes.Chunk root first = cond_both (root == 0) stages.Done (stages.Looking root 0 None) IsLongStage (λ _. tt) (λ _. tt)
     root_long resizes.CopyAll root first = cond_both (root == 0) stages.Done (stages.Looking root 0 None) IsLongStage (λ _. tt) (λ _. tt)
 
-    judges_long : (root len : ℕ) (room : Option Room) → initial ≤ len → IsLongStage (judges root len room)
+    judges_long : (root len : ℕ) (room : Option TableSize) → initial ≤ len → IsLongStage (judges root len room)
     judges_long root len None h = tt
     judges_long root len (Some room) h = cond_both (nat_le room.len len) stages.Done (stages.Looking root len (Some room)) IsLongStage (λ _. tt)
         (λ e. let more = leb-false room.len len e in omega (arith, more, h))
@@ -109,15 +109,15 @@ module _ (initial : ℕ) where
     count_long resizes.Chunk root len count h = tt
     count_long resizes.CopyAll root len count h = tt
 
-    last_long : (mode : ResizeMode) (root len : ℕ) (room : Option Room) → IsRoomy room → IsLongStage (at_last mode root len room)
+    last_long : (mode : ResizeMode) (root len : ℕ) (room : Option TableSize) → IsRoomy room → IsLongStage (at_last mode root len room)
     last_long mode root len None h = tt
     last_long mode root len (Some room) h = h
 
-    next_long : (mode : ResizeMode) (root len : ℕ) (room : Option Room) (next : ℕ) → IsRoomy room → IsLongStage (at_next mode root len room next)
+    next_long : (mode : ResizeMode) (root len : ℕ) (room : Option TableSize) (next : ℕ) → IsRoomy room → IsLongStage (at_next mode root len room next)
     next_long mode root len room next h = cond_both (next == 0) (at_last mode root len room) (copies_root root) IsLongStage
         (λ _. last_long mode root len room h) (λ _. tt)
 
-    module _ (resize : Resize) (mode : ResizeMode) (answer : Answer) (stage : State) where
+    module _ (resize : Resize) (mode : ResizeMode) (answer : Answer) (stage : ResizerState) where
       -- what is so of the answer: a root that it has not loaded is wanted to be none where the least table is long enough, and sizes and counts are those of the map
       pub record IsToldSo : Type 0 where
         pub root : (root : ℕ) → answer ≡ answers.Call (told.Word root) → stage ≡ stages.AtRoot → root ≡ 0 → initial ≤ 8
@@ -125,7 +125,7 @@ module _ (initial : ℕ) where
         pub sizes : (made : Link) → stage_link stage ≡ Some made → Sizes IsEnough lengths mode initial answer made
         pub counts : (made : Link) → stage_link stage ≡ Some made → Counts IsEnough lengths mode initial answer made
 
-    told_long : (resize : Resize) (mode : ResizeMode) (stage : State) (a : Call_answer) → IsToldSo resize mode (answers.Call a) stage
+    told_long : (resize : Resize) (mode : ResizeMode) (stage : ResizerState) (a : Call_answer) → IsToldSo resize mode (answers.Call a) stage
         → IsLongStage stage → IsLongStage (told_root resize mode stage a)
     told_long resize mode stages.AtRoot (told.Word root) so h = root_long resize root (so.root root refl refl)
     told_long resize mode (stages.Making room) (told.Made table) so h = tt
@@ -136,11 +136,11 @@ module _ (initial : ℕ) where
     told_long resize mode (stages.Looking root len room) (told.Word next) so h = next_long mode root len room next h
     told_long resize mode stage a so h = h
 
-    counted_long : (resize : Resize) (stage : State) (count : ℕ) → IsLongStage stage → IsLongStage (counted resize stage count)
+    counted_long : (resize : Resize) (stage : ResizerState) (count : ℕ) → IsLongStage stage → IsLongStage (counted resize stage count)
     counted_long resize (stages.Counting root len) count h = count_long resize root len count h
     counted_long resize stage count h = h
 
-    called_long : (resize : Resize) (mode : ResizeMode) (stage : State) (a : Answer) → IsToldSo resize mode a stage → IsLongStage stage
+    called_long : (resize : Resize) (mode : ResizeMode) (stage : ResizerState) (a : Answer) → IsToldSo resize mode a stage → IsLongStage stage
         → IsLongStage (called resize mode stage a)
     called_long resize mode stage (answers.Call a) so h = told_long resize mode stage a so h
     called_long resize mode stage (answers.Count count) so h = counted_long resize stage count h
@@ -169,7 +169,7 @@ module _ (initial : ℕ) where
     copied_long resize mode from answer o (copied_to.Root root) led sizes counts h = over_long resize
     copied_long resize mode from answer o copied_to.Chunk led sizes counts h = over_long resize
 
-    pub stage_long : (resize : Resize) (mode : ResizeMode) (number : ℕ) (answer : Answer) (stage : State) → IsToldSo resize mode answer stage
+    pub stage_long : (resize : Resize) (mode : ResizeMode) (number : ℕ) (answer : Answer) (stage : ResizerState) → IsToldSo resize mode answer stage
         → IsLongStage stage → IsLongStage (after_in resize mode initial number answer stage)
     stage_long resize mode number answer (stages.Linking link) so h = linked_long (follows link) (machine.link_after link mode initial answer)
         (after_long IsEnough lengths mode initial link answer (so.sizes link refl) (so.counts link refl) h)
@@ -185,7 +185,7 @@ module _ (initial : ℕ) where
     stage_long resize mode number answer (stages.Refused refused) so h = called_long resize mode (stages.Refused refused) answer so h
 
 -- what a resizer asks that makes a table
-stage_asks : (stage : State) (made : Link) → stage_link stage ≡ Some made → asks_in stage ≡ Some (link_ask made)
+stage_asks : (stage : ResizerState) (made : Link) → stage_link stage ≡ Some made → asks_in stage ≡ Some (link_ask made)
 stage_asks (stages.Linking link) made e = ap (option_map link_ask) e
 stage_asks (stages.Copying from goes) made e = ap (λ x. Some x) (copying_asks goes made e)
 stage_asks other made e = absurd cc
@@ -258,7 +258,7 @@ module _ {K V S : Type 0} (s : MapState K V S) where
         lengthened
 
     -- what it goes by stays
-    stage_beside : (stage : State) → IsLongStage s.initial lengths stage → IsLongStage s.initial lengths' stage
+    stage_beside : (stage : ResizerState) → IsLongStage s.initial lengths stage → IsLongStage s.initial lengths' stage
     stage_beside (stages.Linking link) h = long_beside (IsEnough s.initial) (IsEnough s.initial) lengths lengths' (λ n enough. enough) still_there (Some link) h
     stage_beside (stages.Copying from goes) h = long_beside (IsEnough s.initial) (IsEnough s.initial) lengths lengths' (λ n enough. enough)
         still_there (link_in_copying goes) h

@@ -7,34 +7,34 @@ use Rattle.std.specs.Cmp.{IsEquivalence}
 use Rattle.std.specs.Int.{w64}
 use Rattle.papaya_words.specs.Counter.{count_of}
 use Rattle.papaya_words.specs.Table.{TableWords}
-use Rattle.papaya_words.specs.declared.probe.Refused.{Refused}
-use Rattle.papaya_words.specs.declared.probe.Refused.TheVariants.{Capacity}
-use Rattle.papaya_ask.specs.declared.call.Reply.{Reply}
-use Rattle.papaya_ask.specs.declared.call.Reply.TheVariants.{Done as Reply_done, Refused as Reply_refused}
-use Rattle.papaya_ask.specs.declared.copy_ask.CopyAsk.{CopyAsk}
-use Rattle.papaya_alone.specs.Resizers.{IsWhole}
-use Rattle.papaya_chain.specs.declared.ask.Answer.{Answer}
-use Rattle.papaya_chain.specs.declared.resizer.Resize.{Resize}
-use Rattle.papaya_chain.specs.declared.resizer.Resize.TheVariants as resizes
-use Rattle.papaya_chain.specs.declared.resizer.Resizer.{Resizer}
-use Rattle.papaya_chain.specs.declared.resizer.State.{State}
-use Rattle.papaya_chain.specs.declared.resizer.State.TheVariants as stages
-use Rattle.papaya_chain.specs.Machine.{IsFit}
-use Rattle.papaya_chain.specs.Resizer.{IsStandingResizer, after, ask_of, asks_in, begun, reply_in, reply_of}
-use Rattle.papaya_chain.specs.Room.{entries_of}
-use Rattle.papaya_keys.specs.Hashes.{hash_of}
-use Rattle.papaya_store.specs.Copies.{PerformsCopy}
-use Rattle.papaya_store.specs.Store.{StoreState}
-use Rattle.papaya_store.specs.Tables.{table_of, word_at}
-use Rattle.papaya_timeline.specs.Content.{content, map_in}
-use Rattle.papaya_timeline.specs.Kept as kept
-use Rattle.papaya_timeline.specs.Resized.{IsResized}
-use Rattle.papaya_timeline.specs.Maps.{Same}
-use Rattle.papaya_timeline.specs.Solo.{IsAnswered, IsDoneBy, IsLeftBy}
+use Rattle.papaya_words.specs.declared.refused.Refused.{Refused}
+use Rattle.papaya_words.specs.declared.refused.Refused.TheVariants.{Capacity}
+use Rattle.papaya_call.specs.declared.call.Reply.{Reply}
+use Rattle.papaya_call.specs.declared.call.Reply.TheVariants.{Done as Reply_done, Refused as Reply_refused}
+use Rattle.papaya_call.specs.declared.copy_ask.CopyAsk.{CopyAsk}
+use Rattle.papaya_call_alone.specs.Resizers.{IsWhole}
+use Rattle.papaya_call.specs.declared.chain.ask.Answer.{Answer}
+use Rattle.papaya_call.specs.declared.chain.resizer.Resize.{Resize}
+use Rattle.papaya_call.specs.declared.chain.resizer.Resize.TheVariants as resizes
+use Rattle.papaya_call.specs.declared.chain.resizer.Resizer.{Resizer}
+use Rattle.papaya_call.specs.declared.chain.resizer.ResizerState.{ResizerState}
+use Rattle.papaya_call.specs.declared.chain.resizer.ResizerState.TheVariants as stages
+use Rattle.papaya_call.specs.ChainMachine.{IsFit}
+use Rattle.papaya_call.specs.Resizer.{IsStandingResizer, after, ask_of, asks_in, begun, reply_in, reply_of}
+use Rattle.papaya_call.specs.TableSize.{entries_of}
+use Rattle.papaya_words_keys.specs.Hashes.{hash_of}
+use Rattle.papaya_core_store.specs.CopyAsks.{PerformsCopy}
+use Rattle.papaya_core_store.specs.Store.{StoreState}
+use Rattle.papaya_core_store.specs.Tables.{table_of, word_at}
+use Rattle.papaya_core_timeline.specs.Content.{content, map_in}
+use Rattle.papaya_core_timeline.specs.Kept as kept
+use Rattle.papaya_core_timeline.specs.Resized.{IsResized}
+use Rattle.papaya_core_timeline.specs.Maps.{Same}
+use Rattle.papaya_core_timeline.specs.Solo.{IsAnswered, IsDoneBy, IsLeftBy}
 use Rattle.papaya_seq.proofs.LeftBy.{resized_same}
-use Rattle.papaya_timeline.proofs.KeptCore.{keys_lawful}
-use Rattle.papaya_timeline.proofs.ResizerStands.{resizer_fits}
-use Rattle.papaya_timeline.proofs.StoreLemmas.{performed_copy, unnumbered}
+use Rattle.papaya_core_timeline.proofs.KeptCore.{keys_lawful}
+use Rattle.papaya_core_timeline.proofs.ResizerStands.{resizer_fits}
+use Rattle.papaya_core_timeline.proofs.StoreLemmas.{performed_copy, unnumbered}
 use Rattle.papaya_seq.specs.MadeAlone.{IsDoneAlone, IsMadeAlone, IsResizedAlone}
 use Rattle.papaya_seq.specs.Map.{IsLawfulMap, IsResizing, Keeps, MapState, Unchanged, next_in, next_of, slots_in, slots_of}
 use Rattle.papaya_seq.specs.Resizes.{HasRoomFor, IsPastLimit, IsResizeRefusal, IsResizedTo, IsRoomThere}
@@ -51,14 +51,14 @@ use Rattle.papaya_seq.proofs.Turns.{IsOver}
 use Rattle.papaya_seq.proofs.Unmarked.{next_is}
 
 -- one that asks for nothing more is done or refused
-replied_in : (stage : State) → asks_in stage ≡ None → (reply_in stage ≡ Some Reply_done)
+replied_in : (stage : ResizerState) → asks_in stage ≡ None → (reply_in stage ≡ Some Reply_done)
     ⊎ ((refused : Refused) × (reply_in stage ≡ Some (Reply_refused refused)))
 replied_in stages.Done e = inl refl
 replied_in (stages.Refused refused) e = inr (refused, refl)
 replied_in _ e = absurd (cc e)
 
 -- and is refused where it has ended so
-refused_in : (stage : State) (refused : Refused) → reply_in stage ≡ Some (Reply_refused refused) → stage ≡ stages.Refused refused
+refused_in : (stage : ResizerState) (refused : Refused) → reply_in stage ≡ Some (Reply_refused refused) → stage ≡ stages.Refused refused
 refused_in (stages.Refused other) refused e = let same : other ≡ refused = cc e in ap stages.Refused same
 refused_in stages.Done refused e = let f : Some Reply_done ≡ Some (Reply_refused refused) = e in absurd cc
 refused_in _ refused e = absurd (cc e)
@@ -73,7 +73,7 @@ pub ends_so : (z : Resizer) → ask_of z ≡ None → (reply_of z ≡ Some Reply
 ends_so z e = replied_in z.state e
 
 -- it ends early with this refusal
-early_ends : (stage : State) → asks_in stage ≡ None → IsEarly stage → reply_in stage ≡ Some (Reply_refused Capacity)
+early_ends : (stage : ResizerState) → asks_in stage ≡ None → IsEarly stage → reply_in stage ≡ Some (Reply_refused Capacity)
 early_ends stages.AtRoot e early = absurd (cc e)
 early_ends (stages.Sizing root) e early = absurd (cc e)
 early_ends (stages.Counting root len) e early = absurd (cc e)
@@ -81,7 +81,7 @@ early_ends (stages.Refused refused) e early = ap (λ r. Some (Reply_refused r)) 
 early_ends _ e early = absurd early
 
 -- or is done
-idle_ends : (root slots : ℕ) (stage : State) → asks_in stage ≡ None → IsIdle root slots stage → reply_in stage ≡ Some Reply_done
+idle_ends : (root slots : ℕ) (stage : ResizerState) → asks_in stage ≡ None → IsIdle root slots stage → reply_in stage ≡ Some Reply_done
 idle_ends root slots stages.AtRoot e idle = absurd (cc e)
 idle_ends root slots (stages.Sizing t) e idle = absurd (cc e)
 idle_ends root slots (stages.Counting t len) e idle = absurd (cc e)
@@ -89,7 +89,7 @@ idle_ends root slots stages.Done e idle = refl
 idle_ends root slots _ e idle = absurd idle
 
 -- where all is calm it is not refused
-calm_unrefused : (root : ℕ) (stage : State) (refused : Refused) → reply_in stage ≡ Some (Reply_refused refused) → IsCalm root stage → ⊥
+calm_unrefused : (root : ℕ) (stage : ResizerState) (refused : Refused) → reply_in stage ≡ Some (Reply_refused refused) → IsCalm root stage → ⊥
 calm_unrefused root (stages.Refused r) refused e calm = calm
 calm_unrefused root stages.Done refused e calm = let f : Some Reply_done ≡ Some (Reply_refused refused) = e in cc
 calm_unrefused root stages.AtRoot refused e calm = let f : None ≡ Some (Reply_refused refused) = e in cc

@@ -1,60 +1,60 @@
 -- By how many slots a resizer counts a next table: by those of the table that it is to follow.
 use Rattle.std.proofs.Common.{◌≡◌, ℕ, ◌+◌, ◌==◌, nat_le, Bool, Option, None, Some, ap, subst}
 use Rattle.std.proofs.lemmas.Bool.{cond_both}
-use Rattle.papaya_words.specs.declared.probe.ResizeMode.{ResizeMode}
-use Rattle.papaya_ask.specs.declared.ask.Answer.{Answer as Call_answer}
-use Rattle.papaya_ask.specs.declared.ask.Answer.TheVariants as told
-use Rattle.papaya_copy.specs.declared.copying.Copied.{Copied}
-use Rattle.papaya_copy.specs.declared.copying.Copied.TheVariants as copied_to
-use Rattle.papaya_copy.specs.declared.link.Link.{Link}
-use Rattle.papaya_copy.specs.declared.link.Link.TheVariants as links
-use Rattle.papaya_copy.specs.declared.link.Linked.{Linked}
-use Rattle.papaya_copy.specs.declared.link.Linked.TheVariants as linked_to
-use Rattle.papaya_copy.specs.Link.{follows}
-use Rattle.papaya_chain.specs.declared.ask.Answer.{Answer}
-use Rattle.papaya_chain.specs.declared.ask.Answer.TheVariants as answers
-use Rattle.papaya_chain.specs.declared.resizer.Resize.{Resize}
-use Rattle.papaya_chain.specs.declared.resizer.Resize.TheVariants as resizes
-use Rattle.papaya_chain.specs.declared.resizer.Room.{Room}
-use Rattle.papaya_chain.specs.declared.resizer.State.{State}
-use Rattle.papaya_chain.specs.declared.resizer.State.TheVariants as stages
-use Rattle.papaya_chain.specs.Machine as machine
-use Rattle.papaya_chain.specs.Resizer.{after_in, at_count, at_last, at_next, at_root, called, copied, copies, counted, judges, linked, makes, over, told_root}
-use Rattle.papaya_chain.specs.Room.{room_of}
+use Rattle.papaya_words.specs.declared.resize_mode.ResizeMode.{ResizeMode}
+use Rattle.papaya_call.specs.declared.ask.Answer.{Answer as Call_answer}
+use Rattle.papaya_call.specs.declared.ask.Answer.TheVariants as told
+use Rattle.papaya_call.specs.declared.copy.copying.Copied.{Copied}
+use Rattle.papaya_call.specs.declared.copy.copying.Copied.TheVariants as copied_to
+use Rattle.papaya_call.specs.declared.copy.link.Link.{Link}
+use Rattle.papaya_call.specs.declared.copy.link.Link.TheVariants as links
+use Rattle.papaya_call.specs.declared.copy.link.Linked.{Linked}
+use Rattle.papaya_call.specs.declared.copy.link.Linked.TheVariants as linked_to
+use Rattle.papaya_call.specs.Link.{follows}
+use Rattle.papaya_call.specs.declared.chain.ask.Answer.{Answer}
+use Rattle.papaya_call.specs.declared.chain.ask.Answer.TheVariants as answers
+use Rattle.papaya_call.specs.declared.chain.resizer.Resize.{Resize}
+use Rattle.papaya_call.specs.declared.chain.resizer.Resize.TheVariants as resizes
+use Rattle.papaya_call.specs.declared.chain.resizer.TableSize.{TableSize}
+use Rattle.papaya_call.specs.declared.chain.resizer.ResizerState.{ResizerState}
+use Rattle.papaya_call.specs.declared.chain.resizer.ResizerState.TheVariants as stages
+use Rattle.papaya_call.specs.ChainMachine as machine
+use Rattle.papaya_call.specs.Resizer.{after_in, at_count, at_last, at_next, at_root, called, copied, copies, counted, judges, linked, makes, over, told_root}
+use Rattle.papaya_call.specs.TableSize.{room_of}
 use Rattle.papaya_call_law.specs.Copier.{link_in_copying}
-use Rattle.papaya_chain_law.specs.Resizers.{HasLink}
-use Rattle.papaya_chain_law.proofs.LinkStates.{Copied_holds, In, Linked_in, Of, copying_after, link_after}
+use Rattle.papaya_call_law.specs.Resizers.{HasLink}
+use Rattle.papaya_call_law.proofs.LinkStates.{Copied_holds, In, Linked_in, Of, copying_after, link_after}
 use Rattle.papaya_seq.proofs.Sizes.{IsSizedLink, New, Told, is_sized, sized_beside, stable}
 
 -- `Sized` is what the number of a table and that of its slots are.
 module _ (Sized : ℕ → ℕ → Type 0) where
   -- the table that is to get a next one has the slots by which that is counted
-  abbrev pub IsSizedStage : State → Type 0
+  abbrev pub IsSizedStage : ResizerState → Type 0
   IsSizedStage (stages.Linking link) = IsSizedLink Sized link
   IsSizedStage (stages.Copying from copying) = In (IsSizedLink Sized) (link_in_copying copying)
   IsSizedStage _ = Unit {0}
 
   -- in other words
-  pub stage_has : (stage : State) → IsSizedStage stage → (behind slots copied : ℕ) (unfit : Bool)
+  pub stage_has : (stage : ResizerState) → IsSizedStage stage → (behind slots copied : ℕ) (unfit : Bool)
       → HasLink stage (links.Counting behind unfit slots copied) → Sized behind slots
   stage_has (stages.Linking link) h behind slots copied unfit e = subst (IsSizedLink Sized) e h
   stage_has (stages.Copying from copying) h behind slots copied unfit e = is_sized Sized (link_in_copying copying) h behind slots copied unfit e
   stage_has _ h behind slots copied unfit e = absurd e
 
   -- where it goes on while nothing is linked or copied
-  makes_sized : (room : Option Room) → IsSizedStage (makes room)
+  makes_sized : (room : Option TableSize) → IsSizedStage (makes room)
   makes_sized None = tt
   makes_sized (Some room) = tt
 
-  judges_sized : (root len : ℕ) (room : Option Room) → IsSizedStage (judges root len room)
+  judges_sized : (root len : ℕ) (room : Option TableSize) → IsSizedStage (judges root len room)
   judges_sized root len None = tt
   judges_sized root len (Some room) = cond_both (nat_le room.len len) stages.Done (stages.Looking root len (Some room)) IsSizedStage (λ _. tt) (λ _. tt)
 
-  last_sized : (mode : ResizeMode) (root len : ℕ) (room : Option Room) → IsSizedStage (at_last mode root len room)
+  last_sized : (mode : ResizeMode) (root len : ℕ) (room : Option TableSize) → IsSizedStage (at_last mode root len room)
   last_sized mode root len None = tt
   last_sized mode root len (Some room) = tt
 
-  next_sized : (mode : ResizeMode) (root len : ℕ) (room : Option Room) (next : ℕ) → IsSizedStage (at_next mode root len room next)
+  next_sized : (mode : ResizeMode) (root len : ℕ) (room : Option TableSize) (next : ℕ) → IsSizedStage (at_next mode root len room next)
   next_sized mode root len room next = cond_both (next == 0) (at_last mode root len room) (copies root) IsSizedStage
       (λ _. last_sized mode root len room) (λ _. tt)
 
@@ -69,7 +69,7 @@ module _ (Sized : ℕ → ℕ → Type 0) where
   count_sized resizes.Chunk root len count = tt
   count_sized resizes.CopyAll root len count = tt
 
-  told_sized : (resize : Resize) (mode : ResizeMode) (stage : State) (a : Call_answer) → IsSizedStage stage → IsSizedStage (told_root resize mode stage a)
+  told_sized : (resize : Resize) (mode : ResizeMode) (stage : ResizerState) (a : Call_answer) → IsSizedStage stage → IsSizedStage (told_root resize mode stage a)
   told_sized resize mode stages.AtRoot (told.Word root) h = root_sized resize root
   told_sized resize mode (stages.Making room) (told.Made table) h = tt
   told_sized resize mode (stages.Making room) (told.Refused refused) h = tt
@@ -79,11 +79,11 @@ module _ (Sized : ℕ → ℕ → Type 0) where
   told_sized resize mode (stages.Looking root len room) (told.Word next) h = next_sized mode root len room next
   told_sized resize mode stage a h = h
 
-  counted_sized : (resize : Resize) (stage : State) (count : ℕ) → IsSizedStage stage → IsSizedStage (counted resize stage count)
+  counted_sized : (resize : Resize) (stage : ResizerState) (count : ℕ) → IsSizedStage stage → IsSizedStage (counted resize stage count)
   counted_sized resize (stages.Counting root len) count h = count_sized resize root len count
   counted_sized resize stage count h = h
 
-  called_sized : (resize : Resize) (mode : ResizeMode) (stage : State) (a : Answer) → IsSizedStage stage → IsSizedStage (called resize mode stage a)
+  called_sized : (resize : Resize) (mode : ResizeMode) (stage : ResizerState) (a : Answer) → IsSizedStage stage → IsSizedStage (called resize mode stage a)
   called_sized resize mode stage (answers.Call a) h = told_sized resize mode stage a h
   called_sized resize mode stage (answers.Count count) h = counted_sized resize stage count h
   called_sized resize mode stage (answers.Hash hash) h = h
@@ -118,7 +118,7 @@ module _ (Sized : ℕ → ℕ → Type 0) where
   new_in (Some made) n = tt
 
   -- where it counts by the slots of a table after an answer, it did before, or was told of them
-  pub stage_sized : (resize : Resize) (mode : ResizeMode) (initial number : ℕ) (a : Answer) (stage : State)
+  pub stage_sized : (resize : Resize) (mode : ResizeMode) (initial number : ℕ) (a : Answer) (stage : ResizerState)
       → ((slots limit : ℕ) → a ≡ answers.Call (told.Size slots limit) → (behind copied : ℕ) (unfit : Bool)
       → HasLink stage (links.Sizing behind copied unfit) → Sized behind slots) → IsSizedStage stage → IsSizedStage (after_in resize mode initial number a stage)
   stage_sized resize mode initial number a (stages.Linking link) size h =
@@ -141,7 +141,7 @@ module _ (Sized : ℕ → ℕ → Type 0) where
   stage_sized resize mode initial number a (stages.Refused refused) size h = called_sized resize mode (stages.Refused refused) a h
 
 -- so it is where that is so of more numbers
-pub stage_beside : (Sized Sized' : ℕ → ℕ → Type 0) → ((n slots : ℕ) → Sized n slots → Sized' n slots) → (stage : State) → IsSizedStage Sized stage
+pub stage_beside : (Sized Sized' : ℕ → ℕ → Type 0) → ((n slots : ℕ) → Sized n slots → Sized' n slots) → (stage : ResizerState) → IsSizedStage Sized stage
     → IsSizedStage Sized' stage
 stage_beside Sized Sized' more (stages.Linking link) h = sized_beside Sized Sized' more (Some link) h
 stage_beside Sized Sized' more (stages.Copying from copying) h = sized_beside Sized Sized' more (link_in_copying copying) h

@@ -2,57 +2,57 @@
 use Rattle.std.proofs.Common.{◌≡◌, ℕ, suc, ◌^◌, ◌<◌, ◌≤◌, Bool, true, false, Option, None, Some}
 use Rattle.std.proofs.Common.{List, [], ◌∷◌, length, inl, inr, refl, sym, ◌∙◌, ap, subst, arith}
 use Rattle.std.specs.Cmp.{IsEquivalence}
-use Rattle.papaya_words.specs.declared.probe.Refused.{Refused}
-use Rattle.papaya_store.specs.declared.mode.Mode.{Mode}
-use Rattle.papaya_ask.specs.declared.call.Call.{Call}
-use Rattle.papaya_ask.specs.declared.call.Call.TheVariants as calls
-use Rattle.papaya_ask.specs.declared.call.Reply.{Reply}
-use Rattle.papaya_ask.specs.declared.call.Reply.TheVariants.{Done as Reply_done, Refused as Reply_refused}
-use Rattle.papaya_ask.specs.declared.ask.At.TheVariants.{Made}
-use Rattle.papaya_ask.specs.declared.copy_ask.CopyAsk.{CopyAsk}
-use Rattle.papaya_ask.specs.declared.copy_ask.CopyAsk.TheVariants.{Exchange}
-use Rattle.papaya_alone.specs.Resizers.{resizer_measure}
-use Rattle.papaya_chain.specs.declared.ask.Ask.TheVariants as asks
-use Rattle.papaya_chain.specs.declared.ask.Answer.{Answer}
-use Rattle.papaya_chain.specs.declared.resizer.Resize.{Resize}
-use Rattle.papaya_chain.specs.declared.resizer.Resize.TheVariants as resizes
-use Rattle.papaya_chain.specs.declared.resizer.Resizer.{Resizer}
-use Rattle.papaya_chain.specs.declared.resizer.State.{State}
-use Rattle.papaya_chain.specs.declared.resizer.State.TheVariants as stages
-use Rattle.papaya_chain.specs.Resizer.{after, ask_of, asks_in, begun, begun_in, kind_of_ask, reply_in, reply_of}
-use Rattle.papaya_chain_law.specs.Resizers.{IsResizeCause}
-use Rattle.papaya_law.specs.Exchange.{run, start as first_state}
-use Rattle.papaya_law.specs.Meaning.{map_left}
-use Rattle.papaya_law.proofs.OneMap.{keeping}
-use Rattle.papaya_keys.specs.Hashes.{hash_of}
-use Rattle.papaya_store.specs.Copies.{PerformsCopy}
-use Rattle.papaya_store.specs.Store.{StoreState}
-use Rattle.papaya_timeline.specs.declared.seat.Seat.{Seat}
-use Rattle.papaya_timeline.specs.declared.seat.Work.{Work}
-use Rattle.papaya_timeline.specs.declared.seat.Work.TheVariants as works
-use Rattle.papaya_timeline.specs.declared.trace.Entry.{Entry}
-use Rattle.papaya_timeline.specs.declared.trace.Event.{Event}
-use Rattle.papaya_timeline.specs.declared.trace.Event.TheVariants.{Begun, Replied}
-use Rattle.papaya_timeline.specs.Advances.{event_of, goes_on}
-use Rattle.papaya_timeline.specs.Begins.{begun_work}
-use Rattle.papaya_timeline.specs.Callers.{resizing}
-use Rattle.papaya_timeline.specs.Core.{CoreState}
-use Rattle.papaya_timeline.specs.Ends.{budget_of}
-use Rattle.papaya_timeline.specs.Kept.{coding_of, low, setting_of, told_call_traces}
-use Rattle.papaya_timeline.specs.Maps.{key_of}
-use Rattle.papaya_timeline.specs.Resized.{IsLoneResizer, IsLoneWork, IsNearerResized, IsResized, lone_resizer_measure}
-use Rattle.papaya_timeline.specs.Resizes.{Resizes}
-use Rattle.papaya_timeline.specs.Runs.{History, StepsRun, with_event, with_step}
-use Rattle.papaya_timeline.specs.Solo.{whatever}
-use Rattle.papaya_timeline.proofs.CallersLemmas.{same_item}
-use Rattle.papaya_timeline.proofs.KeptCore.{keys_lawful}
-use Rattle.papaya_timeline.proofs.HeadlineLemmas.{resize-core}
-use Rattle.papaya_timeline.proofs.KeptResized.{left as resize_left, resize_kept, stage_left}
-use Rattle.papaya_timeline.proofs.KeptSettings.{IsLawfulKeys, tables_hashed}
-use Rattle.papaya_timeline.proofs.KeptTables.{HasMoreTables}
-use Rattle.papaya_timeline.proofs.ResizerLaws.{resizer_names, resizer_refused}
-use Rattle.papaya_timeline.proofs.SoloEnds.{lone_begin}
-use Rattle.papaya_timeline.proofs.SoloResizes.{resizer_done, resizer_nears}
+use Rattle.papaya_words.specs.declared.refused.Refused.{Refused}
+use Rattle.papaya_core_store.specs.declared.store.Mode.{Mode}
+use Rattle.papaya_call.specs.declared.call.Call.{Call}
+use Rattle.papaya_call.specs.declared.call.Call.TheVariants as calls
+use Rattle.papaya_call.specs.declared.call.Reply.{Reply}
+use Rattle.papaya_call.specs.declared.call.Reply.TheVariants.{Done as Reply_done, Refused as Reply_refused}
+use Rattle.papaya_call.specs.declared.ask.At.TheVariants.{Made}
+use Rattle.papaya_call.specs.declared.copy_ask.CopyAsk.{CopyAsk}
+use Rattle.papaya_call.specs.declared.copy_ask.CopyAsk.TheVariants.{Exchange}
+use Rattle.papaya_call_alone.specs.Resizers.{resizer_measure}
+use Rattle.papaya_call.specs.declared.chain.ask.Ask.TheVariants as asks
+use Rattle.papaya_call.specs.declared.chain.ask.Answer.{Answer}
+use Rattle.papaya_call.specs.declared.chain.resizer.Resize.{Resize}
+use Rattle.papaya_call.specs.declared.chain.resizer.Resize.TheVariants as resizes
+use Rattle.papaya_call.specs.declared.chain.resizer.Resizer.{Resizer}
+use Rattle.papaya_call.specs.declared.chain.resizer.ResizerState.{ResizerState}
+use Rattle.papaya_call.specs.declared.chain.resizer.ResizerState.TheVariants as stages
+use Rattle.papaya_call.specs.Resizer.{after, ask_of, asks_in, begun, begun_in, kind_of_ask, reply_in, reply_of}
+use Rattle.papaya_call_law.specs.Resizers.{IsResizeCause}
+use Rattle.papaya_words_law.specs.Exchange.{run, start as first_state}
+use Rattle.papaya_words_law.specs.Meaning.{map_left}
+use Rattle.papaya_words_law.proofs.OneMap.{keeping}
+use Rattle.papaya_words_keys.specs.Hashes.{hash_of}
+use Rattle.papaya_core_store.specs.CopyAsks.{PerformsCopy}
+use Rattle.papaya_core_store.specs.Store.{StoreState}
+use Rattle.papaya_core_timeline.specs.declared.seat.Seat.{Seat}
+use Rattle.papaya_core_timeline.specs.declared.seat.Work.{Work}
+use Rattle.papaya_core_timeline.specs.declared.seat.Work.TheVariants as works
+use Rattle.papaya_core_timeline.specs.declared.trace.Entry.{Entry}
+use Rattle.papaya_core_timeline.specs.declared.trace.Event.{Event}
+use Rattle.papaya_core_timeline.specs.declared.trace.Event.TheVariants.{Begun, Replied}
+use Rattle.papaya_core_timeline.specs.Advances.{event_of, goes_on}
+use Rattle.papaya_core_timeline.specs.Begins.{begun_work}
+use Rattle.papaya_core_timeline.specs.Callers.{resizing}
+use Rattle.papaya_core_timeline.specs.Core.{CoreState}
+use Rattle.papaya_core_timeline.specs.Ends.{budget_of}
+use Rattle.papaya_core_timeline.specs.Kept.{coding_of, low, setting_of, told_call_traces}
+use Rattle.papaya_core_timeline.specs.Maps.{key_of}
+use Rattle.papaya_core_timeline.specs.Resized.{IsLoneResizer, IsLoneWork, IsNearerResized, IsResized, lone_resizer_measure}
+use Rattle.papaya_core_timeline.specs.Resizes.{Resizes}
+use Rattle.papaya_core_timeline.specs.Runs.{History, StepsRun, with_event, with_step}
+use Rattle.papaya_core_timeline.specs.Solo.{whatever}
+use Rattle.papaya_core_timeline.proofs.CallersLemmas.{same_item}
+use Rattle.papaya_core_timeline.proofs.KeptCore.{keys_lawful}
+use Rattle.papaya_core_timeline.proofs.HeadlineLemmas.{resize-core}
+use Rattle.papaya_core_timeline.proofs.KeptResized.{left as resize_left, resize_kept, stage_left}
+use Rattle.papaya_core_timeline.proofs.KeptSettings.{IsLawfulKeys, tables_hashed}
+use Rattle.papaya_core_timeline.proofs.KeptTables.{HasMoreTables}
+use Rattle.papaya_core_timeline.proofs.ResizerLaws.{resizer_names, resizer_refused}
+use Rattle.papaya_core_timeline.proofs.SoloEnds.{lone_begin}
+use Rattle.papaya_core_timeline.proofs.SoloResizes.{resizer_done, resizer_nears}
 use Rattle.papaya_seq.specs.Map.{IsLawfulMap, MapState, core_of}
 use Rattle.papaya_seq.proofs.Ending.{left_to}
 use Rattle.papaya_seq.proofs.ResizerLengths.{IsLongResize, resize_long_begun, resize_long_left, resize_long_more}
@@ -88,7 +88,7 @@ call_for (resizes.Reserve more) whole = record {
 }
 
 -- one that asks has not replied
-goes_in : (stage : State) (ask : CopyAsk) → asks_in stage ≡ Some ask → reply_in stage ≡ None
+goes_in : (stage : ResizerState) (ask : CopyAsk) → asks_in stage ≡ Some ask → reply_in stage ≡ None
 goes_in stages.Done ask e = let f : None ≡ Some ask = e in absurd cc
 goes_in (stages.Refused refused) ask e = let f : None ≡ Some ask = e in absurd cc
 goes_in _ ask e = refl

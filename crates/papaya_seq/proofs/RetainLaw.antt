@@ -12,37 +12,37 @@ use Rattle.papaya_words.specs.Counter.{added}
 use Rattle.papaya_words.specs.Table.{TableWords}
 use Rattle.papaya_words.specs.Word.{kind_of, pair_of as number_of, buried_word}
 use Rattle.papaya_words.specs.declared.word.Kind.TheVariants as kinds
-use Rattle.papaya_ask.specs.Search.{IsSize}
-use Rattle.papaya_ask.specs.declared.ask.At.{At}
-use Rattle.papaya_ask.specs.declared.ask.At.TheVariants.{Root, Next, Aborted, Done, Slot, Made}
-use Rattle.papaya_chain_law.specs.Told.{nothing_loaded}
-use Rattle.papaya_law.specs.Allows.{MayBury}
-use Rattle.papaya_law.specs.ChainContent.{joined}
-use Rattle.papaya_law.specs.Code.{Coding, IsHashed, IsOfKind, code}
-use Rattle.papaya_law.specs.Exchange.{Buried, Live, Bury, Exchange, Setting, State, after, run, start}
-use Rattle.papaya_law.specs.Grows.{Comes}
-use Rattle.papaya_law.specs.Invariant.{named}
-use Rattle.papaya_law.specs.Meaning.{map_left}
-use Rattle.papaya_law.specs.View.{IsReached}
-use Rattle.papaya_law.proofs.Codes.{code_kind, code_pair}
-use Rattle.papaya_law.proofs.CodeViews.{word_of_kind}
-use Rattle.papaya_law.proofs.Moments.{allowed_append, run-append}
-use Rattle.papaya_law.proofs.OneMap.{keeping, root_reached}
-use Rattle.papaya_law.proofs.Slots.{put_elsewhere, put_there, slot_cases}
+use Rattle.papaya_call.specs.Search.{IsSize}
+use Rattle.papaya_call.specs.declared.ask.At.{At}
+use Rattle.papaya_call.specs.declared.ask.At.TheVariants.{Root, Next, Aborted, Done, Slot, Made}
+use Rattle.papaya_call_law.specs.ChainTold.{nothing_loaded}
+use Rattle.papaya_words_law.specs.Allows.{MayBury}
+use Rattle.papaya_words_law.specs.ChainContent.{joined}
+use Rattle.papaya_words_law.specs.Code.{Coding, IsHashed, IsOfKind, code}
+use Rattle.papaya_words_law.specs.Exchange.{Buried, Live, Bury, Exchange, Setting, State, after, run, start}
+use Rattle.papaya_words_law.specs.Grows.{Comes}
+use Rattle.papaya_words_law.specs.Invariant.{named}
+use Rattle.papaya_words_law.specs.Meaning.{map_left}
+use Rattle.papaya_words_law.specs.View.{IsReached}
+use Rattle.papaya_words_law.proofs.Codes.{code_kind, code_pair}
+use Rattle.papaya_words_law.proofs.CodeViews.{word_of_kind}
+use Rattle.papaya_words_law.proofs.Moments.{allowed_append, run-append}
+use Rattle.papaya_words_law.proofs.OneMap.{keeping, root_reached}
+use Rattle.papaya_words_law.proofs.Slots.{put_elsewhere, put_there, slot_cases}
 use Rattle.papaya_call_law.specs.Told.{word_of}
-use Rattle.papaya_timeline.specs.Content.{content, pairs_from, pairs_of_kind, pairs_of_slots}
-use Rattle.papaya_timeline.specs.Core.{CoreState}
-use Rattle.papaya_timeline.specs.Kept.{CallTrace, IsKept, IsLawfulCore, coding_of, low, setting_of}
-use Rattle.papaya_store.specs.Store.{StoreState, Stored, pair_of}
-use Rattle.papaya_store.specs.Tables.{put, table_of, word_at, word_in, written}
-use Rattle.papaya_timeline.proofs.CoreLemmas.{cases_same}
-use Rattle.papaya_timeline.proofs.KeptAnswer.{Stands}
-use Rattle.papaya_timeline.proofs.KeptHints.{placed-hints}
-use Rattle.papaya_timeline.proofs.KeptOthers.{IsLeaving, leaves_kept}
-use Rattle.papaya_timeline.proofs.KeptSettings.{IsLawfulKeys, tables_hashed}
-use Rattle.papaya_timeline.proofs.KeptTables.{IsPlaced, cases_place, placed-grown, placed-here}
-use Rattle.papaya_timeline.proofs.KeptTables.{placed-many, placed-other, table_low, written-here}
-use Rattle.papaya_timeline.proofs.KeptTables.{written-other, written-root}
+use Rattle.papaya_core_timeline.specs.Content.{content, pairs_from, pairs_of_kind, pairs_of_slots}
+use Rattle.papaya_core_timeline.specs.Core.{CoreState}
+use Rattle.papaya_core_timeline.specs.Kept.{CallTrace, IsKept, IsLawfulCore, coding_of, low, setting_of}
+use Rattle.papaya_core_store.specs.Store.{StoreState, Stored, pair_of}
+use Rattle.papaya_core_store.specs.Tables.{put, table_of, word_at, word_in, written}
+use Rattle.papaya_core_timeline.proofs.CoreLemmas.{cases_same}
+use Rattle.papaya_core_timeline.proofs.KeptAnswer.{Stands}
+use Rattle.papaya_core_timeline.proofs.KeptHints.{placed-hints}
+use Rattle.papaya_core_timeline.proofs.KeptOthers.{IsLeaving, leaves_kept}
+use Rattle.papaya_core_timeline.proofs.KeptSettings.{IsLawfulKeys, tables_hashed}
+use Rattle.papaya_core_timeline.proofs.KeptTables.{IsPlaced, cases_place, placed-grown, placed-here}
+use Rattle.papaya_core_timeline.proofs.KeptTables.{placed-many, placed-other, table_low, written-here}
+use Rattle.papaya_core_timeline.proofs.KeptTables.{written-other, written-root}
 use Rattle.papaya_seq.specs.Map.{IsLawfulMap, MapState, core_of, next_in, next_of, slots_in, slots_of}
 use Rattle.papaya_seq.specs.Retains.{slot_words}
 use Rattle.papaya_seq.proofs.Counting.{counted_sum}

@@ -8,8 +8,8 @@ use Rattle.std.specs.Fn.{Mut}
 use Rattle.papaya_words.specs.Word.{kind_of, pair_of as number_of}
 use Rattle.papaya_words.specs.declared.word.Kind.{Kind}
 use Rattle.papaya_words.specs.declared.word.Kind.TheVariants as kinds
-use Rattle.papaya_timeline.specs.Content.{listed, pairs_of_kind, pairs_of_slots}
-use Rattle.papaya_store.specs.Store.{StoreState, Stored, pair_of}
+use Rattle.papaya_core_timeline.specs.Content.{listed, pairs_of_kind, pairs_of_slots}
+use Rattle.papaya_core_store.specs.Store.{StoreState, Stored, pair_of}
 use Rattle.papaya_seq.specs.Retains.{Retains}
 use Rattle.papaya_seq.proofs.WalkLists.{pairs_of_word}
 

@@ -7,16 +7,16 @@ use Rattle.std.specs.Fn.{Mut}
 use Rattle.papaya_words.specs.Table.{TableWords}
 use Rattle.papaya_words.specs.Word.{kind_of, pair_of as number_of, buried_word}
 use Rattle.papaya_words.specs.declared.word.Kind.TheVariants as kinds
-use Rattle.papaya_ask.specs.declared.ask.Answer.{Answer}
-use Rattle.papaya_ask.specs.declared.ask.Answer.TheVariants.{Yes}
-use Rattle.papaya_ask.specs.declared.ask.At.{At}
-use Rattle.papaya_law.specs.Content.{AreApart}
-use Rattle.papaya_timeline.specs.Content.{content, pairs_of_slots}
-use Rattle.papaya_store.specs.Store.{StoreState, Stored, pair_of}
-use Rattle.papaya_store.specs.Performs.{Exchanges}
-use Rattle.papaya_store.specs.Tables.{put, table_of, word_at, word_in}
-use Rattle.papaya_timeline.proofs.KeptSettings.{IsLawfulKeys}
-use Rattle.papaya_timeline.proofs.StoreLemmas.{matched}
+use Rattle.papaya_call.specs.declared.ask.Answer.{Answer}
+use Rattle.papaya_call.specs.declared.ask.Answer.TheVariants.{Yes}
+use Rattle.papaya_call.specs.declared.ask.At.{At}
+use Rattle.papaya_words_law.specs.Content.{AreApart}
+use Rattle.papaya_core_timeline.specs.Content.{content, pairs_of_slots}
+use Rattle.papaya_core_store.specs.Store.{StoreState, Stored, pair_of}
+use Rattle.papaya_core_store.specs.Performs.{Exchanges}
+use Rattle.papaya_core_store.specs.Tables.{put, table_of, word_at, word_in}
+use Rattle.papaya_core_timeline.proofs.KeptSettings.{IsLawfulKeys}
+use Rattle.papaya_core_timeline.proofs.StoreLemmas.{matched}
 use Rattle.papaya_seq.specs.Map.{IsLawfulMap, MapState, Unchanged, next_of, slots_in, slots_of}
 use Rattle.papaya_seq.specs.Removes.{IsShown}
 use Rattle.papaya_seq.specs.Retains.{Answers, IsRetainedTo, IsRetaining, Retains, root_words, slot_words}

@@ -5,9 +5,9 @@ use Rattle.std.proofs.Math.Pow.{pow_mono}
 use Rattle.std.proofs.lemmas.Bool.{cases_lt, cond_both}
 use Rattle.std.specs.Int.{IsPowerOfTwo}
 use Rattle.papaya_words.specs.Probe.{IsEntriesFor, log_upto}
-use Rattle.papaya_chain.specs.Room.{entries_of, room_of, room_of_len}
-use Rattle.papaya_chain.proofs.Room.{has_room, too_long, too_many}
-use Rattle.papaya_keys.specs.Sizes.{IsTooMuch}
+use Rattle.papaya_call.specs.TableSize.{entries_of, room_of, room_of_len}
+use Rattle.papaya_call.proofs.TableSizes.{has_room, too_long, too_many}
+use Rattle.papaya_words_keys.specs.Sizes.{IsTooMuch}
 
 -- a number lies between the powers of its logarithm and of the next one
 log_between : (most n : ℕ) → 0 < n → n < 2 ^ suc most → (2 ^ log_upto most n ≤ n) × (n < 2 * 2 ^ log_upto most n)

@@ -1,16 +1,16 @@
 -- A map that has a root has one after further exchanges.
 use Rattle.std.proofs.Common.{◌≡◌, ℕ, ◌<◌, Bool, List, ◌++◌, arith}
-use Rattle.papaya_store.specs.declared.mode.Mode.{Mode}
-use Rattle.papaya_ask.specs.declared.ask.At.TheVariants.{Root}
-use Rattle.papaya_law.specs.Code.{IsHashed}
-use Rattle.papaya_law.specs.Exchange.{Exchange, Setting, run, start}
-use Rattle.papaya_law.proofs.Moments.{allowed_first}
-use Rattle.papaya_law.proofs.OneMap.{later, sound}
-use Rattle.papaya_store.specs.Store.{StoreState, Stored}
-use Rattle.papaya_timeline.specs.Core.{IsCore}
-use Rattle.papaya_timeline.specs.Kept.{CallTrace, IsKept, coding_of, low, setting_of}
-use Rattle.papaya_timeline.specs.declared.seat.Seat.{Seat}
-use Rattle.papaya_timeline.proofs.KeptSettings.{IsLawfulKeys, tables_hashed}
+use Rattle.papaya_core_store.specs.declared.store.Mode.{Mode}
+use Rattle.papaya_call.specs.declared.ask.At.TheVariants.{Root}
+use Rattle.papaya_words_law.specs.Code.{IsHashed}
+use Rattle.papaya_words_law.specs.Exchange.{Exchange, Setting, run, start}
+use Rattle.papaya_words_law.proofs.Moments.{allowed_first}
+use Rattle.papaya_words_law.proofs.OneMap.{later, sound}
+use Rattle.papaya_core_store.specs.Store.{StoreState, Stored}
+use Rattle.papaya_core_timeline.specs.Core.{IsCore}
+use Rattle.papaya_core_timeline.specs.Kept.{CallTrace, IsKept, coding_of, low, setting_of}
+use Rattle.papaya_core_timeline.specs.declared.seat.Seat.{Seat}
+use Rattle.papaya_core_timeline.proofs.KeptSettings.{IsLawfulKeys, tables_hashed}
 
 module _ {K V S A : Type 0} (eq : K → K → Bool) (hash : K → ℕ) (keys : IsLawfulKeys eq hash) (mode : Mode) (store store' : StoreState K V S)
     (callers callers' : List (Seat K V A)) where

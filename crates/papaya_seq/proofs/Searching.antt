@@ -7,31 +7,31 @@ use Rattle.papaya_words.specs.Table.{TableWords}
 use Rattle.papaya_words.specs.Word.{kind_of, may_hold, pair_of as number_of}
 use Rattle.papaya_words.specs.declared.word.Kind.{Kind}
 use Rattle.papaya_words.specs.declared.word.Kind.TheVariants as kinds
-use Rattle.papaya_ask.specs.declared.ask.Answer.{Answer}
-use Rattle.papaya_ask.specs.declared.ask.Answer.TheVariants.{Ok as Ok_done, Size, Word as Word_read, Yes}
-use Rattle.papaya_ask.specs.declared.ask.At.{At}
-use Rattle.papaya_ask.specs.declared.ask.At.TheVariants.{Slot}
-use Rattle.papaya_ask.specs.declared.call.Task.{Task}
-use Rattle.papaya_ask.specs.declared.call.Task.TheVariants.{Get, Insert, RemoveIf, Compute}
-use Rattle.papaya_ask.specs.declared.search.Place.{Place}
-use Rattle.papaya_ask.specs.declared.search.Search.{Search}
-use Rattle.papaya_ask.specs.declared.search.Search.TheVariants.{Sizing, Looking, Reading, Comparing}
-use Rattle.papaya_ask.specs.declared.search.Probed.{Probed}
-use Rattle.papaya_ask.specs.declared.search.Probed.TheVariants.{On, Empty, Here, Over}
-use Rattle.papaya_ask.specs.Search.{IsProbed, at_yes, first_place, go_on, hinted, look, look_at, match_at, next_place}
+use Rattle.papaya_call.specs.declared.ask.Answer.{Answer}
+use Rattle.papaya_call.specs.declared.ask.Answer.TheVariants.{Ok as Ok_done, Size, Word as Word_read, Yes}
+use Rattle.papaya_call.specs.declared.ask.At.{At}
+use Rattle.papaya_call.specs.declared.ask.At.TheVariants.{Slot}
+use Rattle.papaya_call.specs.declared.call.Task.{Task}
+use Rattle.papaya_call.specs.declared.call.Task.TheVariants.{Get, Insert, RemoveIf, Compute}
+use Rattle.papaya_call.specs.declared.search.Place.{Place}
+use Rattle.papaya_call.specs.declared.search.Search.{Search}
+use Rattle.papaya_call.specs.declared.search.Search.TheVariants.{Sizing, Looking, Reading, Comparing}
+use Rattle.papaya_call.specs.declared.search.ProbeStep.{ProbeStep}
+use Rattle.papaya_call.specs.declared.search.ProbeStep.TheVariants.{On, Empty, Here, Over}
+use Rattle.papaya_call.specs.Search.{IsProbed, at_yes, first_place, go_on, hinted, look, look_at, match_at, next_place}
 use Rattle.papaya_call.specs.declared.machine.Machine.{Machine}
 use Rattle.papaya_call.specs.declared.machine.State.{State}
 use Rattle.papaya_call.specs.declared.machine.State.TheVariants.{AtRoot, Making, Searching}
 use Rattle.papaya_call.specs.declared.compute.Gap.TheVariants.{NoRoot}
 use Rattle.papaya_call.specs.Machine.{absent, after, at_root, goes}
-use Rattle.papaya_store.specs.Store.{StoreState, pair_of}
-use Rattle.papaya_store.specs.Performs.{size_of}
-use Rattle.papaya_store.specs.Tables.{Tables, hint_at, slot_hint, table_of, word_at, word_in}
+use Rattle.papaya_core_store.specs.Store.{StoreState, pair_of}
+use Rattle.papaya_core_store.specs.Performs.{size_of}
+use Rattle.papaya_core_store.specs.Tables.{Tables, hint_at, slot_hint, table_of, word_at, word_in}
 use Rattle.papaya_seq.specs.Looks.{Comes, matches_in}
 use Rattle.papaya_seq.specs.Searches.{GoesOnIn, IsMatchedBy, IsPassedTo, IsThere, IsTurn, IsTurnFrom, IsTurned, Sees, SeesFrom, StandsBy, left_at, left_to, passed_by, passed_on}
 use Rattle.papaya_seq.specs.Searches.{seen_by}
-use Rattle.papaya_seq.specs.declared.search.Turn.{Turn}
-use Rattle.papaya_seq.specs.declared.search.Turn.TheVariants as turns
+use Rattle.papaya_seq.specs.declared.search.ProbeHit.{ProbeHit}
+use Rattle.papaya_seq.specs.declared.search.ProbeHit.TheVariants as turns
 
 index_got : (items : List ℕ) (i item : ℕ) → slice_get items i ≡ Some item → item ≡ slice_index items i
 index_got [] i item e = absurd cc
@@ -79,7 +79,7 @@ module _ (so : (number slots : ℕ) → Type 0) where
   yes_in at word false is = on_in at is
 
 -- what is left to a search that has seen this
-abbrev pub left_seen : Probed → ℕ
+abbrev pub left_seen : ProbeStep → ℕ
 left_seen (On (Looking at)) = left_at at
 left_seen (On (Reading at)) = 3 * (at.limit + 1 - at.probe.len)
 left_seen (On (Comparing at word)) = 3 * (at.limit - at.probe.len) + 2
@@ -121,7 +121,7 @@ yes_left at word true within = let none = match_left (kind_of word) at word in o
 yes_left at word false within = on_left at within
 
 -- what is left after a turn
-pub turn_left : (turn : Turn) → left_to turn ≡ left_seen (seen_by turn)
+pub turn_left : (turn : ProbeHit) → left_to turn ≡ left_seen (seen_by turn)
 turn_left (turns.Next at) = refl
 turn_left (turns.Empty at) = refl
 turn_left (turns.Here at word) = refl
@@ -131,7 +131,7 @@ on_turned : (at : Place) → IsTurned (go_on at)
 on_turned at = cond_both (nat_lt at.probe.len at.limit) (On (Looking (next_place at))) (Over at.table) IsTurned (λ _. tt) (λ _. tt)
 
 -- a word whose pair's key is not to be compared
-abbrev Uncompared : Probed → Type 0
+abbrev Uncompared : ProbeStep → Type 0
 Uncompared seen = ((at : Place) (word : ℕ) → seen ≡ On (Comparing at word) → ⊥) → IsTurned seen
 
 pub look_turned : (kind : Kind) (at : Place) (word : ℕ) → Uncompared (look_at kind at word)
@@ -184,7 +184,7 @@ stands_yes words at word true is = stands_match words (kind_of word) at word is
 stands_yes words at word false is = stands_on words at
 
 -- a hint that leads on to no next place leads to its word, or past the table
-abbrev Unlooked : Place → Probed → Type 0
+abbrev Unlooked : Place → ProbeStep → Type 0
 Unlooked first seen = ((place : Place) → seen ≡ On (Looking place) → ⊥) → IsPassedTo first seen
 
 pub hinted_led : (first at : Place) (hash hint : ℕ) → left_at at ≤ left_at first → Unlooked first (hinted at hash hint)
@@ -193,7 +193,7 @@ hinted_led first at hash hint near = cond_both (may_hold hint hash) (On (Reading
     (λ _ none. absurd (none (next_place at) refl)) (λ _ none. tt))
 
 -- a search that passed by places stands by no word, and has found no pair
-pub passed_stands : (words : At → ℕ) (first : Place) (seen : Probed) → IsPassedTo first seen → StandsBy words seen
+pub passed_stands : (words : At → ℕ) (first : Place) (seen : ProbeStep) → IsPassedTo first seen → StandsBy words seen
 passed_stands words first (On (Sizing n)) led = tt
 passed_stands words first (On (Looking at)) led = tt
 passed_stands words first (On (Reading at)) led = tt
@@ -202,7 +202,7 @@ passed_stands words first (Empty at) led = absurd led
 passed_stands words first (Here at word) led = absurd led
 passed_stands words first (Over n) led = tt
 
-pub passed_matched : {K V S : Type 0} (store : StoreState K V S) (matches : K → Bool) (hash : ℕ) (first : Place) (seen : Probed)
+pub passed_matched : {K V S : Type 0} (store : StoreState K V S) (matches : K → Bool) (hash : ℕ) (first : Place) (seen : ProbeStep)
     → IsPassedTo first seen → IsMatchedBy matches store hash seen
 passed_matched store matches hash first (On search) led = tt
 passed_matched store matches hash first (Empty at) led = tt
@@ -229,7 +229,7 @@ module _ {K V S : Type 0} (matches : K → Bool) (store : StoreState K V S) wher
     sees_begun at m = ([], refl)
 
     -- what it sees from where it came to, it sees from the first place
-    pub sees_on : (at : Place) (search : Search) (seen : Probed) → Sees matches store hash at (On search)
+    pub sees_on : (at : Place) (search : Search) (seen : ProbeStep) → Sees matches store hash at (On search)
         → SeesFrom matches store hash (Searching search) seen → Sees matches store hash at seen
     sees_on at search seen before goes_on m =
         let came = before m in
@@ -253,7 +253,7 @@ module _ {K V S : Type 0} (matches : K → Bool) (store : StoreState K V S) wher
       sees_hint m = (Word_read hint_there ∷ [], (tt, refl, refl))
 
       -- and the search went on from there
-      passed_then : (rest : Place → Probed) → ((next : Place) → Sees matches store hash next (rest next)) → (seen : Probed)
+      passed_then : (rest : Place → ProbeStep) → ((next : Place) → Sees matches store hash next (rest next)) → (seen : ProbeStep)
           → Sees matches store hash at seen → Sees matches store hash at (passed_on rest seen)
       passed_then rest more (On (Sizing n)) before = before
       passed_then rest more (On (Looking next)) before = sees_on at (Looking next) (rest next) before (more next)
@@ -280,7 +280,7 @@ module _ {K V S : Type 0} (matches : K → Bool) (store : StoreState K V S) wher
           (Word_read word_there ∷ Yes same ∷ [], comes_on (Word_read word_there ∷ []) (Yes same ∷ []) looks asks led came (tt, refl, refl))
 
       -- what was seen is a turn
-      pub turn_seen : (state : State) (turn : Turn) (seen : Probed) → seen_by turn ≡ seen → SeesFrom matches store hash state seen → IsProbed seen
+      pub turn_seen : (state : State) (turn : ProbeHit) (seen : ProbeStep) → seen_by turn ≡ seen → SeesFrom matches store hash state seen → IsProbed seen
           → GoesOnIn (IsThere store) seen → StandsBy (λ w. word_at store.words w) seen → IsMatchedBy matches store hash seen → IsTurnFrom matches store hash state turn
       turn_seen state turn seen is sees within there stands
           matched = record {
@@ -325,7 +325,7 @@ module _ {K V S : Type 0} (matches : K → Bool) (store : StoreState K V S) wher
         passed_then at (λ next. passed_by store hash n next) (λ next. sees_passed n next) (hinted at hash (hint_there at)) (sees_hint at)
 
     -- a turn from where the turns before it led
-    pub turns_on : (at place : Place) (turn : Turn) → IsTurn matches store hash at (turns.Next place) → IsTurn matches store hash place turn
+    pub turns_on : (at place : Place) (turn : ProbeHit) → IsTurn matches store hash at (turns.Next place) → IsTurn matches store hash place turn
         → IsTurn matches store hash at turn
     turns_on at place turn before next = record {
       sees = sees_on at (Looking place) (seen_by turn) before.sees next.sees;
@@ -336,7 +336,7 @@ module _ {K V S : Type 0} (matches : K → Bool) (store : StoreState K V S) wher
     }
 
     -- a root that is there was loaded, and its size asked for
-    pub sees_root : (slots limit : ℕ) → size_of (table_of store.words.tables store.words.root) ≡ Size slots limit → (seen : Probed)
+    pub sees_root : (slots limit : ℕ) → size_of (table_of store.words.tables store.words.root) ≡ Size slots limit → (seen : ProbeStep)
         → Sees matches store hash (first_place hash store.words.root slots limit) seen → SeesFrom matches store hash AtRoot seen
     sees_root slots limit size seen sees m =
         let root : ℕ = store.words.root in

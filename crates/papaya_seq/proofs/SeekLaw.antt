@@ -3,33 +3,33 @@ use Rattle.std.proofs.Common.{◌≡◌, ◌⊎◌, ℕ, ◌^◌, ◌<◌, ◌�
 use denote.Ref.{Bor}
 use Rattle.std.specs.Fn.{Mut}
 use Rattle.std.specs.Int.{int_wrap, w64}
-use Rattle.papaya_law.proofs.FiniteMaps.{one_length}
-use Rattle.papaya_words.specs.declared.probe.Refused.{Refused}
-use Rattle.papaya_ask.specs.declared.call.Reply.{Reply}
-use Rattle.papaya_ask.specs.declared.call.Reply.TheVariants.{Absent, Refused as Reply_refused}
-use Rattle.papaya_ask.specs.declared.search.Search.TheVariants.{Sizing, Looking, Reading, Comparing}
+use Rattle.papaya_words_law.proofs.FiniteMaps.{one_length}
+use Rattle.papaya_words.specs.declared.refused.Refused.{Refused}
+use Rattle.papaya_call.specs.declared.call.Reply.{Reply}
+use Rattle.papaya_call.specs.declared.call.Reply.TheVariants.{Absent, Refused as Reply_refused}
+use Rattle.papaya_call.specs.declared.search.Search.TheVariants.{Sizing, Looking, Reading, Comparing}
 use Rattle.papaya_call.specs.declared.machine.State.{State}
 use Rattle.papaya_call.specs.declared.machine.State.TheVariants.{AtRoot, Searching, Leaving, Ended}
 use Rattle.papaya_call.specs.declared.made.Made.{Made}
 use Rattle.papaya_call.specs.Machine as calls
-use Rattle.papaya_chain.specs.declared.ask.Ask.TheVariants as asks
-use Rattle.papaya_chain.specs.declared.ask.Answer.{Answer}
-use Rattle.papaya_chain.specs.declared.machine.Machine.{Machine}
-use Rattle.papaya_chain.specs.Machine.{IsFit, after, ask_of}
-use Rattle.papaya_chain_law.proofs.Names.{call_asks}
-use Rattle.papaya_store.specs.Store.{StoreState, pair_of}
-use Rattle.papaya_timeline.specs.Advances.{reply_in}
-use Rattle.papaya_timeline.specs.Kept.{IsLawfulCore}
-use Rattle.papaya_timeline.specs.Content.{content}
-use Rattle.papaya_timeline.proofs.CountedContent.{content_apart}
-use Rattle.papaya_timeline.proofs.CoreLemmas.{reply_asked}
-use Rattle.papaya_timeline.proofs.KeptSettings.{IsLawfulKeys}
+use Rattle.papaya_call.specs.declared.chain.ask.Ask.TheVariants as asks
+use Rattle.papaya_call.specs.declared.chain.ask.Answer.{Answer}
+use Rattle.papaya_call.specs.declared.chain.machine.Machine.{Machine}
+use Rattle.papaya_call.specs.ChainMachine.{IsFit, after, ask_of}
+use Rattle.papaya_call_law.proofs.Names.{call_asks}
+use Rattle.papaya_core_store.specs.Store.{StoreState, pair_of}
+use Rattle.papaya_core_timeline.specs.Advances.{reply_in}
+use Rattle.papaya_core_timeline.specs.Kept.{IsLawfulCore}
+use Rattle.papaya_core_timeline.specs.Content.{content}
+use Rattle.papaya_core_timeline.proofs.CountedContent.{content_apart}
+use Rattle.papaya_core_timeline.proofs.CoreLemmas.{reply_asked}
+use Rattle.papaya_core_timeline.proofs.KeptSettings.{IsLawfulKeys}
 use Rattle.papaya_seq.specs.Map.{IsLawfulMap, MapState}
 use Rattle.papaya_seq.proofs.Ending.{left_of}
 use Rattle.papaya_seq.proofs.Lawful.{MatchesNone}
 use Rattle.papaya_seq.proofs.Seeking.{IsSeeking, Seeks, own_hashed, own_setting}
 use Rattle.papaya_seq.proofs.SeekTurns.{IsAnswered, IsTurn, turn_caused, turned}
-use Rattle.papaya_chain_law.specs.Goes.{IsCause}
+use Rattle.papaya_call_law.specs.Goes.{IsCause}
 use Rattle.papaya_seq.proofs.SeekSteps as steps
 use Rattle.papaya_seq.proofs.CallLengths.{long_left}
 use Rattle.papaya_seq.proofs.SeekSteps.{turn_nears}

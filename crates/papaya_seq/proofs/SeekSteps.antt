@@ -8,74 +8,74 @@ use Rattle.std.proofs.Math.Nat.{div-le_self}
 use Rattle.papaya_words.specs.Chunks.{chunk_len}
 use Rattle.papaya_words.specs.Table.{TableWords, new_table}
 use Rattle.papaya_words.specs.declared.limits.TheConstants.{MAX_TABLES}
-use Rattle.papaya_ask.specs.declared.ask.Ask.{Ask as Call_ask}
-use Rattle.papaya_ask.specs.declared.ask.Ask.TheVariants.{Load, LoadHint, SameKey, SizeOf}
-use Rattle.papaya_ask.specs.declared.ask.Answer.{Answer as Call_answer}
-use Rattle.papaya_ask.specs.declared.ask.Answer.TheVariants.{Word as Word_read}
-use Rattle.papaya_ask.specs.declared.ask.At.{At}
-use Rattle.papaya_ask.specs.declared.ask.At.TheVariants.{Root}
-use Rattle.papaya_ask.specs.declared.call.Reply.{Reply}
-use Rattle.papaya_ask.specs.declared.copy_ask.CopyAsk.{CopyAsk}
-use Rattle.papaya_ask.specs.declared.copy_ask.CopyAsk.TheVariants as copies
+use Rattle.papaya_call.specs.declared.ask.Ask.{Ask as Call_ask}
+use Rattle.papaya_call.specs.declared.ask.Ask.TheVariants.{Load, LoadHint, SameKey, SizeOf}
+use Rattle.papaya_call.specs.declared.ask.Answer.{Answer as Call_answer}
+use Rattle.papaya_call.specs.declared.ask.Answer.TheVariants.{Word as Word_read}
+use Rattle.papaya_call.specs.declared.ask.At.{At}
+use Rattle.papaya_call.specs.declared.ask.At.TheVariants.{Root}
+use Rattle.papaya_call.specs.declared.call.Reply.{Reply}
+use Rattle.papaya_call.specs.declared.copy_ask.CopyAsk.{CopyAsk}
+use Rattle.papaya_call.specs.declared.copy_ask.CopyAsk.TheVariants as copies
 use Rattle.papaya_call.specs.declared.machine.Machine.{Machine as Call_machine}
 use Rattle.papaya_call.specs.declared.machine.State.{State}
 use Rattle.papaya_call.specs.declared.machine.State.TheVariants.{AtRoot, Searching, Leaving, Ended}
 use Rattle.papaya_call.specs.declared.made.Made.{Made}
 use Rattle.papaya_call.specs.Machine as calls
-use Rattle.papaya_copy.specs.declared.link.Link.TheVariants.{Linking}
-use Rattle.papaya_chain.specs.declared.ask.Ask.{Ask}
-use Rattle.papaya_chain.specs.declared.ask.Answer.{Answer}
-use Rattle.papaya_chain.specs.declared.machine.Machine.{Machine}
-use Rattle.papaya_chain.specs.declared.machine.Phase.TheVariants.{Calling}
-use Rattle.papaya_chain.specs.Machine.{IsFit, IsFitAsk, IsStanding, after, ask_of, asks_in, follows_of, kind_of_ask}
-use Rattle.papaya_chain.specs.declared.ask.Ask.TheVariants as asks
-use Rattle.papaya_chain.specs.declared.ask.Answer.TheVariants as answers
-use Rattle.papaya_chain_law.specs.Goes.{IsInOrder, IsOwnStep, link_in}
-use Rattle.papaya_chain_law.specs.Told.{IsTold}
-use Rattle.papaya_chain_law.proofs.Goes.{machine_goes}
-use Rattle.papaya_chain_law.proofs.Names.{call_asks}
-use Rattle.papaya_chain_law.proofs.Order.{in_order}
-use Rattle.papaya_chain_law.proofs.Replies.{chain_task}
-use Rattle.papaya_chain_law.proofs.Standing.{chain_ask_fits, chain_stands}
-use Rattle.papaya_alone.specs.Ahead.{IsCurrent}
-use Rattle.papaya_alone.specs.Prompt.{IsBounded, IsServedAsk}
-use Rattle.papaya_alone.proofs.ChainLaw.{call_current, call_nears}
-use Rattle.papaya_alone.specs.Budget.{Spends, SpendsCall, SpendsCopy}
-use Rattle.papaya_alone.specs.Rank.{measure}
-use Rattle.papaya_law.specs.Code.{Coding, IsHashed}
-use Rattle.papaya_law.specs.Exchange.{Exchange, Setting, State as Words, run, start}
-use Rattle.papaya_law.specs.Class.{IsOn}
-use Rattle.papaya_law.specs.Allows.{AllAllowed}
-use Rattle.papaya_law.specs.Invariant.{IsSound}
-use Rattle.papaya_law.specs.Meaning.{map_left}
-use Rattle.papaya_law.proofs.Logs.{on_comes}
-use Rattle.papaya_law.proofs.OneMap.{keeping, keeping_sound}
+use Rattle.papaya_call.specs.declared.copy.link.Link.TheVariants.{Linking}
+use Rattle.papaya_call.specs.declared.chain.ask.Ask.{Ask}
+use Rattle.papaya_call.specs.declared.chain.ask.Answer.{Answer}
+use Rattle.papaya_call.specs.declared.chain.machine.Machine.{Machine}
+use Rattle.papaya_call.specs.declared.chain.machine.Phase.TheVariants.{Calling}
+use Rattle.papaya_call.specs.ChainMachine.{IsFit, IsFitAsk, IsStanding, after, ask_of, asks_in, follows_of, kind_of_ask}
+use Rattle.papaya_call.specs.declared.chain.ask.Ask.TheVariants as asks
+use Rattle.papaya_call.specs.declared.chain.ask.Answer.TheVariants as answers
+use Rattle.papaya_call_law.specs.Goes.{IsInOrder, IsOwnStep, link_in}
+use Rattle.papaya_call_law.specs.ChainTold.{IsTold}
+use Rattle.papaya_call_law.proofs.Goes.{machine_goes}
+use Rattle.papaya_call_law.proofs.Names.{call_asks}
+use Rattle.papaya_call_law.proofs.Order.{in_order}
+use Rattle.papaya_call_law.proofs.Replies.{chain_task}
+use Rattle.papaya_call_law.proofs.ChainStanding.{chain_ask_fits, chain_stands}
+use Rattle.papaya_call_alone.specs.Ahead.{IsCurrent}
+use Rattle.papaya_call_alone.specs.Prompt.{IsBounded, IsServedAsk}
+use Rattle.papaya_call_alone.proofs.ChainLaw.{call_current, call_nears}
+use Rattle.papaya_call_alone.specs.Budget.{Spends, SpendsCall, SpendsCopy}
+use Rattle.papaya_call_alone.specs.Rank.{measure}
+use Rattle.papaya_words_law.specs.Code.{Coding, IsHashed}
+use Rattle.papaya_words_law.specs.Exchange.{Exchange, Setting, State as Words, run, start}
+use Rattle.papaya_words_law.specs.Class.{IsOn}
+use Rattle.papaya_words_law.specs.Allows.{AllAllowed}
+use Rattle.papaya_words_law.specs.Invariant.{IsSound}
+use Rattle.papaya_words_law.specs.Meaning.{map_left}
+use Rattle.papaya_words_law.proofs.Logs.{on_comes}
+use Rattle.papaya_words_law.proofs.OneMap.{keeping, keeping_sound}
 use Rattle.papaya_call_law.specs.Alone.{HasMetNone, IsSeeker, IsUnmatched}
 use Rattle.papaya_call_law.specs.Copier.{HasWords}
 use Rattle.papaya_call_law.specs.Told.{word_of}
 use Rattle.papaya_call_law.proofs.AloneUnmatched.{machine_meets_none}
-use Rattle.papaya_store.specs.Asks.{PerformsAsk}
-use Rattle.papaya_store.specs.Performs.{own_key, Exchanges, MakesTable, Refuses}
-use Rattle.papaya_store.specs.declared.pairs.Running.{Running}
-use Rattle.papaya_store.specs.Store.{StoreState, Stored}
-use Rattle.papaya_store.specs.Tables.{table_of, word_at, Tables, note, put}
-use Rattle.papaya_store.specs.Copies.{PerformsCopy}
-use Rattle.papaya_timeline.proofs.KeptAnswer.{IsAnswered as IsLeft}
-use Rattle.papaya_timeline.specs.Advances.{reply_in}
-use Rattle.papaya_timeline.specs.Core.{IsCore}
-use Rattle.papaya_timeline.specs.Kept.{CallTrace, IsKept, IsMadeFor, slots_in}
-use Rattle.papaya_timeline.specs.Solo.{whatever}
-use Rattle.papaya_timeline.proofs.BudgetSpends.{kept_bounded, budget_bounded}
-use Rattle.papaya_timeline.proofs.KeptSettings.{IsLawfulKeys}
-use Rattle.papaya_chain_law.proofs.LinkMade.{is_made, machine_made, made_is}
-use Rattle.papaya_timeline.proofs.MadeTables.{copy_made}
-use Rattle.papaya_timeline.proofs.StoreLemmas.{AllSized, IsKeptAsked, numbered, performed_ask, unnumbered, matched}
-use Rattle.papaya_timeline.specs.Ends.{budget_in, budget_of}
-use Rattle.papaya_timeline.proofs.BudgetLaw.{copy_chunk, copy_fewer}
-use Rattle.papaya_timeline.proofs.BudgetTables.{IsChunkOf, changes_at, noted-budget, placed-changes}
-use Rattle.papaya_timeline.proofs.KeptMade.{refusal}
-use Rattle.papaya_timeline.proofs.KeptTables.{IsPlaced, placed-many, table_low}
-use Rattle.papaya_timeline.proofs.KeptWritten.{asked_copy, placed_copy}
+use Rattle.papaya_core_store.specs.Asks.{PerformsAsk}
+use Rattle.papaya_core_store.specs.Performs.{own_key, Exchanges, MakesTable, Refuses}
+use Rattle.papaya_core_store.specs.declared.pairs.Running.{Running}
+use Rattle.papaya_core_store.specs.Store.{StoreState, Stored}
+use Rattle.papaya_core_store.specs.Tables.{table_of, word_at, Tables, note, put}
+use Rattle.papaya_core_store.specs.CopyAsks.{PerformsCopy}
+use Rattle.papaya_core_timeline.proofs.KeptAnswer.{IsAnswered as IsLeft}
+use Rattle.papaya_core_timeline.specs.Advances.{reply_in}
+use Rattle.papaya_core_timeline.specs.Core.{IsCore}
+use Rattle.papaya_core_timeline.specs.Kept.{CallTrace, IsKept, IsMadeFor, slots_in}
+use Rattle.papaya_core_timeline.specs.Solo.{whatever}
+use Rattle.papaya_core_timeline.proofs.BudgetSpends.{kept_bounded, budget_bounded}
+use Rattle.papaya_core_timeline.proofs.KeptSettings.{IsLawfulKeys}
+use Rattle.papaya_call_law.proofs.LinkMade.{is_made, machine_made, made_is}
+use Rattle.papaya_core_timeline.proofs.MadeTables.{copy_made}
+use Rattle.papaya_core_timeline.proofs.StoreLemmas.{AllSized, IsKeptAsked, numbered, performed_ask, unnumbered, matched}
+use Rattle.papaya_core_timeline.specs.Ends.{budget_in, budget_of}
+use Rattle.papaya_core_timeline.proofs.BudgetLaw.{copy_chunk, copy_fewer}
+use Rattle.papaya_core_timeline.proofs.BudgetTables.{IsChunkOf, changes_at, noted-budget, placed-changes}
+use Rattle.papaya_core_timeline.proofs.KeptMade.{refusal}
+use Rattle.papaya_core_timeline.proofs.KeptTables.{IsPlaced, placed-many, table_low}
+use Rattle.papaya_core_timeline.proofs.KeptWritten.{asked_copy, placed_copy}
 use Rattle.papaya_seq.specs.Map.{MapState}
 use Rattle.papaya_seq.specs.Lengths.{lengths_of}
 use Rattle.papaya_seq.proofs.CallLengths.{IsCallStep, long_more}

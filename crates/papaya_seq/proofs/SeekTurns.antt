@@ -4,76 +4,76 @@ use Rattle.std.proofs.Common.{None, Some, List, [], ◌∷◌, ◌++◌, append_
 use Rattle.std.proofs.Common.{◌∙◌, ap, subst}
 use denote.Ref.{Bor}
 use Rattle.std.specs.Fn.{Mut}
-use Rattle.papaya_ask.specs.declared.ask.At.{At}
-use Rattle.papaya_ask.specs.declared.ask.At.TheVariants.{Root, Next, Aborted, Done, Slot, Made as Made_word}
-use Rattle.papaya_ask.specs.declared.ask.Ask.{Ask as Call_ask}
-use Rattle.papaya_ask.specs.declared.ask.Ask.TheVariants.{Load, Exchange as Ask_exchange, LoadHint, SameKey, SizeOf, MakeTable}
-use Rattle.papaya_ask.specs.declared.ask.Answer.{Answer as Call_answer}
-use Rattle.papaya_ask.specs.declared.ask.Answer.TheVariants.{Word as Word_read, Yes, Size}
-use Rattle.papaya_ask.specs.declared.ask.StepKind.{StepKind}
-use Rattle.papaya_ask.specs.declared.ask.StepKind.TheVariants as kinds
-use Rattle.papaya_ask.specs.declared.copy_ask.CopyAsk.TheVariants as copies
-use Rattle.papaya_ask.specs.declared.search.Search.TheVariants.{Sizing, Looking, Reading, Comparing}
+use Rattle.papaya_call.specs.declared.ask.At.{At}
+use Rattle.papaya_call.specs.declared.ask.At.TheVariants.{Root, Next, Aborted, Done, Slot, Made as Made_word}
+use Rattle.papaya_call.specs.declared.ask.Ask.{Ask as Call_ask}
+use Rattle.papaya_call.specs.declared.ask.Ask.TheVariants.{Load, Exchange as Ask_exchange, LoadHint, SameKey, SizeOf, MakeTable}
+use Rattle.papaya_call.specs.declared.ask.Answer.{Answer as Call_answer}
+use Rattle.papaya_call.specs.declared.ask.Answer.TheVariants.{Word as Word_read, Yes, Size}
+use Rattle.papaya_call.specs.declared.ask.StepKind.{StepKind}
+use Rattle.papaya_call.specs.declared.ask.StepKind.TheVariants as kinds
+use Rattle.papaya_call.specs.declared.copy_ask.CopyAsk.TheVariants as copies
+use Rattle.papaya_call.specs.declared.search.Search.TheVariants.{Sizing, Looking, Reading, Comparing}
 use Rattle.papaya_call.specs.declared.machine.State.{State}
 use Rattle.papaya_call.specs.declared.machine.State.TheVariants.{AtRoot, Searching, Leaving, Ended}
 use Rattle.papaya_call.specs.declared.made.Made.{Made}
 use Rattle.papaya_call.specs.Machine as calls
-use Rattle.papaya_chain.specs.declared.ask.Ask.{Ask}
-use Rattle.papaya_chain.specs.declared.ask.Ask.TheVariants as asks
-use Rattle.papaya_chain.specs.declared.ask.Answer.{Answer}
-use Rattle.papaya_chain.specs.declared.ask.Answer.TheVariants as answers
-use Rattle.papaya_chain.specs.declared.machine.Machine.{Machine}
-use Rattle.papaya_chain.specs.Machine.{after, ask_of, follows_of, kind_of_ask}
-use Rattle.papaya_chain_law.specs.Relies.{Relies}
-use Rattle.papaya_chain_law.specs.Told.{IsTold}
-use Rattle.papaya_chain_law.proofs.Learns.{all_learns}
-use Rattle.papaya_chain_law.proofs.Names.{call_asks, copies_there}
-use Rattle.papaya_chain_law.proofs.Stable.{all_carries as relies_carries}
-use Rattle.papaya_law.specs.Allows.{AllAllowed}
-use Rattle.papaya_law.specs.Class.{IsOn}
-use Rattle.papaya_law.specs.Code.{Coding, IsHashed}
-use Rattle.papaya_law.specs.Exchange.{Exchange, Setting, State as Words, run, start}
-use Rattle.papaya_law.specs.Grows.{Agrees, Comes}
-use Rattle.papaya_law.specs.Meaning.{map_after, map_left, map_of}
-use Rattle.papaya_law.proofs.Alike.{alike_back, all_alike}
-use Rattle.papaya_law.proofs.Further.{key_agrees, key_alike}
-use Rattle.papaya_law.proofs.Grows.{all_carries, map_of_carries}
-use Rattle.papaya_law.proofs.Logs.{on_comes}
-use Rattle.papaya_law.proofs.Moments.{allowed_rest, map_of-append, run-append}
-use Rattle.papaya_law.proofs.OneMap.{start_keeps}
-use Rattle.papaya_law.specs.Hints.{IsHint}
-use Rattle.papaya_law.specs.Invariant.{named}
-use Rattle.papaya_law.specs.Later.{IsLater}
-use Rattle.papaya_law.proofs.Hints.{hint_agrees, hint_lasts}
-use Rattle.papaya_law.proofs.Later.{later_run}
+use Rattle.papaya_call.specs.declared.chain.ask.Ask.{Ask}
+use Rattle.papaya_call.specs.declared.chain.ask.Ask.TheVariants as asks
+use Rattle.papaya_call.specs.declared.chain.ask.Answer.{Answer}
+use Rattle.papaya_call.specs.declared.chain.ask.Answer.TheVariants as answers
+use Rattle.papaya_call.specs.declared.chain.machine.Machine.{Machine}
+use Rattle.papaya_call.specs.ChainMachine.{after, ask_of, follows_of, kind_of_ask}
+use Rattle.papaya_call_law.specs.ChainRelies.{Relies}
+use Rattle.papaya_call_law.specs.ChainTold.{IsTold}
+use Rattle.papaya_call_law.proofs.Learns.{all_learns}
+use Rattle.papaya_call_law.proofs.Names.{call_asks, copies_there}
+use Rattle.papaya_call_law.proofs.Stable.{all_carries as relies_carries}
+use Rattle.papaya_words_law.specs.Allows.{AllAllowed}
+use Rattle.papaya_words_law.specs.Class.{IsOn}
+use Rattle.papaya_words_law.specs.Code.{Coding, IsHashed}
+use Rattle.papaya_words_law.specs.Exchange.{Exchange, Setting, State as Words, run, start}
+use Rattle.papaya_words_law.specs.Grows.{Agrees, Comes}
+use Rattle.papaya_words_law.specs.Meaning.{map_after, map_left, map_of}
+use Rattle.papaya_words_law.proofs.Alike.{alike_back, all_alike}
+use Rattle.papaya_words_law.proofs.Further.{key_agrees, key_alike}
+use Rattle.papaya_words_law.proofs.Grows.{all_carries, map_of_carries}
+use Rattle.papaya_words_law.proofs.Logs.{on_comes}
+use Rattle.papaya_words_law.proofs.Moments.{allowed_rest, map_of-append, run-append}
+use Rattle.papaya_words_law.proofs.OneMap.{start_keeps}
+use Rattle.papaya_words_law.specs.Hints.{IsHint}
+use Rattle.papaya_words_law.specs.Invariant.{named}
+use Rattle.papaya_words_law.specs.Later.{IsLater}
+use Rattle.papaya_words_law.proofs.Hints.{hint_agrees, hint_lasts}
+use Rattle.papaya_words_law.proofs.Later.{later_run}
 use Rattle.papaya_call_law.specs.Copier.{HasWords, IsCopyAsked}
 use Rattle.papaya_call_law.specs.Relies.{change_after, change_in}
 use Rattle.papaya_call_law.specs.Told.{IsTold as IsCallTold, LoadedPairs as Call_loaded, told_of, word_of}
 use Rattle.papaya_call_law.proofs.ReliesNames.{IsNamed, ask_named}
-use Rattle.papaya_store.specs.Copies.{IsCallAnswer, PerformsCopy}
-use Rattle.papaya_store.specs.Performs.{own_key, size_of}
-use Rattle.papaya_store.specs.Store.{StoreState, Stored, pair_of}
-use Rattle.papaya_store.specs.Tables.{hint_at, table_of, word_at}
-use Rattle.papaya_store.specs.declared.pairs.Part.TheVariants.{Logged}
-use Rattle.papaya_store.specs.declared.pairs.Running.{Running}
-use Rattle.papaya_timeline.specs.Advances.{reply_in}
-use Rattle.papaya_timeline.specs.Content.{map_in}
-use Rattle.papaya_timeline.specs.Core.{IsCore}
-use Rattle.papaya_timeline.specs.Kept.{CallTrace, IsKept, IsLogged, IsMade, IsMadeFor, places_in, slots_in}
-use Rattle.papaya_timeline.proofs.KeptAnswer.{IsAnswered as IsLeft, Stands, own_told, quiet, told_last, told_made}
-use Rattle.papaya_ask.specs.declared.call.Reply.TheVariants.{Refused as Reply_refused}
-use Rattle.papaya_words.specs.declared.probe.Refused.{Refused}
-use Rattle.papaya_chain_law.specs.Goes.{IsCause, link_in}
-use Rattle.papaya_chain_law.proofs.Order.{in_order}
-use Rattle.papaya_chain_law.proofs.Refusals.{chain_refused}
-use Rattle.papaya_timeline.proofs.CoreLemmas.{reply_asked}
-use Rattle.papaya_timeline.proofs.KeptCopied.{Suits, answered_copy}
-use Rattle.papaya_timeline.proofs.KeptMap.{kept_map}
-use Rattle.papaya_timeline.proofs.KeptSettings.{IsLawfulKeys, grown_agrees}
-use Rattle.papaya_timeline.proofs.KeptWritten.{on_there}
-use Rattle.papaya_timeline.proofs.LinkWords.{link_words}
-use Rattle.papaya_timeline.proofs.StepEvents.{copy_told}
-use Rattle.papaya_timeline.proofs.StoreLemmas.{matched}
+use Rattle.papaya_core_store.specs.CopyAsks.{IsCallAnswer, PerformsCopy}
+use Rattle.papaya_core_store.specs.Performs.{own_key, size_of}
+use Rattle.papaya_core_store.specs.Store.{StoreState, Stored, pair_of}
+use Rattle.papaya_core_store.specs.Tables.{hint_at, table_of, word_at}
+use Rattle.papaya_core_store.specs.declared.pairs.Part.TheVariants.{Logged}
+use Rattle.papaya_core_store.specs.declared.pairs.Running.{Running}
+use Rattle.papaya_core_timeline.specs.Advances.{reply_in}
+use Rattle.papaya_core_timeline.specs.Content.{map_in}
+use Rattle.papaya_core_timeline.specs.Core.{IsCore}
+use Rattle.papaya_core_timeline.specs.Kept.{CallTrace, IsKept, IsLogged, IsMade, IsMadeFor, places_in, slots_in}
+use Rattle.papaya_core_timeline.proofs.KeptAnswer.{IsAnswered as IsLeft, Stands, own_told, quiet, told_last, told_made}
+use Rattle.papaya_call.specs.declared.call.Reply.TheVariants.{Refused as Reply_refused}
+use Rattle.papaya_words.specs.declared.refused.Refused.{Refused}
+use Rattle.papaya_call_law.specs.Goes.{IsCause, link_in}
+use Rattle.papaya_call_law.proofs.Order.{in_order}
+use Rattle.papaya_call_law.proofs.Refusals.{chain_refused}
+use Rattle.papaya_core_timeline.proofs.CoreLemmas.{reply_asked}
+use Rattle.papaya_core_timeline.proofs.KeptCopied.{Suits, answered_copy}
+use Rattle.papaya_core_timeline.proofs.KeptMap.{kept_map}
+use Rattle.papaya_core_timeline.proofs.KeptSettings.{IsLawfulKeys, grown_agrees}
+use Rattle.papaya_core_timeline.proofs.KeptWritten.{on_there}
+use Rattle.papaya_core_timeline.proofs.LinkWords.{link_words}
+use Rattle.papaya_core_timeline.proofs.StepEvents.{copy_told}
+use Rattle.papaya_core_timeline.proofs.StoreLemmas.{matched}
 use Rattle.papaya_seq.specs.Looks.{matches_in}
 use Rattle.papaya_seq.specs.Map.{MapState}
 use Rattle.papaya_seq.specs.Removes.{IsRemovalAnswer}

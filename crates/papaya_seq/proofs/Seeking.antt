@@ -2,38 +2,38 @@
 use Rattle.std.proofs.Common.{◌≡◌, ◌⊎◌, ℕ, ◌^◌, ◌<◌, Bool, false, Option, None, Some, List, [], ◌++◌, length, refl, sym, subst, arith, append-nil}
 use Rattle.std.proofs.Math.Pow.{pow_pos}
 use Rattle.papaya_words.specs.Table.{TableWords}
-use Rattle.papaya_words.specs.declared.probe.ResizeMode.{ResizeMode}
-use Rattle.papaya_words.specs.declared.probe.ResizeMode.TheVariants.{Incremental, Blocking}
-use Rattle.papaya_words.specs.declared.probe.Refused.{Refused}
-use Rattle.papaya_ask.specs.Search.{IsSize}
-use Rattle.papaya_ask.specs.declared.ask.At.{At}
-use Rattle.papaya_ask.specs.declared.ask.At.TheVariants.{Root, Next, Aborted, Done, Slot, Made}
-use Rattle.papaya_ask.specs.declared.call.Reply.TheVariants.{Absent, Refused as Reply_refused}
-use Rattle.papaya_ask.specs.declared.call.Task.TheVariants.{RemoveIf}
+use Rattle.papaya_words.specs.declared.resize_mode.ResizeMode.{ResizeMode}
+use Rattle.papaya_words.specs.declared.resize_mode.ResizeMode.TheVariants.{Incremental, Blocking}
+use Rattle.papaya_words.specs.declared.refused.Refused.{Refused}
+use Rattle.papaya_call.specs.Search.{IsSize}
+use Rattle.papaya_call.specs.declared.ask.At.{At}
+use Rattle.papaya_call.specs.declared.ask.At.TheVariants.{Root, Next, Aborted, Done, Slot, Made}
+use Rattle.papaya_call.specs.declared.call.Reply.TheVariants.{Absent, Refused as Reply_refused}
+use Rattle.papaya_call.specs.declared.call.Task.TheVariants.{RemoveIf}
 use Rattle.papaya_call.specs.declared.machine.State.{State}
 use Rattle.papaya_call.specs.declared.machine.State.TheVariants.{AtRoot, Searching, Leaving, Ended}
-use Rattle.papaya_chain.specs.declared.machine.Machine.{Machine}
-use Rattle.papaya_chain.specs.Machine.{IsStanding, started}
-use Rattle.papaya_copy.specs.declared.link.Link.TheVariants.{Linking}
-use Rattle.papaya_chain_law.specs.Goes.{link_in}
-use Rattle.papaya_chain_law.specs.Relies.{Relies}
-use Rattle.papaya_chain_law.specs.Told.{nothing_loaded}
-use Rattle.papaya_chain_law.proofs.Standing.{started_stands}
-use Rattle.papaya_alone.specs.Ahead.{IsCurrent}
-use Rattle.papaya_law.specs.Code.{Coding, IsHashed}
-use Rattle.papaya_law.specs.Exchange.{Setting, State as Words, Word, Empty, Closed, Live, Marked, Copied, Buried}
-use Rattle.papaya_law.specs.Hints.{IsHintOf}
-use Rattle.papaya_law.specs.Further.{IsLawfulKey, coding_with, with_key}
-use Rattle.papaya_law.proofs.Further.{key_code, key_lawful}
+use Rattle.papaya_call.specs.declared.chain.machine.Machine.{Machine}
+use Rattle.papaya_call.specs.ChainMachine.{IsStanding, started}
+use Rattle.papaya_call.specs.declared.copy.link.Link.TheVariants.{Linking}
+use Rattle.papaya_call_law.specs.Goes.{link_in}
+use Rattle.papaya_call_law.specs.ChainRelies.{Relies}
+use Rattle.papaya_call_law.specs.ChainTold.{nothing_loaded}
+use Rattle.papaya_call_law.proofs.ChainStanding.{started_stands}
+use Rattle.papaya_call_alone.specs.Ahead.{IsCurrent}
+use Rattle.papaya_words_law.specs.Code.{Coding, IsHashed}
+use Rattle.papaya_words_law.specs.Exchange.{Setting, State as Words, Word, Empty, Closed, Live, Marked, Copied, Buried}
+use Rattle.papaya_words_law.specs.Hints.{IsHintOf}
+use Rattle.papaya_words_law.specs.Further.{IsLawfulKey, coding_with, with_key}
+use Rattle.papaya_words_law.proofs.Further.{key_code, key_lawful}
 use Rattle.papaya_call_law.specs.Relies.{IsModeOf}
 use Rattle.papaya_call_law.proofs.ReliesLearnPairs.{wanted_relies}
 use Rattle.papaya_call_law.specs.Told.{IsOneOf, word_of}
-use Rattle.papaya_store.specs.Store.{StoreState, Stored}
-use Rattle.papaya_store.specs.Tables.{table_of, word_at}
-use Rattle.papaya_timeline.specs.Core.{IsCore}
-use Rattle.papaya_chain_law.specs.ScanTold as scans
-use Rattle.papaya_timeline.specs.Kept.{CallTrace, IsKept, IsLogged, IsMadeFor, coding_of, is_blocking, low, setting_of, slots_in}
-use Rattle.papaya_timeline.proofs.KeptSettings.{IsLawfulKeys, tables_hashed}
+use Rattle.papaya_core_store.specs.Store.{StoreState, Stored}
+use Rattle.papaya_core_store.specs.Tables.{table_of, word_at}
+use Rattle.papaya_core_timeline.specs.Core.{IsCore}
+use Rattle.papaya_call_law.specs.ScanTold as scans
+use Rattle.papaya_core_timeline.specs.Kept.{CallTrace, IsKept, IsLogged, IsMadeFor, coding_of, is_blocking, low, setting_of, slots_in}
+use Rattle.papaya_core_timeline.proofs.KeptSettings.{IsLawfulKeys, tables_hashed}
 use Rattle.papaya_seq.proofs.CallLengths.{IsLong, long_begun}
 use Rattle.papaya_seq.proofs.Numbered.{begun_number}
 use Rattle.papaya_seq.specs.Map.{IsLawfulMap, MapState, Unchanged}

@@ -2,13 +2,13 @@
 use Rattle.std.proofs.Common.{◌≡◌, ℕ, ◌==◌, Bool, Option, None, Some, refl, sym, ◌∙◌, subst}
 use Rattle.std.proofs.lemmas.Bool.{cond_both}
 use Rattle.papaya_words.specs.Word.{pair_of}
-use Rattle.papaya_ask.specs.declared.ask.Answer.{Answer}
-use Rattle.papaya_ask.specs.declared.ask.Answer.TheVariants.{Word as Word_read, Exchanged}
-use Rattle.papaya_ask.specs.declared.ask.Answer.TheVariants.{Found as Found_instead, Yes, Op, Size}
-use Rattle.papaya_ask.specs.declared.ask.Answer.TheVariants.{Made as Made_number, Ok as Ok_done}
-use Rattle.papaya_ask.specs.declared.ask.Answer.TheVariants.{Refused as Was_refused}
-use Rattle.papaya_ask.specs.declared.call.Reply.TheVariants.{Replaced}
-use Rattle.papaya_ask.specs.declared.call.Task.TheVariants.{Insert}
+use Rattle.papaya_call.specs.declared.ask.Answer.{Answer}
+use Rattle.papaya_call.specs.declared.ask.Answer.TheVariants.{Word as Word_read, Exchanged}
+use Rattle.papaya_call.specs.declared.ask.Answer.TheVariants.{Found as Found_instead, Yes, Op, Size}
+use Rattle.papaya_call.specs.declared.ask.Answer.TheVariants.{Made as Made_number, Ok as Ok_done}
+use Rattle.papaya_call.specs.declared.ask.Answer.TheVariants.{Refused as Was_refused}
+use Rattle.papaya_call.specs.declared.call.Reply.TheVariants.{Replaced}
+use Rattle.papaya_call.specs.declared.call.Task.TheVariants.{Insert}
 use Rattle.papaya_call.specs.declared.machine.Machine.{Machine}
 use Rattle.papaya_call.specs.declared.machine.State.{State}
 use Rattle.papaya_call.specs.declared.machine.State.TheVariants.{AtRoot, Making, Opening, Searching}
@@ -24,7 +24,7 @@ use Rattle.papaya_call.specs.Compute.{in_place_of}
 use Rattle.papaya_call.specs.Made.{answered, grown, taken, told}
 use Rattle.papaya_call.specs.Machine.{after, made_in, made_to_pair, number_told, write_made, write_taken}
 use Rattle.papaya_call.specs.Write.{claimed_by, made_to_write, serves, write_grown}
-use Rattle.papaya_chain_law.specs.Relies.{left_by}
+use Rattle.papaya_call_law.specs.ChainRelies.{left_by}
 use Rattle.papaya_call_law.proofs.Makings.{write_then, write_then_is}
 use Rattle.papaya_seq.proofs.Causes.{IsPairStage, PairsFirst}
 use Rattle.papaya_seq.proofs.Logs.{IsFirst, IsUnmade, answered_like, grown_like, like_unmade, placed_serves, taken_like, told_like}

@@ -5,11 +5,11 @@ use denote.Ref.{Bor}
 use Rattle.std.specs.Cmp.{IsEquivalence}
 use Rattle.std.specs.Fn.{Called, Mut}
 use Rattle.papaya_call.specs.Answers.{Says}
-use Rattle.papaya_law.specs.Content.{AreApart, lookup}
-use Rattle.papaya_store.specs.Store.{StoreState, Stored}
-use Rattle.papaya_timeline.specs.Content.{content, map_in}
-use Rattle.papaya_timeline.specs.Solo.{IsWithin}
-use Rattle.papaya_timeline.proofs.SoloTimeline.{lookup_alike}
+use Rattle.papaya_words_law.specs.Content.{AreApart, lookup}
+use Rattle.papaya_core_store.specs.Store.{StoreState, Stored}
+use Rattle.papaya_core_timeline.specs.Content.{content, map_in}
+use Rattle.papaya_core_timeline.specs.Solo.{IsWithin}
+use Rattle.papaya_core_timeline.proofs.SoloTimeline.{lookup_alike}
 use Rattle.papaya_seq.specs.Calls.{IsSifted, Sifts}
 use Rattle.papaya_seq.specs.Retains.{Retains}
 

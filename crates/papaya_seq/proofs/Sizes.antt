@@ -3,27 +3,27 @@ use Rattle.std.proofs.Common.{◌≡◌, ℕ, ◌==◌, ◌^◌, nat_le, Bool, O
 use Rattle.std.proofs.lemmas.Bool.{cond_both}
 use Rattle.papaya_words.specs.Chunks.{chunk_count, chunk_len}
 use Rattle.papaya_words.specs.Table.{TableWords, length_after}
-use Rattle.papaya_words.specs.declared.probe.Refused.{Refused}
-use Rattle.papaya_words.specs.declared.probe.Refused.TheVariants.{Capacity}
-use Rattle.papaya_words.specs.declared.probe.ResizeMode.{ResizeMode}
-use Rattle.papaya_ask.specs.declared.ask.Answer.TheVariants.{Size}
-use Rattle.papaya_copy.specs.declared.link.Link.{Link}
-use Rattle.papaya_copy.specs.declared.link.Link.TheVariants as links
-use Rattle.papaya_copy.specs.declared.link.Linked.TheVariants as linked
-use Rattle.papaya_copy.specs.Link as link
-use Rattle.papaya_copy.specs.Link.{link_ask}
-use Rattle.papaya_chain.specs.declared.ask.Answer.{Answer}
-use Rattle.papaya_chain.specs.declared.ask.Answer.TheVariants as answers
-use Rattle.papaya_chain.specs.declared.machine.Machine.{Machine}
-use Rattle.papaya_chain.specs.declared.ask.Ask.TheVariants as asks
-use Rattle.papaya_chain.specs.declared.machine.Phase.{Phase}
-use Rattle.papaya_chain.specs.declared.machine.Phase.TheVariants.{Calling, Linking, Copying as Copying_root}
-use Rattle.papaya_chain.specs.Machine as machine
-use Rattle.papaya_chain.specs.Machine.{ask_of, asks_in}
-use Rattle.papaya_chain_law.specs.Goes.{link_in}
-use Rattle.papaya_chain_law.proofs.CopyRefusals.{copying_asks}
-use Rattle.papaya_chain_law.proofs.LinkStates.{In, IsStable, Linked_in, Of, machine_holds}
-use Rattle.papaya_store.specs.Performs.{size_of}
+use Rattle.papaya_words.specs.declared.refused.Refused.{Refused}
+use Rattle.papaya_words.specs.declared.refused.Refused.TheVariants.{Capacity}
+use Rattle.papaya_words.specs.declared.resize_mode.ResizeMode.{ResizeMode}
+use Rattle.papaya_call.specs.declared.ask.Answer.TheVariants.{Size}
+use Rattle.papaya_call.specs.declared.copy.link.Link.{Link}
+use Rattle.papaya_call.specs.declared.copy.link.Link.TheVariants as links
+use Rattle.papaya_call.specs.declared.copy.link.Linked.TheVariants as linked
+use Rattle.papaya_call.specs.Link as link
+use Rattle.papaya_call.specs.Link.{link_ask}
+use Rattle.papaya_call.specs.declared.chain.ask.Answer.{Answer}
+use Rattle.papaya_call.specs.declared.chain.ask.Answer.TheVariants as answers
+use Rattle.papaya_call.specs.declared.chain.machine.Machine.{Machine}
+use Rattle.papaya_call.specs.declared.chain.ask.Ask.TheVariants as asks
+use Rattle.papaya_call.specs.declared.chain.machine.Phase.{Phase}
+use Rattle.papaya_call.specs.declared.chain.machine.Phase.TheVariants.{Calling, Linking, Copying as Copying_root}
+use Rattle.papaya_call.specs.ChainMachine as machine
+use Rattle.papaya_call.specs.ChainMachine.{ask_of, asks_in}
+use Rattle.papaya_call_law.specs.Goes.{link_in}
+use Rattle.papaya_call_law.proofs.CopyRefusals.{copying_asks}
+use Rattle.papaya_call_law.proofs.LinkStates.{In, IsStable, Linked_in, Of, machine_holds}
+use Rattle.papaya_core_store.specs.Performs.{size_of}
 
 -- `Sized` is what the number of a table and that of its slots are.
 module _ (Sized : ℕ → ℕ → Type 0) where

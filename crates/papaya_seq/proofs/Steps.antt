@@ -1,50 +1,50 @@
 -- The call of a map for one caller as the steps of a core with one seat.
 use Rattle.std.proofs.Common.{◌≡◌, ◌⊎◌, ℕ, suc, ◌^◌, ◌<◌, Bool, false, Option, None, Some, List, [], ◌∷◌, ◌++◌, inl, refl, sym, ◌∙◌, ap, subst, arith}
-use Rattle.papaya_words.specs.declared.probe.Refused.{Refused}
-use Rattle.papaya_store.specs.declared.mode.Mode.{Mode}
-use Rattle.papaya_ask.specs.declared.call.Reply.{Reply}
-use Rattle.papaya_ask.specs.declared.call.Reply.TheVariants.{Refused as Reply_refused}
+use Rattle.papaya_words.specs.declared.refused.Refused.{Refused}
+use Rattle.papaya_core_store.specs.declared.store.Mode.{Mode}
+use Rattle.papaya_call.specs.declared.call.Reply.{Reply}
+use Rattle.papaya_call.specs.declared.call.Reply.TheVariants.{Refused as Reply_refused}
 use Rattle.papaya_call_law.specs.Relies.{change_in}
 use Rattle.papaya_call_law.specs.Says.{IsSaidBy, Said, ShowsPairs, StandsOn}
-use Rattle.papaya_ask.specs.declared.ask.At.TheVariants.{Made}
-use Rattle.papaya_ask.specs.declared.copy_ask.CopyAsk.TheVariants.{Exchange}
-use Rattle.papaya_chain.specs.declared.ask.Answer.{Answer}
-use Rattle.papaya_chain.specs.declared.ask.Ask.TheVariants as asks
-use Rattle.papaya_chain.specs.declared.machine.Machine.{Machine}
-use Rattle.papaya_chain.specs.Machine.{after, ask_of, kind_of_ask}
-use Rattle.papaya_chain_law.specs.Goes.{Goes, IsCause, IsInOrder, IsOwnStep}
-use Rattle.papaya_chain_law.proofs.Goes.{machine_goes}
-use Rattle.papaya_chain_law.proofs.Names.{copies_there}
-use Rattle.papaya_chain_law.proofs.Order.{in_order}
-use Rattle.papaya_chain_law.proofs.Refusals.{chain_refused}
-use Rattle.papaya_chain_law.proofs.Replies.{chain_said, chain_shows, chain_task}
-use Rattle.papaya_law.specs.Allows.{AllAllowed}
-use Rattle.papaya_law.specs.Exchange.{run, start as first_state}
-use Rattle.papaya_store.specs.Asks.{PerformsAsk}
-use Rattle.papaya_store.specs.Performs.{own_key}
-use Rattle.papaya_store.specs.Store.{KeepsPairs, StoreState}
-use Rattle.papaya_store.specs.declared.pairs.Running.{Running}
-use Rattle.papaya_timeline.specs.declared.trace.Entry.{Entry}
-use Rattle.papaya_timeline.specs.declared.trace.Event.{Event}
-use Rattle.papaya_timeline.specs.declared.trace.Event.TheVariants.{Begun, Replied}
-use Rattle.papaya_timeline.specs.declared.seat.Seat.{Seat}
-use Rattle.papaya_timeline.specs.Advances.{Advances, event_of, goes_on, reply_in}
-use Rattle.papaya_timeline.specs.Callers.{as_work, call_in, running}
-use Rattle.papaya_timeline.specs.Core.{CoreState}
-use Rattle.papaya_timeline.specs.Ends.{IsLone, IsNearer, lone_measure}
-use Rattle.papaya_timeline.specs.Kept.{IsLawfulCore, coding_of, low, setting_of, told_call_traces}
-use Rattle.papaya_timeline.specs.Resized.{IsLoneWork}
-use Rattle.papaya_timeline.specs.Runs.{History, StepsRun, with_event, with_step}
-use Rattle.papaya_timeline.specs.Solo.{whatever}
-use Rattle.papaya_timeline.proofs.Abandoned.{IsLeft, call_left}
-use Rattle.papaya_timeline.proofs.CallersLemmas.{same_item}
-use Rattle.papaya_timeline.proofs.CoreLemmas.{reply_asked}
-use Rattle.papaya_timeline.proofs.HeadlineLemmas.{advance-core}
-use Rattle.papaya_timeline.proofs.KeptCore.{performs-hasher}
-use Rattle.papaya_timeline.proofs.KeptLemmas.{IsLawfulKeys, IsStep, kept_step}
-use Rattle.papaya_timeline.proofs.KeptSettings.{tables_hashed}
-use Rattle.papaya_timeline.proofs.KeptStep as kept_steps
-use Rattle.papaya_timeline.proofs.SoloEnds.{lone_begin, lone_step}
+use Rattle.papaya_call.specs.declared.ask.At.TheVariants.{Made}
+use Rattle.papaya_call.specs.declared.copy_ask.CopyAsk.TheVariants.{Exchange}
+use Rattle.papaya_call.specs.declared.chain.ask.Answer.{Answer}
+use Rattle.papaya_call.specs.declared.chain.ask.Ask.TheVariants as asks
+use Rattle.papaya_call.specs.declared.chain.machine.Machine.{Machine}
+use Rattle.papaya_call.specs.ChainMachine.{after, ask_of, kind_of_ask}
+use Rattle.papaya_call_law.specs.Goes.{Goes, IsCause, IsInOrder, IsOwnStep}
+use Rattle.papaya_call_law.proofs.Goes.{machine_goes}
+use Rattle.papaya_call_law.proofs.Names.{copies_there}
+use Rattle.papaya_call_law.proofs.Order.{in_order}
+use Rattle.papaya_call_law.proofs.Refusals.{chain_refused}
+use Rattle.papaya_call_law.proofs.Replies.{chain_said, chain_shows, chain_task}
+use Rattle.papaya_words_law.specs.Allows.{AllAllowed}
+use Rattle.papaya_words_law.specs.Exchange.{run, start as first_state}
+use Rattle.papaya_core_store.specs.Asks.{PerformsAsk}
+use Rattle.papaya_core_store.specs.Performs.{own_key}
+use Rattle.papaya_core_store.specs.Store.{KeepsPairs, StoreState}
+use Rattle.papaya_core_store.specs.declared.pairs.Running.{Running}
+use Rattle.papaya_core_timeline.specs.declared.trace.Entry.{Entry}
+use Rattle.papaya_core_timeline.specs.declared.trace.Event.{Event}
+use Rattle.papaya_core_timeline.specs.declared.trace.Event.TheVariants.{Begun, Replied}
+use Rattle.papaya_core_timeline.specs.declared.seat.Seat.{Seat}
+use Rattle.papaya_core_timeline.specs.Advances.{Advances, event_of, goes_on, reply_in}
+use Rattle.papaya_core_timeline.specs.Callers.{as_work, call_in, running}
+use Rattle.papaya_core_timeline.specs.Core.{CoreState}
+use Rattle.papaya_core_timeline.specs.Ends.{IsLone, IsNearer, lone_measure}
+use Rattle.papaya_core_timeline.specs.Kept.{IsLawfulCore, coding_of, low, setting_of, told_call_traces}
+use Rattle.papaya_core_timeline.specs.Resized.{IsLoneWork}
+use Rattle.papaya_core_timeline.specs.Runs.{History, StepsRun, with_event, with_step}
+use Rattle.papaya_core_timeline.specs.Solo.{whatever}
+use Rattle.papaya_core_timeline.proofs.Abandoned.{IsLeft, call_left}
+use Rattle.papaya_core_timeline.proofs.CallersLemmas.{same_item}
+use Rattle.papaya_core_timeline.proofs.CoreLemmas.{reply_asked}
+use Rattle.papaya_core_timeline.proofs.HeadlineLemmas.{advance-core}
+use Rattle.papaya_core_timeline.proofs.KeptCore.{performs-hasher}
+use Rattle.papaya_core_timeline.proofs.KeptLemmas.{IsLawfulKeys, IsStep, kept_step}
+use Rattle.papaya_core_timeline.proofs.KeptSettings.{tables_hashed}
+use Rattle.papaya_core_timeline.proofs.KeptStep as kept_steps
+use Rattle.papaya_core_timeline.proofs.SoloEnds.{lone_begin, lone_step}
 use Rattle.papaya_seq.specs.Map.{Grows, IsLawfulMap, MapState, Unchanged, core_of}
 use Rattle.papaya_seq.proofs.CallLengths.{IsLong, long_begun, long_left, long_more, performed_so}
 use Rattle.papaya_seq.proofs.Ending.{left_of, left_to}

@@ -1,19 +1,19 @@
 -- A step that a call makes for itself, and what it was answered.
 use Rattle.std.proofs.Common.{◌≡◌, inl, inr, ℕ, Bool, false, Option, None, Some, sym, ◌∙◌, subst}
-use Rattle.papaya_ask.specs.declared.ask.Answer.{Answer as Call_answer}
+use Rattle.papaya_call.specs.declared.ask.Answer.{Answer as Call_answer}
 use Rattle.papaya_call.specs.Answers.{Says}
 use Rattle.papaya_call.specs.Machine.{ask_of as call_ask}
-use Rattle.papaya_chain.specs.declared.ask.Answer.{Answer}
-use Rattle.papaya_chain.specs.declared.ask.Answer.TheVariants as answers
-use Rattle.papaya_chain.specs.declared.machine.Machine.{Machine}
-use Rattle.papaya_chain.specs.declared.machine.Phase.TheVariants.{Calling}
-use Rattle.papaya_chain.specs.Machine.{ask_of, asks_in}
-use Rattle.papaya_chain_law.specs.Goes.{Goes, IsOwnStep}
-use Rattle.papaya_chain_law.specs.Relies.{left_by}
-use Rattle.papaya_store.specs.Asks.{PerformsAsk}
-use Rattle.papaya_store.specs.Performs.{Performs}
-use Rattle.papaya_store.specs.Store.{StoreState}
-use Rattle.papaya_store.specs.declared.pairs.Running.{Running}
+use Rattle.papaya_call.specs.declared.chain.ask.Answer.{Answer}
+use Rattle.papaya_call.specs.declared.chain.ask.Answer.TheVariants as answers
+use Rattle.papaya_call.specs.declared.chain.machine.Machine.{Machine}
+use Rattle.papaya_call.specs.declared.chain.machine.Phase.TheVariants.{Calling}
+use Rattle.papaya_call.specs.ChainMachine.{ask_of, asks_in}
+use Rattle.papaya_call_law.specs.Goes.{Goes, IsOwnStep}
+use Rattle.papaya_call_law.specs.ChainRelies.{left_by}
+use Rattle.papaya_core_store.specs.Asks.{PerformsAsk}
+use Rattle.papaya_core_store.specs.Performs.{Performs}
+use Rattle.papaya_core_store.specs.Store.{StoreState}
+use Rattle.papaya_core_store.specs.declared.pairs.Running.{Running}
 
 -- a call that is not set aside goes on for itself
 pub own_step : (m : Machine) (answer : Answer) → Goes m answer → ((t : ℕ) → left_by m.call.state ≡ Some t → ⊥) → IsOwnStep m answer

@@ -4,14 +4,14 @@ use Rattle.std.proofs.lemmas.Bool.{cond_both}
 use Rattle.papaya_words.specs.Word.{kind_of, may_hold}
 use Rattle.papaya_words.specs.declared.word.Kind.{Kind}
 use Rattle.papaya_words.specs.declared.word.Kind.TheVariants as kinds
-use Rattle.papaya_ask.specs.Search.{at_size, at_word, at_yes, go_on, hinted, look_at, match_at, next_place}
-use Rattle.papaya_ask.specs.declared.search.Place.{Place}
-use Rattle.papaya_ask.specs.declared.search.Search.{Search}
-use Rattle.papaya_ask.specs.declared.search.Search.TheVariants.{Sizing, Looking, Reading, Comparing}
-use Rattle.papaya_ask.specs.declared.search.Probed.{Probed}
-use Rattle.papaya_ask.specs.declared.search.Probed.TheVariants as seen
-use Rattle.papaya_alone.specs.Rank.{table_of}
-use Rattle.papaya_store.specs.Store.{Stored}
+use Rattle.papaya_call.specs.Search.{at_size, at_word, at_yes, go_on, hinted, look_at, match_at, next_place}
+use Rattle.papaya_call.specs.declared.search.Place.{Place}
+use Rattle.papaya_call.specs.declared.search.Search.{Search}
+use Rattle.papaya_call.specs.declared.search.Search.TheVariants.{Sizing, Looking, Reading, Comparing}
+use Rattle.papaya_call.specs.declared.search.ProbeStep.{ProbeStep}
+use Rattle.papaya_call.specs.declared.search.ProbeStep.TheVariants as seen
+use Rattle.papaya_call_alone.specs.Rank.{table_of}
+use Rattle.papaya_core_store.specs.Store.{Stored}
 use Rattle.papaya_seq.specs.Looks.{matches_in}
 
 -- a word of this kind names a pair in whose key the search may find its own
@@ -35,7 +35,7 @@ module _ (May : ℕ → Type 0) where
   IsSearchIn t search = (table_of search ≡ t) × MayCompare search
 
   -- what a search of the table has seen
-  abbrev pub IsSeenIn : ℕ → Probed → Type 0
+  abbrev pub IsSeenIn : ℕ → ProbeStep → Type 0
   IsSeenIn t (seen.On search) = IsSearchIn t search
   IsSeenIn t (seen.Empty at) = at.table ≡ t
   IsSeenIn t (seen.Here at word) = (at.table ≡ t) × May word × (kind_of word ≡ kinds.Copied → ⊥)

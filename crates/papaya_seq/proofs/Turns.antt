@@ -1,20 +1,20 @@
 -- The whole of one call of a map for one caller, as turns of a core with one seat.
 use Rattle.std.proofs.Common.{◌≡◌, ℕ, ◌^◌, ◌<◌, ◌≤◌, Bool, Option, None, Some, [], ◌∷◌, length, inl, refl, subst}
 use Rattle.std.specs.Int.{IsPowerOfTwo}
-use Rattle.papaya_store.specs.declared.mode.Mode.{Mode}
-use Rattle.papaya_ask.specs.declared.call.Call.{Call}
-use Rattle.papaya_ask.specs.declared.call.Reply.{Reply}
-use Rattle.papaya_store.specs.Store.{StoreState}
-use Rattle.papaya_timeline.specs.declared.seat.Work.{Work}
-use Rattle.papaya_timeline.specs.declared.trace.Entry.{Entry}
-use Rattle.papaya_timeline.specs.declared.trace.Event.{Event}
-use Rattle.papaya_timeline.specs.declared.trace.Event.TheVariants.{Begun, Replied}
-use Rattle.papaya_timeline.specs.declared.trace.Turn.TheVariants.{Begin, Finish}
-use Rattle.papaya_timeline.specs.Begins.{Begins, begun_work}
-use Rattle.papaya_timeline.specs.Core.{CoreState}
-use Rattle.papaya_timeline.specs.Maps.{key_of}
-use Rattle.papaya_timeline.specs.Runs.{History, StepsRun, TurnsRun, with_event, with_step}
-use Rattle.papaya_timeline.specs.Solo.{RunsAlone, whatever}
+use Rattle.papaya_core_store.specs.declared.store.Mode.{Mode}
+use Rattle.papaya_call.specs.declared.call.Call.{Call}
+use Rattle.papaya_call.specs.declared.call.Reply.{Reply}
+use Rattle.papaya_core_store.specs.Store.{StoreState}
+use Rattle.papaya_core_timeline.specs.declared.seat.Work.{Work}
+use Rattle.papaya_core_timeline.specs.declared.trace.Entry.{Entry}
+use Rattle.papaya_core_timeline.specs.declared.trace.Event.{Event}
+use Rattle.papaya_core_timeline.specs.declared.trace.Event.TheVariants.{Begun, Replied}
+use Rattle.papaya_core_timeline.specs.declared.trace.Turn.TheVariants.{Begin, Finish}
+use Rattle.papaya_core_timeline.specs.Begins.{Begins, begun_work}
+use Rattle.papaya_core_timeline.specs.Core.{CoreState}
+use Rattle.papaya_core_timeline.specs.Maps.{key_of}
+use Rattle.papaya_core_timeline.specs.Runs.{History, StepsRun, TurnsRun, with_event, with_step}
+use Rattle.papaya_core_timeline.specs.Solo.{RunsAlone, whatever}
 use Rattle.papaya_seq.specs.Lengths.{IsLongEnough}
 use Rattle.papaya_seq.specs.Map.{MapState, core_of}
 

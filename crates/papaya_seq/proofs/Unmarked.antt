@@ -2,19 +2,19 @@
 use Rattle.std.proofs.Common.{◌≡◌, ℕ, ◌<◌, Bool, None, Option, Some, List, refl, ◌∙◌, ap, subst, arith}
 use Rattle.papaya_words.specs.Table.{TableWords}
 use Rattle.papaya_words.specs.Word.{kind_of}
-use Rattle.papaya_store.specs.declared.mode.Mode.{Mode}
+use Rattle.papaya_core_store.specs.declared.store.Mode.{Mode}
 use Rattle.papaya_words.specs.declared.word.Kind.TheVariants as kinds
-use Rattle.papaya_ask.specs.declared.ask.At.TheVariants.{Next, Slot}
-use Rattle.papaya_law.specs.Code.{IsOfKind}
-use Rattle.papaya_law.specs.Exchange.{run, start}
-use Rattle.papaya_law.specs.Invariant.{shut}
-use Rattle.papaya_law.proofs.CodeViews.{word_of_kind}
-use Rattle.papaya_law.proofs.OneMap.{sound}
-use Rattle.papaya_store.specs.Store.{StoreState}
-use Rattle.papaya_store.specs.Tables.{table_of, word_at, word_in}
-use Rattle.papaya_timeline.specs.Kept.{IsLawfulCore, coding_of, low, setting_of}
-use Rattle.papaya_timeline.specs.declared.seat.Seat.{Seat}
-use Rattle.papaya_timeline.proofs.KeptSettings.{IsLawfulKeys, tables_hashed}
+use Rattle.papaya_call.specs.declared.ask.At.TheVariants.{Next, Slot}
+use Rattle.papaya_words_law.specs.Code.{IsOfKind}
+use Rattle.papaya_words_law.specs.Exchange.{run, start}
+use Rattle.papaya_words_law.specs.Invariant.{shut}
+use Rattle.papaya_words_law.proofs.CodeViews.{word_of_kind}
+use Rattle.papaya_words_law.proofs.OneMap.{sound}
+use Rattle.papaya_core_store.specs.Store.{StoreState}
+use Rattle.papaya_core_store.specs.Tables.{table_of, word_at, word_in}
+use Rattle.papaya_core_timeline.specs.Kept.{IsLawfulCore, coding_of, low, setting_of}
+use Rattle.papaya_core_timeline.specs.declared.seat.Seat.{Seat}
+use Rattle.papaya_core_timeline.proofs.KeptSettings.{IsLawfulKeys, tables_hashed}
 use Rattle.papaya_seq.specs.Map.{next_in, next_of}
 
 -- the next table's number is the word that stands there

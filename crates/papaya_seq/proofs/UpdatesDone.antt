@@ -3,15 +3,15 @@ use Rattle.std.proofs.Common.{◌≡◌, ⊎_elim, inl, inr, ℕ, Bool, Option, 
 use Rattle.std.proofs.Common.{IfOk, IsSome, MatchOption, option_map, refl, sym, ◌∙◌, ap, subst}
 use denote.Ref.{Bor}
 use Rattle.std.specs.Cmp.{IsEquivalence}
-use Rattle.papaya_words.specs.declared.probe.Refused.{Refused}
+use Rattle.papaya_words.specs.declared.refused.Refused.{Refused}
 use Rattle.papaya_call.specs.declared.answers.Operation.{Operation}
 use Rattle.papaya_call.specs.declared.answers.Operation.TheVariants.{Insert, Remove, Abort}
-use Rattle.papaya_timeline.specs.Content.{map_in}
-use Rattle.papaya_store.specs.Store.{Stored, pair_of}
+use Rattle.papaya_core_timeline.specs.Content.{map_in}
+use Rattle.papaya_core_store.specs.Store.{Stored, pair_of}
 use Rattle.papaya_seq.specs.Computes.{ComputesBy, IsComputeRefusal, IsTriedWith, IsUpdated, IsUpdatedOrInserted, Says}
 use Rattle.papaya_seq.specs.Map.{IsOccupied, IsStoreRefusal, KeepsAndGrows, MapState, Unchanged}
-use Rattle.papaya_keys.specs.declared.compute.Computed.{Computed}
-use Rattle.papaya_keys.specs.declared.compute.Computed.TheVariants.{Inserted, Updated, Removed, Aborted}
+use Rattle.papaya_words_keys.specs.declared.results.Computed.{Computed}
+use Rattle.papaya_words_keys.specs.declared.results.Computed.TheVariants.{Inserted, Updated, Removed, Aborted}
 use Rattle.papaya_seq.proofs.Answered.{logged_there, store_refusal, write_cause}
 use Rattle.papaya_seq.proofs.ComputesDone.{IsFirst, IsRefused, Leaves, Refuses, facts_of, said_none, said_some, value_stored}
 

@@ -6,39 +6,39 @@ use Rattle.std.proofs.lemmas.Bool.{cases_lt}
 use Rattle.papaya_words.specs.Probe.{place}
 use Rattle.papaya_words.specs.Table.{TableWords}
 use Rattle.papaya_words.specs.Word.{kind_of, pair_of as number_of}
-use Rattle.papaya_store.specs.declared.mode.Mode.{Mode}
-use Rattle.papaya_words.specs.declared.probe.ResizeMode.TheVariants.{Blocking}
+use Rattle.papaya_core_store.specs.declared.store.Mode.{Mode}
+use Rattle.papaya_words.specs.declared.resize_mode.ResizeMode.TheVariants.{Blocking}
 use Rattle.papaya_words.specs.declared.word.Kind.TheVariants as kinds
-use Rattle.papaya_ask.specs.declared.ask.At.TheVariants.{Next, Root, Slot}
-use Rattle.papaya_law.specs.Class.{IsCopy, IsFilled, IsIncrementalClass, IsOn}
-use Rattle.papaya_law.specs.ChainContent.{missing_in}
-use Rattle.papaya_law.specs.Code.{Coding, IsHashed, IsOfKind, code}
-use Rattle.papaya_law.specs.Content.{lookup, pairs_in}
-use Rattle.papaya_law.specs.Exchange.{Word, Empty, Marked, Exchange, Setting, State, run, start, walk}
-use Rattle.papaya_law.specs.Invariant.{IsKeeping, IsSound, named}
-use Rattle.papaya_law.specs.Meaning.{map_left}
-use Rattle.papaya_law.specs.View.{Here, Leaving, look, own, view}
-use Rattle.papaya_law.proofs.Chain.{walk_on}
-use Rattle.papaya_law.proofs.ChainContent.{walk_first}
-use Rattle.papaya_law.proofs.ChainTables.{chain_alone}
-use Rattle.papaya_law.proofs.Class.{held_of, passed_not_held}
-use Rattle.papaya_law.proofs.Codes.{code_kind, code_pair}
-use Rattle.papaya_law.proofs.CodeViews.{word_of_kind}
-use Rattle.papaya_law.proofs.Content.{at_place}
-use Rattle.papaya_law.proofs.Lists.{Holds, table_found, table_none}
-use Rattle.papaya_law.proofs.Logs.{on_comes}
-use Rattle.papaya_law.proofs.OneMap.{incremental_state, keeping, keeping_sound}
-use Rattle.papaya_law.proofs.Slots.{view_leaving}
-use Rattle.papaya_law.proofs.Views.{active-own, held-active}
-use Rattle.papaya_timeline.specs.declared.seat.Seat.{Seat}
-use Rattle.papaya_timeline.specs.Content.{content, pairs_from, pairs_of_slots}
-use Rattle.papaya_timeline.specs.Kept.{IsKept, IsLawfulCore, coding_of, is_blocking, low, places_in, setting_of}
-use Rattle.papaya_timeline.specs.Kept as kept_words
-use Rattle.papaya_store.specs.Store.{StoreState, Stored, pair_of}
-use Rattle.papaya_store.specs.Tables.{table_of, word_at}
-use Rattle.papaya_timeline.proofs.KeptMap.{chain_ends, kept_content, table_content}
-use Rattle.papaya_timeline.proofs.KeptSettings.{IsLawfulKeys, tables_hashed}
-use Rattle.papaya_timeline.proofs.KeptTables.{table_low}
+use Rattle.papaya_call.specs.declared.ask.At.TheVariants.{Next, Root, Slot}
+use Rattle.papaya_words_law.specs.Class.{IsCopy, IsFilled, IsIncrementalClass, IsOn}
+use Rattle.papaya_words_law.specs.ChainContent.{missing_in}
+use Rattle.papaya_words_law.specs.Code.{Coding, IsHashed, IsOfKind, code}
+use Rattle.papaya_words_law.specs.Content.{lookup, pairs_in}
+use Rattle.papaya_words_law.specs.Exchange.{Word, Empty, Marked, Exchange, Setting, State, run, start, walk}
+use Rattle.papaya_words_law.specs.Invariant.{IsKeeping, IsSound, named}
+use Rattle.papaya_words_law.specs.Meaning.{map_left}
+use Rattle.papaya_words_law.specs.View.{Here, Leaving, look, own, view}
+use Rattle.papaya_words_law.proofs.Chain.{walk_on}
+use Rattle.papaya_words_law.proofs.ChainContent.{walk_first}
+use Rattle.papaya_words_law.proofs.ChainTables.{chain_alone}
+use Rattle.papaya_words_law.proofs.Class.{held_of, passed_not_held}
+use Rattle.papaya_words_law.proofs.Codes.{code_kind, code_pair}
+use Rattle.papaya_words_law.proofs.CodeViews.{word_of_kind}
+use Rattle.papaya_words_law.proofs.Content.{at_place}
+use Rattle.papaya_words_law.proofs.Lists.{Holds, table_found, table_none}
+use Rattle.papaya_words_law.proofs.Logs.{on_comes}
+use Rattle.papaya_words_law.proofs.OneMap.{incremental_state, keeping, keeping_sound}
+use Rattle.papaya_words_law.proofs.Slots.{view_leaving}
+use Rattle.papaya_words_law.proofs.Views.{active-own, held-active}
+use Rattle.papaya_core_timeline.specs.declared.seat.Seat.{Seat}
+use Rattle.papaya_core_timeline.specs.Content.{content, pairs_from, pairs_of_slots}
+use Rattle.papaya_core_timeline.specs.Kept.{IsKept, IsLawfulCore, coding_of, is_blocking, low, places_in, setting_of}
+use Rattle.papaya_core_timeline.specs.Kept as kept_words
+use Rattle.papaya_core_store.specs.Store.{StoreState, Stored, pair_of}
+use Rattle.papaya_core_store.specs.Tables.{table_of, word_at}
+use Rattle.papaya_core_timeline.proofs.KeptMap.{chain_ends, kept_content, table_content}
+use Rattle.papaya_core_timeline.proofs.KeptSettings.{IsLawfulKeys, tables_hashed}
+use Rattle.papaya_core_timeline.proofs.KeptTables.{table_low}
 use Rattle.papaya_seq.specs.Map.{slots_in}
 use Rattle.papaya_seq.specs.Walks.{HasMark, HasNoMark, HasNoMarkAt, HasNoMarkIn, left_from, pairs_at, pairs_in_table, rest_of, table_after}
 use Rattle.papaya_seq.proofs.WalkLists.{slots_past}

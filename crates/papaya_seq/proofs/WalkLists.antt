@@ -4,12 +4,12 @@ use Rattle.std.proofs.Common.{◌∷◌, ◌++◌, length, drop, slice_index, Op
 use Rattle.std.proofs.Common.{refl, sym, ◌∙◌, ap, arith}
 use Rattle.papaya_words.specs.Table.{TableWords}
 use Rattle.papaya_words.specs.Word.{kind_of, pair_of as number_of}
-use Rattle.papaya_ask.specs.declared.ask.At.TheVariants.{Next}
-use Rattle.papaya_law.specs.ChainContent.{missing_in, unless_found}
-use Rattle.papaya_law.specs.Content.{lookup}
-use Rattle.papaya_timeline.specs.Content.{pairs_from, pairs_of_kind, pairs_of_slots}
-use Rattle.papaya_store.specs.Store.{StoreState, Stored}
-use Rattle.papaya_store.specs.Tables.{table_of, word_at, word_in}
+use Rattle.papaya_call.specs.declared.ask.At.TheVariants.{Next}
+use Rattle.papaya_words_law.specs.ChainContent.{missing_in, unless_found}
+use Rattle.papaya_words_law.specs.Content.{lookup}
+use Rattle.papaya_core_timeline.specs.Content.{pairs_from, pairs_of_kind, pairs_of_slots}
+use Rattle.papaya_core_store.specs.Store.{StoreState, Stored}
+use Rattle.papaya_core_store.specs.Tables.{table_of, word_at, word_in}
 use Rattle.papaya_seq.specs.Walks.{has_in, left_from, pairs_at, pairs_in_table, rest_of, table_after}
 
 module _ {K V S : Type 0} (store : StoreState K V S) where

@@ -9,29 +9,29 @@ use Rattle.papaya_words.specs.Probe.{place}
 use Rattle.papaya_words.specs.Table.{TableWords}
 use Rattle.papaya_words.specs.Word.{kind_of, pair_of as number_of}
 use Rattle.papaya_words.specs.declared.probe.Probe.{Probe}
-use Rattle.papaya_words.specs.declared.probe.ResizeMode.{ResizeMode}
-use Rattle.papaya_words.specs.declared.probe.ResizeMode.TheVariants.{Incremental, Blocking}
+use Rattle.papaya_words.specs.declared.resize_mode.ResizeMode.{ResizeMode}
+use Rattle.papaya_words.specs.declared.resize_mode.ResizeMode.TheVariants.{Incremental, Blocking}
 use Rattle.papaya_words.specs.declared.word.Kind.{Kind}
 use Rattle.papaya_words.specs.declared.word.Kind.TheVariants as kinds
-use Rattle.papaya_ask.specs.Search.{IsSize}
-use Rattle.papaya_ask.specs.declared.ask.Answer.TheVariants.{Size}
-use Rattle.papaya_ask.specs.declared.ask.At.TheVariants.{Next, Slot}
-use Rattle.papaya_law.specs.Class.{IsOn}
-use Rattle.papaya_law.specs.Content.{lookup}
-use Rattle.papaya_law.proofs.Lists.{Holds}
-use Rattle.papaya_timeline.specs.Content.{listed, pairs_of_kind}
-use Rattle.papaya_timeline.specs.Kept.{IsLawfulCore, is_blocking, low}
-use Rattle.papaya_store.specs.Performs.{size_of}
-use Rattle.papaya_store.specs.Store.{StoreState, Stored, pair_of}
-use Rattle.papaya_store.specs.Tables.{Tables, table_of, word_at, word_in}
-use Rattle.papaya_store.proofs.Logs.{pair_number}
-use Rattle.papaya_timeline.proofs.KeptSettings.{IsLawfulKeys}
-use Rattle.papaya_timeline.proofs.KeptTables.{table_low}
+use Rattle.papaya_call.specs.Search.{IsSize}
+use Rattle.papaya_call.specs.declared.ask.Answer.TheVariants.{Size}
+use Rattle.papaya_call.specs.declared.ask.At.TheVariants.{Next, Slot}
+use Rattle.papaya_words_law.specs.Class.{IsOn}
+use Rattle.papaya_words_law.specs.Content.{lookup}
+use Rattle.papaya_words_law.proofs.Lists.{Holds}
+use Rattle.papaya_core_timeline.specs.Content.{listed, pairs_of_kind}
+use Rattle.papaya_core_timeline.specs.Kept.{IsLawfulCore, is_blocking, low}
+use Rattle.papaya_core_store.specs.Performs.{size_of}
+use Rattle.papaya_core_store.specs.Store.{StoreState, Stored, pair_of}
+use Rattle.papaya_core_store.specs.Tables.{Tables, table_of, word_at, word_in}
+use Rattle.papaya_core_store.proofs.Logs.{pair_number}
+use Rattle.papaya_core_timeline.proofs.KeptSettings.{IsLawfulKeys}
+use Rattle.papaya_core_timeline.proofs.KeptTables.{table_low}
 use Rattle.papaya_seq.specs.Map.{MapState, slots_in}
 use Rattle.papaya_seq.specs.Walks.{HasMark, HasNoMark, HasNoMarkIn, IsHeld, IsInRoot, IsNext, IsNextHere}
 use Rattle.papaya_seq.specs.Walks.{IsStand, IsStepped, IsWord, has_in, left_from, left_to, pairs_at}
 use Rattle.papaya_seq.specs.Walks.{table_after}
-use Rattle.papaya_seq.specs.declared.stand.Stand.{Stand}
+use Rattle.papaya_seq.specs.declared.walks.Stand.{Stand}
 use Rattle.papaya_seq.proofs.WalkLaw.{after_far, after_low, after_on, blocking_end, none_unmarked, now, pair_logged, some_marked}
 use Rattle.papaya_seq.proofs.WalkLists.{given, left_bare, left_none, left_pair, left_past, pairs_of_word}
 use Rattle.papaya_seq.proofs.Lawful.{core_next_rises, core_next_there}

@@ -1,10 +1,10 @@
 -- What a call answers that borrows the map, with values in the place of references.
 use Rattle.std.specs.Prelude.{◌≡◌, Option, Some, Result, Ok, Err, option_map}
 use Rattle.std.specs.Borrow.{Bor}
-use Rattle.papaya_words.specs.declared.probe.Refused.{Refused}
+use Rattle.papaya_words.specs.declared.refused.Refused.{Refused}
 use Rattle.papaya_seq.specs.Map.{deref_pair}
-use Rattle.papaya_keys.specs.declared.compute.Computed.{Computed}
-use Rattle.papaya_keys.specs.declared.compute.Computed.TheVariants.{Inserted, Updated, Removed, Aborted}
+use Rattle.papaya_words_keys.specs.declared.results.Computed.{Computed}
+use Rattle.papaya_words_keys.specs.declared.results.Computed.TheVariants.{Inserted, Updated, Removed, Aborted}
 
 -- the value that is shown, or a refusal
 abbrev pub value_answered : {V : Type 0} → Result (Bor V) Refused → Result V Refused

@@ -2,22 +2,22 @@
 use Rattle.std.specs.Prelude.{◌≡◌, ℕ, Bool, false, List, [], ◌∷◌, Option}
 use denote.Ref.{Bor}
 use Rattle.std.specs.Fn.{Mut}
-use Rattle.papaya_words.specs.declared.probe.ResizeMode.{ResizeMode}
-use Rattle.papaya_ask.specs.declared.ask.Answer.{Answer}
-use Rattle.papaya_ask.specs.declared.ask.Ask.{Ask}
-use Rattle.papaya_ask.specs.declared.ask.Ask.TheVariants.{Done}
-use Rattle.papaya_ask.specs.declared.call.Reply.{Reply}
-use Rattle.papaya_ask.specs.declared.call.Task.TheVariants.{RemoveIf}
+use Rattle.papaya_words.specs.declared.resize_mode.ResizeMode.{ResizeMode}
+use Rattle.papaya_call.specs.declared.ask.Answer.{Answer}
+use Rattle.papaya_call.specs.declared.ask.Ask.{Ask}
+use Rattle.papaya_call.specs.declared.ask.Ask.TheVariants.{Done}
+use Rattle.papaya_call.specs.declared.call.Reply.{Reply}
+use Rattle.papaya_call.specs.declared.call.Task.TheVariants.{RemoveIf}
 use Rattle.papaya_call.specs.declared.machine.Machine.{Machine as Call_machine}
 use Rattle.papaya_call.specs.declared.machine.State.TheVariants.{Showing}
 use Rattle.papaya_call.specs.declared.remove.Removal.{Removal}
 use Rattle.papaya_call.specs.Machine.{started}
-use Rattle.papaya_chain.specs.declared.ask.Answer.TheVariants as answers
-use Rattle.papaya_chain.specs.declared.ask.Ask.TheVariants as asks
-use Rattle.papaya_chain.specs.declared.machine.Machine.{Machine}
-use Rattle.papaya_chain.specs.declared.machine.Phase.TheVariants.{Calling}
-use Rattle.papaya_chain.specs.Machine.{after, ask_of}
-use Rattle.papaya_store.specs.Store.{StoreState}
+use Rattle.papaya_call.specs.declared.chain.ask.Answer.TheVariants as answers
+use Rattle.papaya_call.specs.declared.chain.ask.Ask.TheVariants as asks
+use Rattle.papaya_call.specs.declared.chain.machine.Machine.{Machine}
+use Rattle.papaya_call.specs.declared.chain.machine.Phase.TheVariants.{Calling}
+use Rattle.papaya_call.specs.ChainMachine.{after, ask_of}
+use Rattle.papaya_core_store.specs.Store.{StoreState}
 use Rattle.papaya_seq.specs.Removes.{IsRemovalAnswer}
 
 -- a call that goes on for itself

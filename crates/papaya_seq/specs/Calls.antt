@@ -1,22 +1,22 @@
 -- Calls that are handed in as values, one after the other.
 use Rattle.std.specs.Prelude.{◌≡◌, ◌⊎◌, ℕ, cond, Bool, true, false, Option, Some, List, [], ◌∷◌, map, option_map}
-use Rattle.papaya_words.specs.declared.probe.Refused as words
-use Rattle.papaya_words.specs.declared.probe.Refused.TheVariants as refusals
+use Rattle.papaya_words.specs.declared.refused.Refused as words
+use Rattle.papaya_words.specs.declared.refused.Refused.TheVariants as refusals
 use Rattle.papaya_call.specs.Answers.{Says}
 use Rattle.papaya_call.specs.declared.answers.Operation.{Operation}
 use Rattle.papaya_call.specs.declared.answers.Operation.TheVariants as ops
-use Rattle.papaya_ask.specs.declared.call.Call.{Call}
-use Rattle.papaya_ask.specs.declared.call.Call.TheVariants.{Get, Insert, TryInsert, RemoveIf, Compute, Reserve, CopyAll, Clear, Retain, Walk}
-use Rattle.papaya_ask.specs.declared.call.Reply.{Reply}
-use Rattle.papaya_ask.specs.declared.call.Reply.TheVariants.{Inserted, Replaced, Removed, Kept, Aborted, Done, Refused}
-use Rattle.papaya_law.specs.Content.{AreApart, lookup}
-use Rattle.papaya_timeline.specs.Content.{content, map_in}
-use Rattle.papaya_timeline.specs.Maps.{key_of}
-use Rattle.papaya_timeline.specs.Outcomes.{reply_told}
-use Rattle.papaya_timeline.specs.Solo.{IsAnswered, IsNewIn}
-use Rattle.papaya_timeline.specs.declared.outcome.Outcome.{Outcome}
-use Rattle.papaya_timeline.specs.declared.outcome.Outcome.TheVariants.{Replied, Walked}
-use Rattle.papaya_store.specs.Store.{StoreState, Stored, pair_of}
+use Rattle.papaya_call.specs.declared.call.Call.{Call}
+use Rattle.papaya_call.specs.declared.call.Call.TheVariants.{Get, Insert, TryInsert, RemoveIf, Compute, Reserve, CopyAll, Clear, Retain, Walk}
+use Rattle.papaya_call.specs.declared.call.Reply.{Reply}
+use Rattle.papaya_call.specs.declared.call.Reply.TheVariants.{Inserted, Replaced, Removed, Kept, Aborted, Done, Refused}
+use Rattle.papaya_words_law.specs.Content.{AreApart, lookup}
+use Rattle.papaya_core_timeline.specs.Content.{content, map_in}
+use Rattle.papaya_core_timeline.specs.Maps.{key_of}
+use Rattle.papaya_core_timeline.specs.Outcomes.{reply_told}
+use Rattle.papaya_core_timeline.specs.Solo.{IsAnswered, IsNewIn}
+use Rattle.papaya_core_timeline.specs.declared.outcome.Outcome.{Outcome}
+use Rattle.papaya_core_timeline.specs.declared.outcome.Outcome.TheVariants.{Replied, Walked}
+use Rattle.papaya_core_store.specs.Store.{StoreState, Stored, pair_of}
 use Rattle.papaya_seq.specs.MadeAlone.{IsRepliedAlone}
 use Rattle.papaya_seq.specs.Map.{IsResizing, IsTryCause, IsWriteCauseAt, Grows, Keeps, MapState, entry_of, next_of}
 use Rattle.papaya_seq.specs.Resizes.{HasRoomFor, IsCopyCause, IsReserveCause}

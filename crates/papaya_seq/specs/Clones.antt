@@ -2,14 +2,14 @@
 use Rattle.std.specs.Prelude.{◌≡◌, ◌⊎◌, ◌+◌, ◌<◌, ◌≤◌, Bool, true, List, [], ◌∷◌, ◌++◌, None, Some, MatchOption, length, map}
 use Rattle.std.specs.List.{AllZip}
 use Rattle.papaya_words.specs.declared.limits.TheConstants.{DEFAULT_CHUNK, MAX_SHARDS}
-use Rattle.papaya_words.specs.declared.probe.Refused.{Refused}
-use Rattle.papaya_words.specs.declared.probe.Refused.TheVariants.{Memory, Capacity}
-use Rattle.papaya_words.specs.declared.probe.ResizeMode.TheVariants.{Incremental}
-use Rattle.papaya_keys.specs.Sizes.{IsTooMuch}
-use Rattle.papaya_store.specs.Store.{StoreState, Stored}
-use Rattle.papaya_timeline.specs.Content.{content, map_in}
-use Rattle.papaya_timeline.specs.Core.{unlimited}
-use Rattle.papaya_timeline.specs.New.{IsNew}
+use Rattle.papaya_words.specs.declared.refused.Refused.{Refused}
+use Rattle.papaya_words.specs.declared.refused.Refused.TheVariants.{Memory, Capacity}
+use Rattle.papaya_words.specs.declared.resize_mode.ResizeMode.TheVariants.{Incremental}
+use Rattle.papaya_words_keys.specs.Sizes.{IsTooMuch}
+use Rattle.papaya_core_store.specs.Store.{StoreState, Stored}
+use Rattle.papaya_core_timeline.specs.Content.{content, map_in}
+use Rattle.papaya_core_timeline.specs.Core.{unlimited}
+use Rattle.papaya_core_timeline.specs.New.{IsNew}
 use Rattle.papaya_seq.specs.Map.{MapState, core_of, entry_of, value_of}
 use Rattle.papaya_seq.specs.Resizes.{IsReserveCause}
 use Rattle.papaya_seq.specs.Entries.{Fills, IsCut}

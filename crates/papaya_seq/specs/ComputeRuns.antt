@@ -2,33 +2,33 @@
 use Rattle.std.specs.Prelude.{◌≡◌, ◌≢◌, ◌⊎◌, ℕ, Bool, Option, Some, None, List, Result, Ok, Err, option_map}
 use denote.Ref.{Bor}
 use Rattle.papaya_words.specs.Word.{kind_of, pair_of as number_of}
-use Rattle.papaya_words.specs.declared.probe.Refused.{Refused}
-use Rattle.papaya_words.specs.declared.probe.Refused.TheVariants.{RemoveNothing}
-use Rattle.papaya_words.specs.declared.probe.ResizeMode.{ResizeMode}
+use Rattle.papaya_words.specs.declared.refused.Refused.{Refused}
+use Rattle.papaya_words.specs.declared.refused.Refused.TheVariants.{RemoveNothing}
+use Rattle.papaya_words.specs.declared.resize_mode.ResizeMode.{ResizeMode}
 use Rattle.papaya_words.specs.declared.word.Kind.TheVariants.{Live}
-use Rattle.papaya_ask.specs.declared.ask.Answer.{Answer}
-use Rattle.papaya_ask.specs.declared.ask.Answer.TheVariants.{Op}
-use Rattle.papaya_ask.specs.declared.ask.Ask.{Ask}
-use Rattle.papaya_ask.specs.declared.ask.Ask.TheVariants.{ShowNone, ShowPair}
-use Rattle.papaya_ask.specs.declared.ask.OpKind.{OpKind}
-use Rattle.papaya_ask.specs.declared.ask.OpKind.TheVariants as kinds
-use Rattle.papaya_ask.specs.declared.call.Reply.{Reply}
-use Rattle.papaya_ask.specs.declared.call.Task.TheVariants.{Compute}
+use Rattle.papaya_call.specs.declared.ask.Answer.{Answer}
+use Rattle.papaya_call.specs.declared.ask.Answer.TheVariants.{Op}
+use Rattle.papaya_call.specs.declared.ask.Ask.{Ask}
+use Rattle.papaya_call.specs.declared.ask.Ask.TheVariants.{ShowNone, ShowPair}
+use Rattle.papaya_call.specs.declared.ask.OpKind.{OpKind}
+use Rattle.papaya_call.specs.declared.ask.OpKind.TheVariants as kinds
+use Rattle.papaya_call.specs.declared.call.Reply.{Reply}
+use Rattle.papaya_call.specs.declared.call.Task.TheVariants.{Compute}
 use Rattle.papaya_call.specs.declared.answers.Operation.{Operation}
 use Rattle.papaya_call.specs.declared.answers.Operation.TheVariants.{Insert, Remove, Abort}
 use Rattle.papaya_call.specs.declared.machine.Machine.{Machine}
 use Rattle.papaya_call.specs.declared.write.Write.{Write}
 use Rattle.papaya_call.specs.Machine.{after, ask_of, started}
-use Rattle.papaya_keys.specs.declared.compute.Computed.{Computed}
-use Rattle.papaya_keys.specs.declared.compute.Computed.TheVariants.{Removed, Aborted}
-use Rattle.papaya_store.specs.Store.{StoreState, Stored, pair_of}
+use Rattle.papaya_words_keys.specs.declared.results.Computed.{Computed}
+use Rattle.papaya_words_keys.specs.declared.results.Computed.TheVariants.{Removed, Aborted}
+use Rattle.papaya_core_store.specs.Store.{StoreState, Stored, pair_of}
 use Rattle.papaya_seq.specs.Computes.{Takes}
 use Rattle.papaya_seq.specs.Computing.{IsComputed}
 use Rattle.papaya_seq.specs.Drives.{IsReplied, at_hand}
 use Rattle.papaya_seq.specs.Looks.{Comes}
 use Rattle.papaya_seq.specs.Writes.{IsWritten, burying}
-use Rattle.papaya_seq.specs.declared.search.Turn.{Turn}
-use Rattle.papaya_seq.specs.declared.search.Turn.TheVariants as turns
+use Rattle.papaya_seq.specs.declared.search.ProbeHit.{ProbeHit}
+use Rattle.papaya_seq.specs.declared.search.ProbeHit.TheVariants as turns
 
 -- what a call is told of its closure's answer, the value that it has of it, and what it is
 -- ended with
@@ -70,7 +70,7 @@ IsOperated s hashed at key Remove result s' =
 IsOperated s hashed at key (Abort t) result s' = (result ≡ Ok (Aborted t)) × (s' ≡ s)
 
 -- a closure may be shown what a search found: the pair of a Live word, or that there is none
-abbrev pub TakesAt : {K V S : Type 0} → (Option (Bor K × Bor V) → Type 0) → StoreState K V S → Turn
+abbrev pub TakesAt : {K V S : Type 0} → (Option (Bor K × Bor V) → Type 0) → StoreState K V S → ProbeHit
     → Type 0
 TakesAt pre s (turns.Empty at) = Takes pre None
 TakesAt pre s (turns.Here at word) = kind_of word ≡ Live → Takes pre (pair_of s (number_of word))

@@ -1,18 +1,18 @@
 -- What a compute does, and what the calls do that are computes.
 use Rattle.std.specs.Prelude.{◌≡◌, ◌⊎◌, Bool, Option, Some, None, Result, Ok, Err, option_map}
 use denote.Ref.{Bor}
-use Rattle.papaya_words.specs.declared.probe.Refused.{Refused}
-use Rattle.papaya_words.specs.declared.probe.Refused.TheVariants.{RemoveNothing}
+use Rattle.papaya_words.specs.declared.refused.Refused.{Refused}
+use Rattle.papaya_words.specs.declared.refused.Refused.TheVariants.{RemoveNothing}
 use Rattle.papaya_call.specs.declared.answers.Operation.{Operation}
 use Rattle.papaya_call.specs.declared.answers.Operation.TheVariants.{Insert, Remove, Abort}
-use Rattle.papaya_timeline.specs.Content.{map_in}
-use Rattle.papaya_timeline.specs.Maps.{IsUpdate}
-use Rattle.papaya_store.specs.Store.{StoreState, Stored, pair_of}
+use Rattle.papaya_core_timeline.specs.Content.{map_in}
+use Rattle.papaya_core_timeline.specs.Maps.{IsUpdate}
+use Rattle.papaya_core_store.specs.Store.{StoreState, Stored, pair_of}
 use Rattle.papaya_seq.specs.Map.{Inserts, IsOccupied, IsResizing, IsWriteCause, IsWriteCauseAt, KeepsAndGrows, MapState, Unchanged, deref_pair, entry_of}
-use Rattle.papaya_keys.specs.declared.compute.Compute.{Compute}
-use Rattle.papaya_keys.specs.declared.compute.Compute.TheVariants as shown
-use Rattle.papaya_keys.specs.declared.compute.Computed.{Computed}
-use Rattle.papaya_keys.specs.declared.compute.Computed.TheVariants.{Inserted, Updated, Removed, Aborted}
+use Rattle.papaya_words_keys.specs.declared.results.Compute.{Compute}
+use Rattle.papaya_words_keys.specs.declared.results.Compute.TheVariants as shown
+use Rattle.papaya_words_keys.specs.declared.results.Computed.{Computed}
+use Rattle.papaya_words_keys.specs.declared.results.Computed.TheVariants.{Inserted, Updated, Removed, Aborted}
 
 -- these are references to the key and the value of the pair that a class holds, if it holds one
 abbrev pub AreOf : {K V : Type 0} → Option (Bor K × Bor V) → Option (Stored K V) → Type 0

@@ -2,32 +2,32 @@
 -- copy, that nothing runs.
 use Rattle.std.specs.Prelude.{◌≡◌, ℕ, Bool, false, List, [], ◌∷◌, Option, Some, None, length}
 use Rattle.papaya_words.specs.Table.{TableWords}
-use Rattle.papaya_words.specs.declared.probe.ResizeMode.{ResizeMode}
-use Rattle.papaya_ask.specs.Search.{IsSize}
-use Rattle.papaya_ask.specs.declared.copy_ask.CopyAsk.{CopyAsk}
-use Rattle.papaya_copy.specs.declared.copying.Aim.{Aim}
-use Rattle.papaya_copy.specs.declared.copying.Copied.{Copied}
-use Rattle.papaya_copy.specs.declared.copying.Copied.TheVariants.{On}
-use Rattle.papaya_copy.specs.declared.copying.Copying.TheVariants.{Stepping}
-use Rattle.papaya_copy.specs.declared.settle.Settle.{Settle}
-use Rattle.papaya_copy.specs.declared.settle.Settled.{Settled}
-use Rattle.papaya_copy.specs.declared.settle.Settled.TheVariants as settled_to
-use Rattle.papaya_copy.specs.declared.settle.Slot.{Slot}
-use Rattle.papaya_copy.specs.declared.step.Chunk.{Chunk}
-use Rattle.papaya_copy.specs.declared.step.Step.{Step}
-use Rattle.papaya_copy.specs.Copying.{copying_ask, leads}
-use Rattle.papaya_copy.specs.Step as steps
-use Rattle.papaya_copy.specs.Step.{slot_of}
-use Rattle.papaya_chain.specs.declared.ask.Answer.{Answer}
-use Rattle.papaya_chain.specs.declared.ask.Ask.{Ask}
-use Rattle.papaya_chain.specs.declared.ask.Ask.TheVariants as asks
-use Rattle.papaya_chain.specs.declared.machine.Machine.{Machine}
-use Rattle.papaya_chain.specs.declared.resizer.Resizer.{Resizer}
-use Rattle.papaya_chain.specs.Machine.{after, ask_of, copying_after}
-use Rattle.papaya_chain.specs.Resizer as resizers
-use Rattle.papaya_store.specs.Copies.{PerformsCopy}
-use Rattle.papaya_store.specs.Store.{StoreState}
-use Rattle.papaya_store.specs.Tables.{table_of}
+use Rattle.papaya_words.specs.declared.resize_mode.ResizeMode.{ResizeMode}
+use Rattle.papaya_call.specs.Search.{IsSize}
+use Rattle.papaya_call.specs.declared.copy_ask.CopyAsk.{CopyAsk}
+use Rattle.papaya_call.specs.declared.copy.copying.Aim.{Aim}
+use Rattle.papaya_call.specs.declared.copy.copying.Copied.{Copied}
+use Rattle.papaya_call.specs.declared.copy.copying.Copied.TheVariants.{On}
+use Rattle.papaya_call.specs.declared.copy.copying.Copying.TheVariants.{Stepping}
+use Rattle.papaya_call.specs.declared.copy.settle.Settle.{Settle}
+use Rattle.papaya_call.specs.declared.copy.settle.Settled.{Settled}
+use Rattle.papaya_call.specs.declared.copy.settle.Settled.TheVariants as settled_to
+use Rattle.papaya_call.specs.declared.copy.settle.SlotToCopy.{SlotToCopy}
+use Rattle.papaya_call.specs.declared.copy.step.Chunk.{Chunk}
+use Rattle.papaya_call.specs.declared.copy.step.Step.{Step}
+use Rattle.papaya_call.specs.Copying.{copying_ask, leads}
+use Rattle.papaya_call.specs.Step as steps
+use Rattle.papaya_call.specs.Step.{slot_of}
+use Rattle.papaya_call.specs.declared.chain.ask.Answer.{Answer}
+use Rattle.papaya_call.specs.declared.chain.ask.Ask.{Ask}
+use Rattle.papaya_call.specs.declared.chain.ask.Ask.TheVariants as asks
+use Rattle.papaya_call.specs.declared.chain.machine.Machine.{Machine}
+use Rattle.papaya_call.specs.declared.chain.resizer.Resizer.{Resizer}
+use Rattle.papaya_call.specs.ChainMachine.{after, ask_of, copying_after}
+use Rattle.papaya_call.specs.Resizer as resizers
+use Rattle.papaya_core_store.specs.CopyAsks.{PerformsCopy}
+use Rattle.papaya_core_store.specs.Store.{StoreState}
+use Rattle.papaya_core_store.specs.Tables.{table_of}
 
 -- each table has the size of a table
 abbrev pub IsSized : {K V S : Type 0} → StoreState K V S → Type 0
@@ -85,7 +85,7 @@ module _ {K V S : Type 0} (eq : K → K → Bool) (hash : S → K → ℕ) where
     Steps s from s' to = (aim : Aim) → Comes s (On (Stepping aim from)) s' (On (Stepping aim to))
 
     -- and the copy of a slot, in whichever chunk
-    abbrev pub Settles : Slot → StoreState K V S → Settled → StoreState K V S → Settled → Type 0
+    abbrev pub Settles : SlotToCopy → StoreState K V S → Settled → StoreState K V S → Settled → Type 0
     Settles slot s from s' to = (aim : Aim) (chunk : Chunk) → slot_of chunk ≡ slot
         → Comes s (leads aim mode (steps.settled_to chunk from)) s'
         (leads aim mode (steps.settled_to chunk to))

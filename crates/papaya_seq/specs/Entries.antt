@@ -3,12 +3,12 @@ use Rattle.std.specs.Prelude.{◌≡◌, Bool, cond, Option, None, Some, Result,
 use Rattle.std.specs.Iterator.{Yields}
 use Rattle.papaya_words.specs.Probe.{IsEntriesFor}
 use Rattle.papaya_words.specs.declared.limits.TheConstants.{DEFAULT_CHUNK}
-use Rattle.papaya_words.specs.declared.probe.Refused.{Refused}
-use Rattle.papaya_words.specs.declared.probe.ResizeMode.TheVariants.{Incremental}
-use Rattle.papaya_store.specs.Store.{StoreState}
-use Rattle.papaya_timeline.specs.Content.{map_in}
-use Rattle.papaya_timeline.specs.Core.{unlimited}
-use Rattle.papaya_timeline.specs.New.{IsNew}
+use Rattle.papaya_words.specs.declared.refused.Refused.{Refused}
+use Rattle.papaya_words.specs.declared.resize_mode.ResizeMode.TheVariants.{Incremental}
+use Rattle.papaya_core_store.specs.Store.{StoreState}
+use Rattle.papaya_core_timeline.specs.Content.{map_in}
+use Rattle.papaya_core_timeline.specs.Core.{unlimited}
+use Rattle.papaya_core_timeline.specs.New.{IsNew}
 use Rattle.papaya_seq.specs.Map.{Inserts, IsWriteCauseAt, Keeps, KeepsAndGrows, MapState, Unchanged, core_of, entry_of, slots_of}
 
 -- a finite map that tells no numbers

@@ -4,7 +4,7 @@ use Rattle.std.specs.List.{All, Contains}
 use Rattle.papaya_words.specs.Probe.{IsEntriesFor}
 use Rattle.papaya_words.specs.Table.{length_after}
 use Rattle.papaya_words.specs.declared.limits.TheConstants.{FIRST_TABLE_LEN, LEAST_TABLE_LEN}
-use Rattle.papaya_store.specs.Tables.{Tables}
+use Rattle.papaya_core_store.specs.Tables.{Tables}
 
 -- the lengths of the tables, in the order in which they were made
 abbrev pub lengths_of : Tables → List ℕ

@@ -1,14 +1,14 @@
 -- A call of a map for one caller, as a core makes it that has just this call.
 use Rattle.std.specs.Prelude.{◌≡◌, ℕ, Bool, true, None, [], ◌∷◌, Result, Err}
-use Rattle.papaya_words.specs.declared.probe.Refused as words
-use Rattle.papaya_ask.specs.declared.call.Call.{Call}
-use Rattle.papaya_ask.specs.declared.call.Call.TheVariants.{Compute, CopyAll, RemoveIf, Reserve}
-use Rattle.papaya_ask.specs.declared.call.Reply.{Reply}
-use Rattle.papaya_ask.specs.declared.call.Reply.TheVariants.{Refused}
-use Rattle.papaya_chain.specs.declared.resizer.Resize.{Resize}
-use Rattle.papaya_chain.specs.declared.resizer.Resize.TheVariants as resizes
-use Rattle.papaya_timeline.specs.Core.{CoreState}
-use Rattle.papaya_timeline.specs.Solo.{RunsAlone}
+use Rattle.papaya_words.specs.declared.refused.Refused as words
+use Rattle.papaya_call.specs.declared.call.Call.{Call}
+use Rattle.papaya_call.specs.declared.call.Call.TheVariants.{Compute, CopyAll, RemoveIf, Reserve}
+use Rattle.papaya_call.specs.declared.call.Reply.{Reply}
+use Rattle.papaya_call.specs.declared.call.Reply.TheVariants.{Refused}
+use Rattle.papaya_call.specs.declared.chain.resizer.Resize.{Resize}
+use Rattle.papaya_call.specs.declared.chain.resizer.Resize.TheVariants as resizes
+use Rattle.papaya_core_timeline.specs.Core.{CoreState}
+use Rattle.papaya_core_timeline.specs.Solo.{RunsAlone}
 use Rattle.papaya_seq.specs.Map.{MapState, core_of}
 
 -- the map as a core whose one caller's call has ended

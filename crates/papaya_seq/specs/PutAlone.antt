@@ -2,12 +2,12 @@
 use Rattle.std.specs.Prelude.{◌≡◌, ◌⊎◌, ℕ, ◌≤◌, Bool, List, [], ◌∷◌, Option, None, Result, Ok, Err, length, map}
 use Rattle.std.specs.List.{AllZip}
 use Rattle.papaya_words.specs.declared.limits.TheConstants.{DEFAULT_CHUNK}
-use Rattle.papaya_words.specs.declared.probe.Refused.{Refused}
-use Rattle.papaya_words.specs.declared.probe.ResizeMode.TheVariants.{Incremental}
-use Rattle.papaya_ask.specs.declared.call.Call.TheVariants.{Insert, Reserve}
-use Rattle.papaya_store.specs.Store.{StoreState}
-use Rattle.papaya_timeline.specs.Content.{content}
-use Rattle.papaya_timeline.specs.New.{IsNew}
+use Rattle.papaya_words.specs.declared.refused.Refused.{Refused}
+use Rattle.papaya_words.specs.declared.resize_mode.ResizeMode.TheVariants.{Incremental}
+use Rattle.papaya_call.specs.declared.call.Call.TheVariants.{Insert, Reserve}
+use Rattle.papaya_core_store.specs.Store.{StoreState}
+use Rattle.papaya_core_timeline.specs.Content.{content}
+use Rattle.papaya_core_timeline.specs.New.{IsNew}
 use Rattle.papaya_seq.specs.Clones.{Clones}
 use Rattle.papaya_seq.specs.Entries.{AllCome, ComesNext}
 use Rattle.papaya_seq.specs.Lengths.{IsAskedFor}

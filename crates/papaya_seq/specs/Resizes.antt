@@ -2,13 +2,13 @@
 use Rattle.std.specs.Prelude.{◌≡◌, ◌⊎◌, ℕ, ◌+◌, ◌≤◌, Bool, length}
 use Rattle.papaya_words.specs.Probe.{IsEntriesFor}
 use Rattle.papaya_words.specs.declared.limits.TheConstants.{LEAST_TABLE_LEN}
-use Rattle.papaya_words.specs.declared.probe.Refused.{Refused}
-use Rattle.papaya_words.specs.declared.probe.Refused.TheVariants.{Memory, Capacity}
-use Rattle.papaya_chain.specs.declared.resizer.Resize.{Resize}
-use Rattle.papaya_chain.specs.declared.resizer.Resize.TheVariants.{CopyAll, Reserve}
-use Rattle.papaya_keys.specs.Sizes.{IsTooMuch}
-use Rattle.papaya_store.specs.Store.{StoreState}
-use Rattle.papaya_timeline.specs.Content.{content}
+use Rattle.papaya_words.specs.declared.refused.Refused.{Refused}
+use Rattle.papaya_words.specs.declared.refused.Refused.TheVariants.{Memory, Capacity}
+use Rattle.papaya_call.specs.declared.chain.resizer.Resize.{Resize}
+use Rattle.papaya_call.specs.declared.chain.resizer.Resize.TheVariants.{CopyAll, Reserve}
+use Rattle.papaya_words_keys.specs.Sizes.{IsTooMuch}
+use Rattle.papaya_core_store.specs.Store.{StoreState}
+use Rattle.papaya_core_timeline.specs.Content.{content}
 use Rattle.papaya_seq.specs.Map.{HasNoTable, IsResizing, MapState, next_of, slots_of}
 
 module _ {K V S : Type 0} (eq : K → K → Bool) where

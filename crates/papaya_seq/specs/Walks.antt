@@ -4,16 +4,16 @@ use denote.Bor.{Bor}
 use Rattle.papaya_words.specs.Probe.{place}
 use Rattle.papaya_words.specs.Table.{TableWords}
 use Rattle.papaya_words.specs.Word.{kind_of, pair_of as number_of}
-use Rattle.papaya_words.specs.declared.probe.ResizeMode.TheVariants.{Blocking}
+use Rattle.papaya_words.specs.declared.resize_mode.ResizeMode.TheVariants.{Blocking}
 use Rattle.papaya_words.specs.declared.word.Kind.TheVariants.{Empty, Live, Marked}
-use Rattle.papaya_ask.specs.declared.ask.At.TheVariants.{Next, Slot}
-use Rattle.papaya_law.specs.ChainContent.{missing_in}
-use Rattle.papaya_law.specs.Content.{lookup}
-use Rattle.papaya_timeline.specs.Content.{pairs_from, pairs_of_slots}
-use Rattle.papaya_store.specs.Store.{StoreState, Stored, pair_of}
-use Rattle.papaya_store.specs.Tables.{table_of, word_at}
+use Rattle.papaya_call.specs.declared.ask.At.TheVariants.{Next, Slot}
+use Rattle.papaya_words_law.specs.ChainContent.{missing_in}
+use Rattle.papaya_words_law.specs.Content.{lookup}
+use Rattle.papaya_core_timeline.specs.Content.{pairs_from, pairs_of_slots}
+use Rattle.papaya_core_store.specs.Store.{StoreState, Stored, pair_of}
+use Rattle.papaya_core_store.specs.Tables.{table_of, word_at}
 use Rattle.papaya_seq.specs.Map.{MapState, entry_of, slots_in}
-use Rattle.papaya_seq.specs.declared.stand.Stand.{Stand}
+use Rattle.papaya_seq.specs.declared.walks.Stand.{Stand}
 
 module _ {K V S : Type 0} (store : StoreState K V S) where
   -- the pairs of a table, if it is there

@@ -4,23 +4,23 @@ use Rattle.std.specs.Prelude.{◌≡◌, ◌≢◌, ◌<◌, ◌==◌, MatchBool
 use Rattle.papaya_words.specs.Counter.{added}
 use Rattle.papaya_words.specs.Word.{hint_of, live_word, pair_of as number_of}
 use Rattle.papaya_words.specs.declared.limits.TheConstants.{MAX_LOG_LEN}
-use Rattle.papaya_ask.specs.declared.ask.Answer.TheVariants.{Refused as Was_refused}
-use Rattle.papaya_ask.specs.declared.ask.At.{At}
-use Rattle.papaya_ask.specs.declared.ask.At.TheVariants.{Slot}
-use Rattle.papaya_ask.specs.declared.call.Reply.{Reply}
-use Rattle.papaya_ask.specs.declared.call.Reply.TheVariants.{Inserted, Replaced, Refused}
-use Rattle.papaya_ask.specs.declared.search.Place.{Place}
+use Rattle.papaya_call.specs.declared.ask.Answer.TheVariants.{Refused as Was_refused}
+use Rattle.papaya_call.specs.declared.ask.At.{At}
+use Rattle.papaya_call.specs.declared.ask.At.TheVariants.{Slot}
+use Rattle.papaya_call.specs.declared.call.Reply.{Reply}
+use Rattle.papaya_call.specs.declared.call.Reply.TheVariants.{Inserted, Replaced, Refused}
+use Rattle.papaya_call.specs.declared.search.Place.{Place}
 use Rattle.papaya_call.specs.Remove.{grave_word}
 use Rattle.papaya_call.specs.declared.remove.Removal.{Removal}
 use Rattle.papaya_call.specs.declared.write.Write.{Write}
-use Rattle.papaya_store.specs.declared.pairs.Pair.{Pair}
-use Rattle.papaya_store.specs.declared.pairs.Pair.TheVariants.{Own, Keyed}
-use Rattle.papaya_store.specs.declared.pairs.Part.{Part}
-use Rattle.papaya_store.specs.declared.pairs.Part.TheVariants.{Own as Own_part, Logged}
-use Rattle.papaya_store.specs.Pairs.{key_from}
-use Rattle.papaya_store.specs.Performs.{Refuses}
-use Rattle.papaya_store.specs.Store.{StoreState}
-use Rattle.papaya_store.specs.Tables.{note, put}
+use Rattle.papaya_core_store.specs.declared.pairs.Pair.{Pair}
+use Rattle.papaya_core_store.specs.declared.pairs.Pair.TheVariants.{Own, Keyed}
+use Rattle.papaya_core_store.specs.declared.pairs.Part.{Part}
+use Rattle.papaya_core_store.specs.declared.pairs.Part.TheVariants.{Own as Own_part, Logged}
+use Rattle.papaya_core_store.specs.Pairs.{key_from}
+use Rattle.papaya_core_store.specs.Performs.{Refuses}
+use Rattle.papaya_core_store.specs.Store.{StoreState}
+use Rattle.papaya_core_store.specs.Tables.{note, put}
 
 -- the slot of a place
 abbrev pub slot_of : Place → At

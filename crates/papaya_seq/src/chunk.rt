@@ -1,33 +1,33 @@
 //! The copy of a chunk's slots by a loop. The machine exists in the proof alone; it takes over at a
 //! slot that needs more than most.
 ghost use Rattle.std.specs.Prelude.{◌≡◌, ℕ};
-ghost use Rattle.papaya_ask.specs.Search.{IsWithin};
-ghost use Rattle.papaya_ask.specs.declared.ask.At.TheVariants as words;
-ghost use Rattle.papaya_chain.specs.Machine.{IsStanding};
-ghost use Rattle.papaya_chain.specs.Resizer.{IsStandingResizer};
-ghost use Rattle.papaya_copy.specs.Step.{IsStandingChunk, IsStandingCursor};
-ghost use Rattle.papaya_copy.specs.declared.carry.Carry.TheVariants as carries;
-ghost use Rattle.papaya_copy.specs.declared.settle.Settle.TheVariants as settles;
-ghost use Rattle.papaya_copy.specs.declared.settle.Settled.TheVariants.{On};
-ghost use Rattle.papaya_copy.specs.declared.settle.Slot as slots;
-ghost use Rattle.papaya_copy.specs.declared.step.Step.TheVariants as steps;
-ghost use Rattle.papaya_keys.specs.Hashes.{hash_of};
-ghost use Rattle.papaya_store.specs.Tables.{word_at};
-ghost use Rattle.papaya_words.specs.declared.probe.ResizeMode as modes;
+ghost use Rattle.papaya_call.specs.Search.{IsWithin};
+ghost use Rattle.papaya_call.specs.declared.ask.At.TheVariants as words;
+ghost use Rattle.papaya_call.specs.ChainMachine.{IsStanding};
+ghost use Rattle.papaya_call.specs.Resizer.{IsStandingResizer};
+ghost use Rattle.papaya_call.specs.Step.{IsStandingChunk, IsStandingCursor};
+ghost use Rattle.papaya_call.specs.declared.copy.carry.Carry.TheVariants as carries;
+ghost use Rattle.papaya_call.specs.declared.copy.settle.Settle.TheVariants as settles;
+ghost use Rattle.papaya_call.specs.declared.copy.settle.Settled.TheVariants.{On};
+ghost use Rattle.papaya_call.specs.declared.copy.settle.SlotToCopy as slots;
+ghost use Rattle.papaya_call.specs.declared.copy.step.Step.TheVariants as steps;
+ghost use Rattle.papaya_words_keys.specs.Hashes.{hash_of};
+ghost use Rattle.papaya_core_store.specs.Tables.{word_at};
+ghost use Rattle.papaya_words.specs.declared.resize_mode.ResizeMode as modes;
 ghost use Rattle.papaya_seq.specs.Copies.{CopiesCall, CopiesResizer, IsSized, Settles, Steps, settled_as};
 ghost use Rattle.papaya_seq.specs.Searches.{IsThere};
 
 use crate::search::pass_by;
-use papaya_ask::ask::{Answer, At};
-use papaya_ask::search::{Place, Probed, Search};
-use papaya_chain::machine::{Machine, Phase};
-use papaya_chain::resizer::{Resizer, State};
-use papaya_copy::carry::Carry;
-use papaya_copy::copying::Copying;
-use papaya_copy::settle::{Settle, Slot};
-use papaya_copy::step::{Chunk, Cursor, Step};
-use papaya_store::store::Store;
-use papaya_words::probe::ResizeMode;
+use papaya_call::ask::{Answer, At};
+use papaya_call::chain::machine::{Machine, Phase};
+use papaya_call::chain::resizer::{Resizer, ResizerState};
+use papaya_call::copy::carry::Carry;
+use papaya_call::copy::copying::Copying;
+use papaya_call::copy::settle::{Settle, SlotToCopy};
+use papaya_call::copy::step::{Chunk, Cursor, Step};
+use papaya_call::search::{Place, ProbeStep, Search};
+use papaya_core_store::store::Store;
+use papaya_words::resize_mode::ResizeMode;
 use papaya_words::word::{Kind, SHUT, Word, hint};
 use std::hash::{BuildHasher, Hash};
 
@@ -48,7 +48,7 @@ fn find_place<K: Hash + Eq, V, S: BuildHasher>(
         → word_at store.now.words (words.Slot at.table at.probe.i) ≡ 0 }
 {
     match pass_by(store, hash, place) {
-        Probed::On(Search::Reading(place)) => {
+        ProbeStep::On(Search::Reading(place)) => {
             if store.word(At::Slot(place.table, place.probe.i)) == 0 {
                 return Carry::Placing { hash, place };
             }
@@ -88,7 +88,7 @@ fn carry<K: Hash + Eq, V, S: BuildHasher>(store: &Store<K, V, S>, table: u64, ma
 fn move_pair<K: Hash + Eq, V, S: BuildHasher>(
     store: &mut Store<K, V, S>,
     mode: ResizeMode,
-    slot: Slot,
+    slot: SlotToCopy,
     word: u64,
 ) -> Option<Settle>
     requires sized { IsSized store.old }
@@ -107,7 +107,7 @@ fn move_pair<K: Hash + Eq, V, S: BuildHasher>(
     };
     let pair = Word(marked).pair();
     let _ = store.exchange(At::Slot(place.table, place.probe.i), 0, Word::live(pair).0);
-    store.note(place.table, place.probe.i, hint(hash));
+    store.write_hint(place.table, place.probe.i, hint(hash));
     if let ResizeMode::Incremental(_) = mode {
         let _ = store.exchange(at, marked, Word::copied(pair).0);
     }
@@ -119,7 +119,7 @@ fn move_pair<K: Hash + Eq, V, S: BuildHasher>(
 fn copy_slot<K: Hash + Eq, V, S: BuildHasher>(
     store: &mut Store<K, V, S>,
     mode: ResizeMode,
-    slot: Slot,
+    slot: SlotToCopy,
 ) -> Option<Settle>
     requires { IsSized store.old }
     ensures settles { Settles K.eq
@@ -131,7 +131,7 @@ fn copy_slot<K: Hash + Eq, V, S: BuildHasher>(
     let word = store.word(at);
     if word == 0 {
         let _ = store.exchange(at, 0, Word::CLOSED.0);
-        store.note(slot.from, slot.index, SHUT);
+        store.write_hint(slot.from, slot.index, SHUT);
         return None;
     }
     match Word(word).kind() {
@@ -219,12 +219,12 @@ pub(crate) fn copy_for_resizer<K: Hash + Eq, V, S: BuildHasher>(
         (hash_of K.hash_input S.build_hasher S.Hasher.write S.Hasher.finish) store.old resizer.old
         store.new resizer.new }
 {
-    let State::Copying { from, copying } = resizer.state else {
+    let ResizerState::Copying { from, copying } = resizer.state else {
         return;
     };
     if let Copying::Stepping(aim, Step::Settling(chunk, Settle::Looking)) = copying {
         let step = copy_slots(store, resizer.mode, chunk);
-        resizer.state = State::Copying {
+        resizer.state = ResizerState::Copying {
             from,
             copying: Copying::Stepping(aim, step),
         };

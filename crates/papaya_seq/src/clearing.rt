@@ -1,11 +1,11 @@
 //! The call that empties the map.
 ghost use Rattle.std.specs.Prelude.{◌≡◌, IfErr, IsOk, OnOk, []};
-ghost use Rattle.papaya_timeline.specs.Content.{content};
+ghost use Rattle.papaya_core_timeline.specs.Content.{content};
 ghost use Rattle.papaya_seq.specs.Map.{Keeps, KeepsSlots, Unchanged, next_of};
 ghost use Rattle.papaya_seq.specs.Resizes.{IsCopyCause};
 
 use crate::seq::HashMap;
-use papaya_words::probe::Refused;
+use papaya_words::refused::Refused;
 use std::hash::{BuildHasher, Hash};
 
 impl<K: Hash + Eq + Drop, V: Drop, S: BuildHasher> HashMap<K, V, S> {

@@ -3,20 +3,21 @@ ghost use Rattle.std.specs.Prelude.{◌≡◌, ◌≢◌, ◌⊎◌, ◌≤◌, 
 ghost use Rattle.std.specs.Int.{IsPowerOfTwo};
 ghost use Rattle.papaya_words.specs.Probe.{IsEntriesFor};
 ghost use Rattle.papaya_words.specs.declared.limits.TheConstants.{DEFAULT_CHUNK};
-ghost use Rattle.papaya_timeline.specs.Content.{content};
-ghost use Rattle.papaya_timeline.specs.Core.{unlimited};
+ghost use Rattle.papaya_core_timeline.specs.Content.{content};
+ghost use Rattle.papaya_core_timeline.specs.Core.{unlimited};
 ghost use Rattle.papaya_seq.specs.Clones.{HasFreeParts, HasParts, IsCloneRefusal, IsCopied, IsCopyCut};
 ghost use Rattle.papaya_seq.specs.Lengths.{IsAskedFor};
 ghost use Rattle.papaya_seq.specs.Clones.{IsRebuildRefusal, IsRebuilt};
 ghost use Rattle.papaya_seq.specs.Map.{Keeps, Unchanged, entry_of};
-ghost use Rattle.papaya_keys.specs.Hashes.{hash_of};
+ghost use Rattle.papaya_words_keys.specs.Hashes.{hash_of};
 ghost use Rattle.papaya_seq.specs.PutAlone.{AreClonedAlone, IsClonedAlone, IsMadeRoomy, IsRebuiltAlone};
 ghost use Rattle.papaya_seq.specs.Resizes.{IsReserveCause};
 
 use crate::seq::HashMap;
-use papaya_ask::ask::At;
+use papaya_call::ask::At;
 use papaya_words::limits::LEAST_TABLE_LEN;
-use papaya_words::probe::{Refused, ResizeMode};
+use papaya_words::refused::Refused;
+use papaya_words::resize_mode::ResizeMode;
 use std::alloc::Global;
 use std::hash::{BuildHasher, Hash};
 

@@ -5,14 +5,14 @@ ghost use Rattle.std.specs.declared.hash.FoldHasher.{FoldHasher};
 ghost use Rattle.std.specs.declared.hash.BuildHasherDefault.{BuildHasherDefault};
 ghost use Rattle.papaya_seq.specs.Entries.{AllCome, ComesNext, Extends, HasJust, IsCutAnew};
 ghost use Rattle.papaya_seq.specs.Entries.{IsCutIn, IsPut};
-ghost use Rattle.papaya_keys.specs.Hashes.{hash_of};
+ghost use Rattle.papaya_words_keys.specs.Hashes.{hash_of};
 ghost use Rattle.papaya_seq.specs.MadeAlone.{IsDoneAlone};
 ghost use Rattle.papaya_seq.specs.Map.{LogsOne, deref_pair};
 ghost use Rattle.papaya_seq.specs.PutAlone.{ExtendsAlone, IsFilledAlone};
 
 use crate::seq::HashMap;
-use papaya_ask::call::{Call, Reply};
-use papaya_words::probe::Refused;
+use papaya_call::call::{Call, Reply};
+use papaya_words::refused::Refused;
 use std::alloc::Global;
 use std::hash::{BuildHasher, BuildHasherDefault, FoldHasher, Hash};
 

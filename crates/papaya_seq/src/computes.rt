@@ -2,8 +2,8 @@
 ghost use Rattle.std.specs.Prelude.{◌≡◌, Some, None, IfOk, IfErr, MatchOption};
 ghost use Rattle.std.specs.Borrow.{sem};
 ghost use Rattle.std.specs.Fn.{FnReturnsAt};
-ghost use Rattle.papaya_keys.specs.Hashes.{hash_of};
-ghost use Rattle.papaya_timeline.specs.Content.{map_in};
+ghost use Rattle.papaya_words_keys.specs.Hashes.{hash_of};
+ghost use Rattle.papaya_core_timeline.specs.Content.{map_in};
 ghost use Rattle.papaya_seq.specs.Answered.{IsParted, old_answered, value_answered};
 ghost use Rattle.papaya_seq.specs.Computes.{ComputesBy, HasValueOf, IsTriedWith, IsUpdated};
 ghost use Rattle.papaya_seq.specs.Computes.{IsUpdatedOrInserted, Says, Takes, compute_answered};
@@ -13,8 +13,8 @@ ghost use Rattle.papaya_seq.specs.Map.{IsStoreRefusal, MapState, entry_of};
 
 use crate::seq::HashMap;
 use papaya_call::answers::Operation;
-use papaya_keys::compute::{Compute, Computed};
-use papaya_words::probe::Refused;
+use papaya_words::refused::Refused;
+use papaya_words_keys::results::{Compute, Computed};
 use std::hash::{BuildHasher, Hash};
 
 impl<K: Hash + Eq + Drop, V: Drop, S: BuildHasher> HashMap<K, V, S> {

@@ -1,25 +1,25 @@
 //! Insertions: at once if possible, and otherwise by their machine, answered by the store.
 ghost use Rattle.std.specs.Prelude.{◌≡◌, ℕ, false, Some, None};
-ghost use Rattle.papaya_words.specs.declared.probe.Refused.{Refused};
-ghost use Rattle.papaya_keys.specs.Hashes.{hash_of};
-ghost use Rattle.papaya_timeline.specs.Content.{map_in};
-ghost use Rattle.papaya_timeline.specs.Solo.{IsAnswered, IsNewIn};
+ghost use Rattle.papaya_words.specs.declared.refused.Refused.{Refused};
+ghost use Rattle.papaya_words_keys.specs.Hashes.{hash_of};
+ghost use Rattle.papaya_core_timeline.specs.Content.{map_in};
+ghost use Rattle.papaya_core_timeline.specs.Solo.{IsAnswered, IsNewIn};
 ghost use Rattle.papaya_seq.specs.Drives.{IsLedTo, led_state, value_left};
 ghost use Rattle.papaya_seq.specs.MadeAlone.{IsMadeAlone};
 ghost use Rattle.papaya_seq.specs.Map.{IsTryCause, IsWriteCauseAt, KeepsAndGrows, LogsOne, insertion};
 
 use crate::chunk::copy_for_call;
-use crate::copies::copies_from;
+use crate::resizing::copies_from;
 use crate::seq::HashMap;
 use crate::writing::insert_fast;
-use papaya_ask::ask::Ask as CallAsk;
-use papaya_ask::call::{Reply, Task};
 use papaya_call::answers::Listed;
+use papaya_call::ask::Ask as CallAsk;
+use papaya_call::call::{Reply, Task};
+use papaya_call::chain::ask::Ask;
+use papaya_call::chain::machine::Machine;
 use papaya_call::machine::State;
 use papaya_call::need::Need;
-use papaya_chain::ask::Ask;
-use papaya_chain::machine::Machine;
-use papaya_store::pairs::{Part, Running};
+use papaya_core_store::pairs::{Part, Running};
 use std::hash::{BuildHasher, Hash};
 
 /// Returns the value that was passed to a call and that the call has not stored.

@@ -1,8 +1,8 @@
 //! Consequences of several calls' contracts together. The functions have empty bodies; their
 //! contracts are the laws.
 ghost use Rattle.std.specs.Prelude.{◌≡◌, ℕ, Bool, Option, Some, None, false, true};
-ghost use Rattle.papaya_timeline.specs.Content.{map_in};
-ghost use Rattle.papaya_store.specs.Store.{StoreState, Stored};
+ghost use Rattle.papaya_core_timeline.specs.Content.{map_in};
+ghost use Rattle.papaya_core_store.specs.Store.{StoreState, Stored};
 ghost use Rattle.papaya_seq.specs.Clones.{AreEqual, IsCloned};
 ghost use Rattle.papaya_seq.specs.Map.{Inserts, Removes, value_of};
 

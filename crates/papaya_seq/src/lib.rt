@@ -1,9 +1,7 @@
-//! The map for one caller. Guards, results of computes and outcomes of calls are the types that all
-//! maps share.
+//! The map for one caller: changes take `&mut self`, and contracts are exact.
+//! It uses `papaya_core_store`, and the laws of `papaya_core_timeline` and `papaya_call_alone`.
+//! The set for one caller, `papaya_json` and `build_seq` of `papaya_map` build on it.
 #![tactic(auto)]
-
-pub use papaya_keys::{compute, guard, occupied};
-pub use papaya_timeline::outcome;
 
 mod chunk;
 mod clearing;
@@ -11,17 +9,15 @@ mod cloning;
 mod collecting;
 mod comparing;
 mod computes;
-mod computing;
-mod copies;
 mod insertion;
 pub mod laws;
 mod lookup;
+mod operating;
 mod printing;
 mod removal;
 mod resizing;
 mod retaining;
 mod search;
 pub mod seq;
-mod stand;
 pub mod walks;
 mod writing;

@@ -1,21 +1,21 @@
 //! Lookups, which read the words of the tables. The machine of a lookup exists in the proof alone.
 ghost use Rattle.std.specs.Prelude.{◌≡◌, option_map};
 ghost use Rattle.papaya_call.specs.Machine.{started};
-ghost use Rattle.papaya_ask.specs.declared.call.Task.TheVariants.{Get};
-ghost use Rattle.papaya_law.specs.Content.{AreApart};
-ghost use Rattle.papaya_timeline.specs.Content.{content};
-ghost use Rattle.papaya_store.specs.Store.{pair_of};
-ghost use Rattle.papaya_keys.specs.Hashes.{hash_of};
+ghost use Rattle.papaya_call.specs.declared.call.Task.TheVariants.{Get};
+ghost use Rattle.papaya_words_law.specs.Content.{AreApart};
+ghost use Rattle.papaya_core_timeline.specs.Content.{content};
+ghost use Rattle.papaya_core_store.specs.Store.{pair_of};
+ghost use Rattle.papaya_words_keys.specs.Hashes.{hash_of};
 ghost use Rattle.papaya_seq.specs.Looks.{LooksUp, matches_in};
 
-use crate::search::{Turn, search, search_root};
+use crate::search::{ProbeHit, search, search_root};
 use crate::seq::HashMap;
-use papaya_ask::ask::At;
-use papaya_ask::search::Place;
-use papaya_keys::guard::Equivalent;
-use papaya_store::store::Store;
-use papaya_words::probe::ResizeMode;
+use papaya_call::ask::At;
+use papaya_call::search::Place;
+use papaya_core_store::store::Store;
+use papaya_words::resize_mode::ResizeMode;
 use papaya_words::word::Word;
+use papaya_words_keys::guard::Equivalent;
 use std::hash::{BuildHasher, Hash};
 
 /// Returns whether the key of this pair matches.
@@ -46,8 +46,8 @@ impl<K: Hash + Eq, V, S: BuildHasher> HashMap<K, V, S> {
     {
         let hash = self.store.hash(key);
         match search_root(&self.store, key, hash) {
-            Some(Turn::Here(_, word)) => Some(Word(word).pair()),
-            Some(Turn::Empty(_)) => None,
+            Some(ProbeHit::Here(_, word)) => Some(Word(word).pair()),
+            Some(ProbeHit::Empty(_)) => None,
             _ => self.look_up_far(key),
         }
     }
@@ -68,8 +68,8 @@ impl<K: Hash + Eq, V, S: BuildHasher> HashMap<K, V, S> {
         while let Some(table) = self.store.table(number) {
             let first = Place::first(hash, number, table.len(), table.limit());
             match search(&self.store, key, hash, first) {
-                Turn::Here(_, word) => return Some(Word(word).pair()),
-                Turn::Over(passed) => match self.mode.resize {
+                ProbeHit::Here(_, word) => return Some(Word(word).pair()),
+                ProbeHit::Over(passed) => match self.mode.resize {
                     ResizeMode::Incremental(_) => number = self.store.word(At::Next(passed)),
                     ResizeMode::Blocking => return None,
                 },

@@ -1,12 +1,12 @@
 //! Removals: their machine, answered by the words of the tables and by a closure.
 ghost use Rattle.std.specs.Prelude.{◌≡◌, ℕ, Bool, IsSome, MatchOption, Some, length};
 ghost use Rattle.papaya_words.specs.Word.{pair_of as number_of};
-ghost use Rattle.papaya_ask.specs.Search.{IsSize};
-ghost use Rattle.papaya_store.specs.Tables.{table_of, word_at};
+ghost use Rattle.papaya_call.specs.Search.{IsSize};
+ghost use Rattle.papaya_core_store.specs.Tables.{table_of, word_at};
 ghost use Rattle.papaya_seq.specs.Buries.{IsBuried, IsRemovedFast};
-ghost use Rattle.papaya_words.specs.declared.probe.Refused.{Refused};
-ghost use Rattle.papaya_store.specs.Store.{pair_of};
-ghost use Rattle.papaya_keys.specs.Hashes.{hash_of};
+ghost use Rattle.papaya_words.specs.declared.refused.Refused.{Refused};
+ghost use Rattle.papaya_core_store.specs.Store.{pair_of};
+ghost use Rattle.papaya_words_keys.specs.Hashes.{hash_of};
 ghost use Rattle.papaya_seq.specs.MadeAlone.{IsRemovalMade};
 ghost use Rattle.papaya_seq.specs.Map.{KeepsRemoving};
 ghost use Rattle.papaya_seq.specs.Resizes.{IsCopyCause};
@@ -15,18 +15,18 @@ ghost use Rattle.papaya_seq.specs.Removes.{IsRemovalBy, IsShown, Judges};
 ghost use Rattle.papaya_seq.specs.Writes.{burying, slot_of};
 
 use crate::chunk::copy_for_call;
-use crate::copies::copies_from;
 use crate::lookup::matches;
-use crate::search::{Turn, search_root};
+use crate::resizing::copies_from;
+use crate::search::{ProbeHit, search_root};
 use crate::seq::HashMap;
-use papaya_ask::ask::{Answer as CallAnswer, Ask as CallAsk, At};
-use papaya_ask::call::{Reply, Task};
+use papaya_call::ask::{Answer as CallAnswer, Ask as CallAsk, At};
+use papaya_call::call::{Reply, Task};
+use papaya_call::chain::ask::{Answer, Ask};
+use papaya_call::chain::machine::Machine;
 use papaya_call::remove::Removal;
-use papaya_chain::ask::{Answer, Ask};
-use papaya_chain::machine::Machine;
-use papaya_keys::guard::Equivalent;
-use papaya_store::store::Store;
+use papaya_core_store::store::Store;
 use papaya_words::word::{Kind, Word};
+use papaya_words_keys::guard::Equivalent;
 use std::hash::{BuildHasher, Hash};
 
 /// Calls the closure of a removal with a pair.
@@ -138,8 +138,8 @@ fn remove_fast<K: Hash + Eq, V, S: BuildHasher, Q: Equivalent<K>, F: FnMut(&K, &
         store.new agrees.new) }
 {
     match search_root(store, key, hash) {
-        Some(Turn::Empty(_)) => Some(Reply::Absent),
-        Some(Turn::Here(place, word)) if Word(word).kind() == Kind::Live => {
+        Some(ProbeHit::Empty(_)) => Some(Reply::Absent),
+        Some(ProbeHit::Here(place, word)) if Word(word).kind() == Kind::Live => {
             Some(bury(store, Removal { place, word }, agrees))
         }
         _ => None,

@@ -1,18 +1,19 @@
 //! Calls that resize the map: their machine, answered by the words of the tables.
 ghost use Rattle.std.specs.Prelude.{◌≡◌, ◌≢◌, Err, IfErr, Ok, OnOk};
-ghost use Rattle.papaya_keys.specs.Sizes.{IsTooMuch};
-ghost use Rattle.papaya_keys.specs.Hashes.{hash_of};
+ghost use Rattle.papaya_words_keys.specs.Sizes.{IsTooMuch};
+ghost use Rattle.papaya_words_keys.specs.Hashes.{hash_of};
 ghost use Rattle.papaya_seq.specs.MadeAlone.{IsDoneAlone, IsResizedAlone};
 ghost use Rattle.papaya_seq.specs.Map.{Keeps, Unchanged, next_of};
 ghost use Rattle.papaya_seq.specs.Resizes.{HasRoomAlready, HasRoomFor, IsCopyCause, IsPastLimit};
 ghost use Rattle.papaya_seq.specs.Resizes.{IsReserveCause, IsResizeRefusal, IsResizedTo, IsRoomThere, pairs_with};
 
 use crate::chunk::copy_for_resizer;
-use crate::copies::copies_from;
 use crate::seq::HashMap;
-use papaya_ask::call::Call;
-use papaya_chain::resizer::{Resize, Resizer, State};
-use papaya_words::probe::Refused;
+use papaya_call::ask::At;
+use papaya_call::call::Call;
+use papaya_call::chain::resizer::{Resize, Resizer, ResizerState};
+use papaya_core_store::store::Store;
+use papaya_words::refused::Refused;
 use std::hash::{BuildHasher, Hash};
 
 impl<K: Hash + Eq + Drop, V: Drop, S: BuildHasher> HashMap<K, V, S> {
@@ -42,7 +43,7 @@ impl<K: Hash + Eq + Drop, V: Drop, S: BuildHasher> HashMap<K, V, S> {
             copy_for_resizer(&mut self.store, &mut resizer);
         }
         match resizer.state {
-            State::Refused(refused) => Err(refused),
+            ResizerState::Refused(refused) => Err(refused),
             _ => Ok(()),
         }
     }
@@ -92,4 +93,12 @@ impl<K: Hash + Eq + Drop, V: Drop, S: BuildHasher> HashMap<K, V, S> {
     {
         self.resize_by(Resize::CopyAll)
     }
+}
+
+/// Returns the number of a call: the chunk at which its copies to the table after the root begin.
+/// Another number is right too, but then it loads the words of chunks that are already copied.
+#[inline]
+pub(crate) fn copies_from<K: Hash + Eq, V, S: BuildHasher>(store: &Store<K, V, S>) -> u64 {
+    let root = store.word(At::Root);
+    store.begin(store.word(At::Next(root))) as u64
 }

@@ -6,8 +6,8 @@ ghost use Rattle.papaya_seq.specs.Retains.{IsRetained, IsRetainedTo, IsRetaining
 
 use crate::removal::show;
 use crate::seq::HashMap;
-use papaya_ask::ask::{Answer, At};
-use papaya_words::probe::Refused;
+use papaya_call::ask::{Answer, At};
+use papaya_words::refused::Refused;
 use papaya_words::word::{Kind, Word};
 use std::hash::{BuildHasher, Hash};
 

@@ -1,22 +1,22 @@
 //! The search of one table for a key, by the table's words: one loop for every call.
 ghost use Rattle.std.specs.Prelude.{◌≡◌, ◌+◌, ◌<◌, ℕ, Some, length};
-ghost use Rattle.papaya_ask.specs.Search.{IsSize, IsWithin};
-ghost use Rattle.papaya_store.specs.Tables.{table_of};
+ghost use Rattle.papaya_call.specs.Search.{IsSize, IsWithin};
+ghost use Rattle.papaya_core_store.specs.Tables.{table_of};
 ghost use Rattle.papaya_seq.specs.Searches.{IsPassed, IsReadTurn, IsRootTurn, IsThere, IsTurn, IsTurned};
 ghost use Rattle.papaya_seq.specs.Searches.{left_at, left_to, seen_by};
-ghost use Rattle.papaya_seq.specs.declared.search.Turn.TheVariants.{Next};
+ghost use Rattle.papaya_seq.specs.declared.search.ProbeHit.TheVariants.{Next};
 
 use crate::lookup::matches;
-use papaya_ask::ask::At;
-use papaya_ask::search::{Place, Probed, Search};
-use papaya_keys::guard::Equivalent;
-use papaya_store::store::Store;
+use papaya_call::ask::At;
+use papaya_call::search::{Place, ProbeStep, Search};
+use papaya_core_store::store::Store;
 use papaya_words::word::Word;
+use papaya_words_keys::guard::Equivalent;
 use std::hash::{BuildHasher, Hash};
 
 /// The outcome of one place of a search.
 #[derive(Clone, Copy)]
-pub(crate) enum Turn {
+pub(crate) enum ProbeHit {
     /// The search looks at this place next.
     Next(Place),
     /// Nothing was ever written at this place, so the key is not here.
@@ -29,16 +29,16 @@ pub(crate) enum Turn {
 
 /// Returns the outcome of a step that leaves no word to load and no key to compare.
 #[inline(always)]
-fn turn_of(seen: Probed) -> Turn
+fn turn_of(seen: ProbeStep) -> ProbeHit
     requires { IsTurned seen }
     ensures { seen_by result ≡ seen }
 {
     match seen {
-        Probed::On(Search::Looking(at)) => Turn::Next(at),
-        Probed::Empty(at) => Turn::Empty(at),
-        Probed::Here(at, word) => Turn::Here(at, word),
-        Probed::Over(table) => Turn::Over(table),
-        Probed::On(_) => unreachable!(),
+        ProbeStep::On(Search::Looking(at)) => ProbeHit::Next(at),
+        ProbeStep::Empty(at) => ProbeHit::Empty(at),
+        ProbeStep::Here(at, word) => ProbeHit::Here(at, word),
+        ProbeStep::Over(table) => ProbeHit::Over(table),
+        ProbeStep::On(_) => unreachable!(),
     }
 }
 
@@ -48,7 +48,7 @@ fn read_at<K: Hash + Eq, V, S: BuildHasher, Q: Equivalent<K>>(
     store: &Store<K, V, S>,
     key: &Q,
     at: Place,
-) -> Turn
+) -> ProbeHit
     requires within { IsWithin at }
     requires there { IsThere store.now at.table at.len }
     ensures turn { (hash : ℕ) → IsReadTurn (Q.matches key.now) store.now hash at result }
@@ -60,7 +60,7 @@ fn read_at<K: Hash + Eq, V, S: BuildHasher, Q: Equivalent<K>>(
     let word = table.slot(at.probe.i);
     let seen = at.look(word);
     match seen {
-        Probed::On(Search::Comparing(place, named)) => {
+        ProbeStep::On(Search::Comparing(place, named)) => {
             let same = matches(store, Word(named).pair(), key);
             turn_of(Search::Comparing(place, named).at_yes(same))
         }
@@ -75,7 +75,7 @@ pub(crate) fn pass_by<K: Hash + Eq, V, S: BuildHasher>(
     store: &Store<K, V, S>,
     hash: u64,
     at: Place,
-) -> Probed
+) -> ProbeStep
     requires within { IsWithin at }
     requires there { IsThere store.now at.table at.len }
     ensures { IsPassed store.now hash at result }
@@ -86,7 +86,7 @@ pub(crate) fn pass_by<K: Hash + Eq, V, S: BuildHasher>(
     let mut place = at;
     loop {
         match place.hinted(hash, table.hint(place.probe.i) as u64) {
-            Probed::On(Search::Looking(next)) => place = next,
+            ProbeStep::On(Search::Looking(next)) => place = next,
             seen => return seen,
         }
     }
@@ -99,7 +99,7 @@ fn look_at<K: Hash + Eq, V, S: BuildHasher, Q: Equivalent<K>>(
     key: &Q,
     hash: u64,
     at: Place,
-) -> Turn
+) -> ProbeHit
     requires within { IsWithin at }
     requires there { IsThere store.now at.table at.len }
     ensures turn { IsTurn (Q.matches key.now) store.now hash at result }
@@ -107,7 +107,7 @@ fn look_at<K: Hash + Eq, V, S: BuildHasher, Q: Equivalent<K>>(
 {
     let seen = pass_by(store, hash, at);
     match seen {
-        Probed::On(Search::Reading(place)) => read_at(store, key, place),
+        ProbeStep::On(Search::Reading(place)) => read_at(store, key, place),
         _ => turn_of(seen),
     }
 }
@@ -119,7 +119,7 @@ pub(crate) fn search<K: Hash + Eq, V, S: BuildHasher, Q: Equivalent<K>>(
     key: &Q,
     hash: u64,
     at: Place,
-) -> Turn
+) -> ProbeHit
     requires within { IsWithin at }
     requires there { IsThere store.now at.table at.len }
     ensures turn { IsTurn (Q.matches key.now) store.now hash at result }
@@ -128,7 +128,7 @@ pub(crate) fn search<K: Hash + Eq, V, S: BuildHasher, Q: Equivalent<K>>(
     let mut place = at;
     loop {
         match look_at(store, key, hash, place) {
-            Turn::Next(next) => place = next,
+            ProbeHit::Next(next) => place = next,
             turn => return turn,
         }
     }
@@ -140,7 +140,7 @@ pub(crate) fn search_root<K: Hash + Eq, V, S: BuildHasher, Q: Equivalent<K>>(
     store: &Store<K, V, S>,
     key: &Q,
     hash: u64,
-) -> Option<Turn>
+) -> Option<ProbeHit>
     requires { (n : ℕ) (t : _) → table_of store.now.words.tables n ≡ Some t
         → IsSize (length t.slots) t.limit }
     ensures { (turn : _) → result ≡ Some turn → IsRootTurn (Q.matches key.now) store.now hash turn }

@@ -6,15 +6,15 @@ ghost use Rattle.std.specs.Prelude.{length, option_map};
 ghost use Rattle.std.specs.Borrow.{sem};
 ghost use Rattle.papaya_words.specs.declared.limits.TheConstants.{DEFAULT_CHUNK};
 ghost use Rattle.papaya_call.specs.Machine.{started};
-ghost use Rattle.papaya_ask.specs.declared.call.Task.TheVariants.{Get};
-ghost use Rattle.papaya_law.specs.Content.{AreApart};
-ghost use Rattle.papaya_timeline.specs.Content.{content, map_in};
-ghost use Rattle.papaya_timeline.specs.New.{IsNew, IsNewLimited};
-ghost use Rattle.papaya_timeline.specs.Outcomes.{reply_told};
-ghost use Rattle.papaya_keys.specs.Sizes.{IsSizeRefusal};
-ghost use Rattle.papaya_keys.specs.Sizes.{IsAllowed};
-ghost use Rattle.papaya_store.specs.Store.{pair_of};
-ghost use Rattle.papaya_keys.specs.Hashes.{hash_of};
+ghost use Rattle.papaya_call.specs.declared.call.Task.TheVariants.{Get};
+ghost use Rattle.papaya_words_law.specs.Content.{AreApart};
+ghost use Rattle.papaya_core_timeline.specs.Content.{content, map_in};
+ghost use Rattle.papaya_core_timeline.specs.New.{IsNew, IsNewLimited};
+ghost use Rattle.papaya_core_timeline.specs.Outcomes.{reply_told};
+ghost use Rattle.papaya_words_keys.specs.Sizes.{IsSizeRefusal};
+ghost use Rattle.papaya_words_keys.specs.Sizes.{IsAllowed};
+ghost use Rattle.papaya_core_store.specs.Store.{pair_of};
+ghost use Rattle.papaya_words_keys.specs.Hashes.{hash_of};
 ghost use Rattle.papaya_seq.specs.Answered.{entry_answered, judged_answered, old_answered, value_answered};
 ghost use Rattle.papaya_seq.specs.Calls.{AreCalled, IsCalled, IsLeftAlone, IsListed};
 ghost use Rattle.papaya_seq.specs.Computes.{tried_answered};
@@ -27,15 +27,14 @@ ghost use Rattle.papaya_seq.specs.Map.{IsStoreRefusal};
 ghost use Rattle.papaya_seq.specs.Map.{IsResizing, IsTried, IsTriedInto, IsTryCause, core_of};
 ghost use Rattle.papaya_seq.specs.Map.{deref_pair, entry_of, next_of, slots_of, value_of};
 
-use papaya_ask::call::{Call, Reply};
 use papaya_call::answers::Answers;
-use papaya_keys::compute::Computed;
-use papaya_keys::guard::Equivalent;
-use papaya_keys::occupied::{NotInserted, OccupiedError};
-use papaya_store::mode::Mode;
-use papaya_store::store::Store;
-use papaya_timeline::outcome::Outcome;
-use papaya_words::probe::{Refused, ResizeMode};
+use papaya_call::call::{Call, Reply};
+use papaya_core_store::store::{Mode, Store};
+use papaya_core_timeline::outcome::Outcome;
+use papaya_words::refused::Refused;
+use papaya_words::resize_mode::ResizeMode;
+use papaya_words_keys::guard::Equivalent;
+use papaya_words_keys::results::{Computed, NotInserted, OccupiedError};
 use std::alloc::Global;
 use std::hash::{BuildHasher, BuildHasherDefault, FoldHasher, Hash};
 use std::marker::Model;
@@ -80,7 +79,7 @@ pub struct HashMap<K: Hash + Eq, V, S: BuildHasher = BuildHasherDefault<FoldHash
 }
 
 impl<K: Hash + Eq, V, S: BuildHasher> Model for HashMap<K, V, S> {
-    ghost use Rattle.papaya_keys.specs.Hashes.{hash_of};
+    ghost use Rattle.papaya_words_keys.specs.Hashes.{hash_of};
     ghost use Rattle.papaya_seq.specs.Map.{IsLawfulMap, MapState};
 
     ghost Value = { MapState K V S };

@@ -1,20 +1,21 @@
 //! Iterations over the map: each entry once, by tables from the root, and by slots in each.
 ghost use Rattle.std.specs.Prelude.{◌≡◌, ◌<◌, IfErr, IfOk, MatchBool, Some, length, map};
 ghost use Rattle.std.specs.Iterator.{YieldsFirstBy, YieldsFirstRef, item_count};
-ghost use Rattle.papaya_ask.specs.Search.{IsSize};
-ghost use Rattle.papaya_store.specs.Store.{pair_of};
-ghost use Rattle.papaya_store.specs.Tables.{table_of};
-ghost use Rattle.papaya_timeline.specs.Content.{content};
-ghost use Rattle.papaya_keys.specs.Hashes.{hash_of};
+ghost use Rattle.papaya_call.specs.Search.{IsSize};
+ghost use Rattle.papaya_core_store.specs.Store.{pair_of};
+ghost use Rattle.papaya_core_store.specs.Tables.{table_of};
+ghost use Rattle.papaya_core_timeline.specs.Content.{content};
+ghost use Rattle.papaya_words_keys.specs.Hashes.{hash_of};
 ghost use Rattle.papaya_seq.specs.Map.{IsOrderly, deref_pair, entry_of};
 ghost use Rattle.papaya_seq.specs.Walks.{HasMark, HasNoMark, IsHeld, IsNext, IsNextHere, IsStand};
 ghost use Rattle.papaya_seq.specs.Walks.{IsStepped, IsWord, has_in, left_to};
 
 use crate::seq::HashMap;
-use crate::stand::Stand;
-use papaya_ask::ask::{Answer, At};
-use papaya_store::store::Store;
-use papaya_words::probe::{Probe, Refused, ResizeMode};
+use papaya_call::ask::{Answer, At};
+use papaya_core_store::store::Store;
+use papaya_words::probe::Probe;
+use papaya_words::refused::Refused;
+use papaya_words::resize_mode::ResizeMode;
 use papaya_words::table::Table;
 use papaya_words::word::{Kind, Word, h1};
 use std::hash::{BuildHasher, Hash};
@@ -271,7 +272,7 @@ pub struct Iter<'a, K: Hash + Eq, V, S: BuildHasher> {
 
 impl<'a, K: Hash + Eq, V, S: BuildHasher> Model for Iter<'a, K, V, S> {
     ghost use Rattle.std.specs.Prelude.{List};
-    ghost use Rattle.papaya_keys.specs.Hashes.{hash_of};
+    ghost use Rattle.papaya_words_keys.specs.Hashes.{hash_of};
     ghost use Rattle.papaya_seq.specs.Map.{IsOrderly};
     ghost use Rattle.papaya_seq.specs.Walks.{IsHeld, IsStand, entries_left};
 
@@ -373,4 +374,12 @@ impl<'a, K: Hash + Eq, V, S: BuildHasher> Iterator for Values<'a, K, V, S> {
             None => None,
         }
     }
+}
+
+/// A position before this slot of this table. `passed` tables come before it, from the root.
+#[derive(Clone, Copy)]
+pub(crate) struct Stand {
+    pub(crate) table: u64,
+    pub(crate) slot: usize,
+    pub(crate) passed: usize,
 }

@@ -2,20 +2,20 @@
 //! their pair is written at once. The machine exists in the proof alone.
 ghost use Rattle.std.specs.Prelude.{◌≡◌, ◌≢◌, ℕ, IfOk, IfErr, IsSome, length, Some};
 ghost use Rattle.papaya_words.specs.Word.{pair_of as number_of};
-ghost use Rattle.papaya_ask.specs.Search.{IsSize};
-ghost use Rattle.papaya_keys.specs.Hashes.{hash_of};
+ghost use Rattle.papaya_call.specs.Search.{IsSize};
+ghost use Rattle.papaya_words_keys.specs.Hashes.{hash_of};
 ghost use Rattle.papaya_call_law.specs.Alone.{IsBare};
-ghost use Rattle.papaya_store.specs.Store.{pair_of};
-ghost use Rattle.papaya_store.specs.Tables.{table_of, word_at};
+ghost use Rattle.papaya_core_store.specs.Store.{pair_of};
+ghost use Rattle.papaya_core_store.specs.Tables.{table_of, word_at};
 ghost use Rattle.papaya_seq.specs.Drives.{IsInsertedFast, IsLedTo, led_state};
 ghost use Rattle.papaya_seq.specs.Writes.{IsKeyFor, IsWritten, slot_of};
 
-use crate::search::{Turn, search_root};
-use papaya_ask::ask::At;
-use papaya_ask::call::Reply;
+use crate::search::{ProbeHit, search_root};
+use papaya_call::ask::At;
+use papaya_call::call::Reply;
 use papaya_call::write::Write;
-use papaya_store::pairs::Part;
-use papaya_store::store::Store;
+use papaya_core_store::pairs::Part;
+use papaya_core_store::store::Store;
 use papaya_words::word::{Kind, Word, hint};
 use std::alloc::Global;
 use std::hash::{BuildHasher, Hash};
@@ -66,7 +66,7 @@ pub(crate) fn write<K: Hash + Eq + Drop, V: Drop, S: BuildHasher>(
     let _ = store.exchange(at, write.old, Word::live(pair).0);
     if write.old == 0 {
         store.add_to_shard(0, 1);
-        store.note(write.place.table, write.place.probe.i, hint(hash));
+        store.write_hint(write.place.table, write.place.probe.i, hint(hash));
         if write.place.is_crowded() {
             store.write_ahead(alloc);
         }
@@ -97,17 +97,17 @@ pub(crate) fn insert_fast<K: Hash + Eq + Drop, V: Drop, S: BuildHasher>(
         × IsLedTo (K.eq key) store.old hash replace (led_state back.2)) }
 {
     match search_root(store, &key, hash) {
-        Some(Turn::Empty(place)) => {
+        Some(ProbeHit::Empty(place)) => {
             let claim = Write { place, old: 0 };
             Ok(write(store, alloc, key, value, hash, claim))
         }
-        Some(Turn::Here(place, word)) if Word(word).kind() == Kind::Live => {
+        Some(ProbeHit::Here(place, word)) if Word(word).kind() == Kind::Live => {
             if !replace {
                 return Ok((Reply::Occupied(Word(word).pair()), Some(value)));
             }
             Ok(write(store, alloc, key, value, hash, Write { place, old: word }))
         }
-        Some(Turn::Over(table)) => Err((key, value, table)),
+        Some(ProbeHit::Over(table)) => Err((key, value, table)),
         _ => Err((key, value, 0)),
     }
 }

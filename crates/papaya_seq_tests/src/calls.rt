@@ -4,12 +4,12 @@ ghost use Rattle.papaya_seq.specs.Map.{Inserts, Removes, Unchanged};
 
 use crate::expect::is;
 use crate::numbers::{Fold, Making, Usual, Work, has, on_usual};
-use papaya_ask::call::{Call, Reply};
 use papaya_call::answers::Listed;
-use papaya_keys::guard::Equivalent;
-use papaya_seq::outcome::Outcome;
+use papaya_call::call::{Call, Reply};
+use papaya_core_timeline::outcome::Outcome;
 use papaya_seq::seq::HashMap;
-use papaya_words::probe::Refused;
+use papaya_words::refused::Refused;
+use papaya_words_keys::guard::Equivalent;
 use std::alloc::Global;
 use std::hash::{BuildHasher, Hash};
 use std::process::Abort;

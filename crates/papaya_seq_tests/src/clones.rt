@@ -2,7 +2,8 @@
 use crate::expect::is;
 use crate::numbers::{Numbers, Parts, Work, on_made};
 use papaya_testing::times::{TOGETHER, Times};
-use papaya_words::probe::{Refused, ResizeMode};
+use papaya_words::refused::Refused;
+use papaya_words::resize_mode::ResizeMode;
 use std::alloc::Global;
 use std::process::Abort;
 use std::test::Fail;

@@ -2,8 +2,8 @@
 use crate::expect::is;
 use crate::numbers::{Fold, Making, Usual, Work, finds, on_usual};
 use papaya_call::answers::Operation;
-use papaya_keys::compute::{Compute, Computed};
-use papaya_words::probe::Refused;
+use papaya_words::refused::Refused;
+use papaya_words_keys::results::{Compute, Computed};
 use std::alloc::Global;
 use std::process::Abort;
 use std::test::Fail;

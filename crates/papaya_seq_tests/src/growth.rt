@@ -1,9 +1,9 @@
 // Tables that grow while keys are stored, looked up, removed and updated.
 use crate::expect::{is, is_at};
 use crate::numbers::{Numbers, Parts, Work, finds, has, inserts, made, on_made, removes, tries};
-use papaya_keys::occupied::{NotInserted, OccupiedError};
 use papaya_testing::times::{APART, TOGETHER, Times};
-use papaya_words::probe::ResizeMode;
+use papaya_words::resize_mode::ResizeMode;
+use papaya_words_keys::results::{NotInserted, OccupiedError};
 use std::alloc::Global;
 use std::process::Abort;
 use std::test::Fail;

@@ -1,4 +1,6 @@
-//! The tests of the map for one caller.
+//! Tests of the map for one caller.
+//! It uses `papaya_seq` and the helpers of `papaya_testing`.
+//! No crate builds on it.
 #![tactic(auto)]
 
 #[cfg(test)]

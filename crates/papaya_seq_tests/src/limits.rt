@@ -1,7 +1,7 @@
 // Maps with a limit on the pairs that they store.
 use crate::expect::is;
 use crate::numbers::{Fold, Making, Usual, Work, has, inserts, on_usual, removes, tries};
-use papaya_words::probe::Refused;
+use papaya_words::refused::Refused;
 use std::alloc::Global;
 use std::process::Abort;
 use std::test::Fail;

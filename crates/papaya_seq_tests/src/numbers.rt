@@ -1,10 +1,11 @@
 // Maps of numbers, and their calls with the results that are wanted. A function that owns a map
 // makes it and passes it on, since its proof covers everything that may become of the map.
 use crate::expect::is;
-use papaya_keys::occupied::OccupiedError;
 use papaya_seq::seq::HashMap;
 use papaya_testing::times::Times;
-use papaya_words::probe::{Refused, ResizeMode};
+use papaya_words::refused::Refused;
+use papaya_words::resize_mode::ResizeMode;
+use papaya_words_keys::results::OccupiedError;
 use std::alloc::Global;
 use std::hash::{BuildHasher, BuildHasherDefault, FoldHasher};
 use std::process::Abort;

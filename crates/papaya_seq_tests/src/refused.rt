@@ -2,11 +2,12 @@
 // `rt try --test --fail-alloc N`, a call here meets it.
 use crate::expect::{is, is_at};
 use crate::numbers::{Numbers, Parts, Work, on_made, removes};
-use papaya_ask::call::{Call, Reply};
 use papaya_call::answers::{Listed, Operation};
-use papaya_seq::outcome::Outcome;
+use papaya_call::call::{Call, Reply};
+use papaya_core_timeline::outcome::Outcome;
 use papaya_testing::times::{APART, TOGETHER, Times};
-use papaya_words::probe::{Refused, ResizeMode};
+use papaya_words::refused::Refused;
+use papaya_words::resize_mode::ResizeMode;
 use std::alloc::{AllocError, Global};
 use std::process::Abort;
 use std::test::Fail;

@@ -2,7 +2,7 @@
 use crate::expect::is;
 use crate::numbers::{Numbers, Parts, finds, has, inserts, made, removes};
 use papaya_testing::times::TOGETHER;
-use papaya_words::probe::Refused;
+use papaya_words::refused::Refused;
 use std::process::Abort;
 use std::test::Fail;
 

@@ -5,12 +5,13 @@ use crate::growth::{fills, has_below, looks_so};
 use crate::numbers::{
     Fold, Making, Numbers, Parts, Usual, Work, finds, has, inserts, on_made, on_usual,
 };
-use papaya_ask::call::{Call, Reply};
 use papaya_call::answers::Listed;
-use papaya_seq::outcome::Outcome;
+use papaya_call::call::{Call, Reply};
+use papaya_core_timeline::outcome::Outcome;
 use papaya_seq::seq::HashMap;
 use papaya_testing::times::{APART, Times};
-use papaya_words::probe::{Refused, ResizeMode};
+use papaya_words::refused::Refused;
+use papaya_words::resize_mode::ResizeMode;
 use std::alloc::Global;
 use std::hash::BuildHasher;
 use std::process::Abort;

@@ -7,9 +7,9 @@ ghost use Rattle.std.specs.Hash as fed;
 
 use crate::expect::is;
 use papaya_call::answers::Operation;
-use papaya_keys::compute::Compute;
 use papaya_seq::seq::HashMap;
-use papaya_words::probe::Refused;
+use papaya_words::refused::Refused;
+use papaya_words_keys::results::Compute;
 use std::alloc::Global;
 use std::hash::{Hash, Hasher};
 use std::process::Abort;

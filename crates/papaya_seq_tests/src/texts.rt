@@ -1,8 +1,8 @@
 // A map of texts, looked up by borrowed texts.
 use crate::expect::is;
-use papaya_keys::guard::TextKey;
 use papaya_seq::seq::HashMap;
-use papaya_words::probe::Refused;
+use papaya_words::refused::Refused;
+use papaya_words_keys::guard::TextKey;
 use std::alloc::Global;
 use std::process::Abort;
 use std::test::Fail;

@@ -4,7 +4,7 @@ use crate::growth::{looks_so, stores};
 use crate::numbers::{Fold, Making, Numbers, Parts, Usual, Work, has, inserts, on_made, on_usual};
 use papaya_seq::seq::HashMap;
 use papaya_testing::times::{APART, TOGETHER, Times};
-use papaya_words::probe::ResizeMode;
+use papaya_words::resize_mode::ResizeMode;
 use std::alloc::{AllocError, Global};
 use std::fmt::Debug;
 use std::hash::BuildHasher;

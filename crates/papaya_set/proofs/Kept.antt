@@ -6,7 +6,7 @@ use denote.Param.Always.{always_mut, mut_by, mut_next}
 use Rattle.std.specs.Fn.{Called, CalledAt, Mut}
 use Rattle.std.specs.List.{items_where_true}
 use Rattle.std.specs.List.Retain.{IsFiltered}
-use Rattle.papaya_store.specs.Store.{StoreState, Stored}
+use Rattle.papaya_core_store.specs.Store.{StoreState, Stored}
 use Rattle.papaya_seq.specs.Retains.{IsRetained, Retains}
 use Rattle.papaya_set.specs.Sets.{AreKept}
 

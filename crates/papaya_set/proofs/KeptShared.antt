@@ -2,11 +2,11 @@
 use Rattle.std.proofs.Common.{◌≡◌, Bool, List, [], ◌∷◌, Result, ap, subst}
 use denote.Ref.{Bor}
 use Rattle.std.specs.Fn.{Called, Mut}
-use Rattle.papaya_words.specs.declared.probe.Refused.{Refused}
-use Rattle.papaya_book.specs.Logs.{Stored}
-use Rattle.papaya_change.specs.Showings.{HasSaid, Judges}
-use Rattle.papaya_lookup.specs.History.{Change}
-use Rattle.papaya_scan.specs.Leaving.{HasKept}
+use Rattle.papaya_words.specs.declared.refused.Refused.{Refused}
+use Rattle.papaya_map_book.specs.Logs.{Stored}
+use Rattle.papaya_map_change.specs.Showings.{HasSaid, Judges}
+use Rattle.papaya_map_lookup.specs.History.{Change}
+use Rattle.papaya_map_scan.specs.Leaving.{HasKept}
 use Rattle.papaya_set.specs.Shared.{JudgesKey}
 
 -- the closure of a map, `w`, asks the closure of keys that it holds

@@ -4,9 +4,9 @@ use Rattle.std.specs.Iterator.{Yields}
 use denote.Bor.{Bor}
 use mathlib.Core.List.{IsPrefix}
 use Rattle.logbook.specs.Pages.{Book}
-use Rattle.papaya_book.specs.Logs.{Stored}
-use Rattle.papaya_lookup.specs.History.{Change}
-use Rattle.papaya_scan.specs.Walked.{Gives, GivesKey, Walked}
+use Rattle.papaya_map_book.specs.Logs.{Stored}
+use Rattle.papaya_map_lookup.specs.History.{Change}
+use Rattle.papaya_map_scan.specs.Walked.{Gives, GivesKey, Walked}
 use Rattle.papaya_map.specs.Collected.{AreWalked}
 use Rattle.papaya_map.proofs.Collected.{walked}
 use Rattle.papaya_seq.specs.Map.{deref_pair}

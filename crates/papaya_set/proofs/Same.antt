@@ -1,8 +1,8 @@
 -- Sets that are equal as maps of unit values.
 use Rattle.std.proofs.Common.{◌≡◌, Bool, true, Option, Some, None, refl, sym, ap}
 use Rattle.std.specs.Prelude.{is_some, MatchOption}
-use Rattle.papaya_store.specs.Store.{StoreState, Stored}
-use Rattle.papaya_timeline.specs.Content.{map_in}
+use Rattle.papaya_core_store.specs.Store.{StoreState, Stored}
+use Rattle.papaya_core_timeline.specs.Content.{map_in}
 use Rattle.papaya_seq.specs.Clones.{AreEqual}
 use Rattle.papaya_set.specs.Sets.{HaveSameKeys}
 

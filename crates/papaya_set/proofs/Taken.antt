@@ -2,7 +2,7 @@
 use Rattle.std.proofs.Common.{◌≡◌, Bool, Option, Some, None, Result, Ok, Err, option_map, refl, sym, ◌∙◌, subst}
 use Rattle.std.specs.Prelude.{is_some}
 use Rattle.std.specs.Borrow.{Bor}
-use Rattle.papaya_words.specs.declared.probe.Refused.{Refused}
+use Rattle.papaya_words.specs.declared.refused.Refused.{Refused}
 use Rattle.papaya_seq.specs.Answered.{old_answered}
 use Rattle.papaya_seq.specs.Map.{MapState}
 use Rattle.papaya_seq.specs.Removes.{IsRemoved}

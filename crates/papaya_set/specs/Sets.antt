@@ -3,10 +3,10 @@ use Rattle.std.specs.Prelude.{◌≡◌, Bool, true, false, List, Option, Result
 use Rattle.std.specs.Fn.{CalledAt, Mut}
 use Rattle.std.specs.List.Retain.{IsFiltered}
 use Rattle.std.specs.Borrow.{Bor}
-use Rattle.papaya_words.specs.declared.probe.Refused.{Refused}
-use Rattle.papaya_law.specs.Content.{AreApart, lookup}
-use Rattle.papaya_store.specs.Store.{StoreState, Stored}
-use Rattle.papaya_timeline.specs.Content.{content, map_in}
+use Rattle.papaya_words.specs.declared.refused.Refused.{Refused}
+use Rattle.papaya_words_law.specs.Content.{AreApart, lookup}
+use Rattle.papaya_core_store.specs.Store.{StoreState, Stored}
+use Rattle.papaya_core_timeline.specs.Content.{content, map_in}
 use Rattle.papaya_seq.specs.Map.{HasNone, KeepsRemoving, MapState, Removes, Unchanged, next_of}
 use Rattle.papaya_seq.specs.Resizes.{IsCopyCause}
 

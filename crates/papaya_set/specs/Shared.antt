@@ -3,12 +3,12 @@
 use Rattle.std.specs.Prelude.{◌≡◌, Bool, false, List, Option, Result, Ok, Err, is_none, is_some, option_map}
 use Rattle.std.specs.Borrow.{Bor}
 use Rattle.std.specs.Fn.{Called, Mut}
-use Rattle.papaya_book.specs.Logs.{Stored}
-use Rattle.papaya_words.specs.declared.probe.Refused.{Refused}
-use Rattle.papaya_change.specs.Changes.{IsPut}
-use Rattle.papaya_change.specs.RemovalAnswers.{IsRemoved}
-use Rattle.papaya_lookup.specs.Answers.{IsPairAnsweredBetween}
-use Rattle.papaya_lookup.specs.History.{Change, key_of}
+use Rattle.papaya_map_book.specs.Logs.{Stored}
+use Rattle.papaya_words.specs.declared.refused.Refused.{Refused}
+use Rattle.papaya_map_change.specs.Changes.{IsPut}
+use Rattle.papaya_map_change.specs.RemovalAnswers.{IsRemoved}
+use Rattle.papaya_map_lookup.specs.Answers.{IsPairAnsweredBetween}
+use Rattle.papaya_map_lookup.specs.History.{Change, key_of}
 use Rattle.papaya_map.specs.Plain as map
 
 module _ {K : Type 0} (eq : K → K → Bool) where

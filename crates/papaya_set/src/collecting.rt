@@ -8,7 +8,7 @@ ghost use Rattle.papaya_seq.specs.Entries.{IsCutIn};
 ghost use Rattle.papaya_set.specs.Sets.{entry_of_key, entry_of_ref};
 
 use crate::seq::HashSet;
-use papaya_words::probe::Refused;
+use papaya_words::refused::Refused;
 use std::alloc::Global;
 use std::hash::{BuildHasher, BuildHasherDefault, FoldHasher, Hash};
 

@@ -1,9 +1,9 @@
 //! Iterators over the set that threads share.
 ghost use Rattle.std.specs.Prelude.{◌≡◌};
 ghost use Rattle.std.specs.Iterator.{at_most};
-ghost use Rattle.papaya_scan.specs.Walked.{GivesKey};
+ghost use Rattle.papaya_map_scan.specs.Walked.{GivesKey};
 
-use papaya_scan::walk::Keys;
+use papaya_map_scan::walk::Keys;
 use std::hash::{BuildHasher, Hash};
 use std::marker::Model;
 
@@ -15,7 +15,7 @@ pub struct Iter<'a, K: Hash + Eq, S: BuildHasher> {
 }
 
 impl<'a, K: Hash + Eq, S: BuildHasher> Model for Iter<'a, K, S> {
-    ghost use Rattle.papaya_scan.specs.Walked.{Walked};
+    ghost use Rattle.papaya_map_scan.specs.Walked.{Walked};
 
     ghost Value = { Walked K (Unit {0}) };
 

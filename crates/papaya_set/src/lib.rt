@@ -1,4 +1,6 @@
-//! Sets: maps of keys to unit values.
+//! Sets: maps of keys to unit values, both the one that threads share and the one for one caller.
+//! It uses `papaya_map` and `papaya_seq`.
+//! `papaya_json` and `papaya_reclaiming` build on it.
 //!
 //! [`set`] has the set that threads share, [`pinned`] its calls, and [`guarded`] those with a
 //! guard; [`builder`] has its builder. [`seq`] is the set for one caller. Each call passes on to
@@ -6,8 +8,8 @@
 #![tactic(auto)]
 
 pub mod builder;
+mod cloning;
 mod collecting;
-mod copies;
 mod filling;
 pub mod guarded;
 pub mod iter;

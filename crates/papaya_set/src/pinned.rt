@@ -5,23 +5,23 @@ ghost use Rattle.std.specs.Prelude.{◌≡◌, [], IfErr, IfOk, is_ok};
 ghost use Rattle.std.specs.Borrow.{sem};
 ghost use denote.Struct.Field.{unit-field};
 ghost use mathlib.Core.List.{IsPrefix};
-ghost use Rattle.papaya_book.specs.contracts.rule.entry.Event.{the_row as EventOf};
-ghost use Rattle.papaya_change.specs.Writing.{IsMemoryOrCapacity};
-ghost use Rattle.papaya_lookup.specs.History.{IsLegalHistory, Makes, history_of, key_of};
+ghost use Rattle.papaya_map_book.specs.contracts.rule.entry.Event.{the_row as EventOf};
+ghost use Rattle.papaya_map_change.specs.Writing.{IsMemoryOrCapacity};
+ghost use Rattle.papaya_map_lookup.specs.History.{IsLegalHistory, Makes, history_of, key_of};
 ghost use Rattle.papaya_map.specs.Limited.{IsPlainRefusal};
 ghost use Rattle.papaya_map.specs.Plain.{IsOfHistorySince, of_its_history, rule_of};
-ghost use Rattle.papaya_scan.specs.Leaving.{HasDropped, HasKept, IsCleared};
+ghost use Rattle.papaya_map_scan.specs.Leaving.{HasDropped, HasKept, IsCleared};
 ghost use Rattle.papaya_set.specs.Shared.{IsContainedBetween, IsInsertedBetween};
 ghost use Rattle.papaya_set.specs.Shared.{IsKeyFoundBetween, IsRemovedKeyBetween, JudgesKey, was_taken};
 
 use crate::iter::Iter;
 use crate::set::{HashSet, HashSetRef};
 use logbook::Rule;
-use papaya_book::rule::entry::{Event, Named};
-use papaya_book::rule::law::Law;
-use papaya_keys::guard::Equivalent;
 use papaya_map::told::{Saying, Told};
-use papaya_words::probe::Refused;
+use papaya_map_book::rule::entry::{Event, Named};
+use papaya_map_book::rule::law::Law;
+use papaya_words::refused::Refused;
+use papaya_words_keys::guard::Equivalent;
 use std::hash::{BuildHasher, Hash};
 use std::sync::Wait;
 
@@ -247,9 +247,9 @@ impl<'a, K: Hash + Eq, S: BuildHasher> HashSetRef<'a, K, S> {
         answer
     }
 
-    /// Returns an iterator over the keys: `iter` of 0.2.5. Each key that the set has is returned, if
-    /// no call removes it meanwhile. A key that is stored or removed meanwhile may be returned or
-    /// not.
+    /// Returns an iterator over the keys: `iter` of 0.2.5. Each key that the set has is returned,
+    /// if no call removes it meanwhile. A key that is stored or removed meanwhile may be returned
+    /// or not.
     ///
     /// With `ResizeMode::Blocking` the iterator takes the root as it is. Otherwise the call first
     /// copies what is left to copy.

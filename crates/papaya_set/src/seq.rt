@@ -2,19 +2,20 @@
 ghost use Rattle.std.specs.Prelude.{◌≡◌, ◌≢◌, ◌↔◌, IsTrue, true, Err, IfErr, IfOk, IsOk, OnOk, [], MatchBool};
 ghost use Rattle.std.specs.Prelude.{MatchOption, length, option_map, is_some};
 ghost use Rattle.papaya_words.specs.declared.limits.TheConstants.{DEFAULT_CHUNK};
-ghost use Rattle.papaya_law.specs.Content.{AreApart};
-ghost use Rattle.papaya_timeline.specs.Content.{content};
-ghost use Rattle.papaya_timeline.specs.New.{IsNew, IsNewLimited};
-ghost use Rattle.papaya_keys.specs.Sizes.{IsAllowed, IsSizeRefusal, IsTooMuch};
+ghost use Rattle.papaya_words_law.specs.Content.{AreApart};
+ghost use Rattle.papaya_core_timeline.specs.Content.{content};
+ghost use Rattle.papaya_core_timeline.specs.New.{IsNew, IsNewLimited};
+ghost use Rattle.papaya_words_keys.specs.Sizes.{IsAllowed, IsSizeRefusal, IsTooMuch};
 ghost use Rattle.papaya_seq.specs.Entries.{IsPut};
 ghost use Rattle.papaya_seq.specs.Map.{HasNone, Holds, Keeps, KeepsSlots, Unchanged};
 ghost use Rattle.papaya_seq.specs.Map.{core_of, next_of, slots_of};
 ghost use Rattle.papaya_seq.specs.Resizes.{HasRoomFor, IsCopyCause, IsReserveCause, pairs_with};
 ghost use Rattle.papaya_set.specs.Sets.{AreKept, HaveSameKeys, IsTaken, key_in};
 
-use papaya_keys::guard::Equivalent;
 use papaya_seq::seq::HashMap;
-use papaya_words::probe::{Refused, ResizeMode};
+use papaya_words::refused::Refused;
+use papaya_words::resize_mode::ResizeMode;
+use papaya_words_keys::guard::Equivalent;
 use std::alloc::Global;
 use std::hash::{BuildHasher, BuildHasherDefault, FoldHasher, Hash};
 use std::marker::Model;

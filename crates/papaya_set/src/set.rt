@@ -1,12 +1,14 @@
 //! The set that threads share.
 ghost use Rattle.std.specs.Prelude.{◌≡◌, IfErr, IfOk, None};
 ghost use Rattle.papaya_words.specs.declared.limits.TheConstants.{DEFAULT_CHUNK, DEFAULT_SHARDS};
-ghost use Rattle.papaya_keys.specs.Sizes.{IsAllowed, IsSizeRefusal};
+ghost use Rattle.papaya_words_keys.specs.Sizes.{IsAllowed, IsSizeRefusal};
 ghost use Rattle.papaya_map.specs.Fixed.{HasLearned, IsFor};
 ghost use mathlib.Core.List.{IsPrefix};
 
-use papaya_map::map::{HashMap, HashMapRef, Pass};
-use papaya_words::probe::{Refused, ResizeMode};
+use papaya_map::map::{HashMap, HashMapRef};
+use papaya_map::pass::Pass;
+use papaya_words::refused::Refused;
+use papaya_words::resize_mode::ResizeMode;
 use std::alloc::Global;
 use std::hash::{BuildHasher, BuildHasherDefault, FoldHasher, Hash};
 use std::marker::Model;
@@ -186,8 +188,8 @@ impl<K: Hash + Eq, S: BuildHasher> HashSet<K, S> {
         &self.map
     }
 
-    /// Records in the set what a pass has observed, as [`HashMap::learn`] does in a map. A call that
-    /// fills a new set uses this. Does nothing at run time.
+    /// Records in the set what a pass has observed, as [`HashMap::learn`] does in a map. A call
+    /// that fills a new set uses this. Does nothing at run time.
     pub fn learn(&mut self, pass: &Pass<K, (), S>)
         requires { pass.now.book ≡ self.old.book }
         ensures same { HasLearned self.old self.new }

@@ -5,7 +5,8 @@ ghost use Rattle.std.specs.Cmp.{nat_eq_equiv, on_equiv, partial_equiv_from_equiv
 ghost use Rattle.std.specs.Hash as fed;
 
 use papaya_set::set::{HashSet, HashSetRef};
-use papaya_words::probe::{Refused, ResizeMode};
+use papaya_words::refused::Refused;
+use papaya_words::resize_mode::ResizeMode;
 use std::alloc::Global;
 use std::hash::{BuildHasherDefault, FoldHasher, Hash, Hasher};
 use std::sync::Wait;

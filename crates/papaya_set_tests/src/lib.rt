@@ -1,9 +1,10 @@
-//! The tests of sets: of the one for one caller, and of the one that threads share. It also has the
-//! tests of sets and maps that are reclaimed while threads go on.
+//! Tests of sets, and of maps and sets that are reclaimed while threads go on.
+//! It uses `papaya_set`, `papaya_reclaiming` and the helpers of `papaya_testing`.
+//! No crate builds on it.
 #![tactic(auto)]
 
 #[cfg(test)]
-mod copies;
+mod cloning;
 #[cfg(test)]
 mod expect;
 #[cfg(test)]

@@ -2,8 +2,9 @@
 use crate::expect::is;
 use crate::labels::{Keys, Labelled, MODES, any, key, made};
 use papaya_testing::crossing::Crossing;
-use papaya_testing::gate::{Gate, Look};
-use papaya_words::probe::{Refused, ResizeMode};
+use papaya_testing::gate::{Gate, Peek};
+use papaya_words::refused::Refused;
+use papaya_words::resize_mode::ResizeMode;
 use std::alloc::Global;
 use std::process::Abort;
 use std::sync::Wait;
@@ -75,7 +76,7 @@ fn replaces<R: Wait>(rt: &R, set: &Keys, gate: &Gate) -> Result<bool, Refused> {
 #[derive(Drop)]
 struct Held<'a>(&'a Labelled);
 
-impl Look for Held<'_> {
+impl Peek for Held<'_> {
     fn is_same(&mut self) -> bool {
         self.0.label == 'x'
     }
@@ -85,7 +86,7 @@ impl Look for Held<'_> {
 #[derive(Drop)]
 struct Anew<'a>(&'a Keys);
 
-impl Look for Anew<'_> {
+impl Peek for Anew<'_> {
     fn is_same(&mut self) -> bool {
         label(self.0) == Some('x')
     }

@@ -3,7 +3,7 @@
 use crate::expect::is_at;
 use papaya_set::seq::HashSet;
 use papaya_testing::times::{TOGETHER, Times};
-use papaya_words::probe::Refused;
+use papaya_words::refused::Refused;
 use std::alloc::Global;
 use std::test::Fail;
 

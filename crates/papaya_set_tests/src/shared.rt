@@ -1,9 +1,10 @@
 // Each call of the set that threads share, once and with ample memory: its result for one caller.
 use crate::expect::is;
 use crate::labels::{Keys, Labelled, Pinned, any, key};
-use papaya_keys::guard::Collector;
 use papaya_set::set::HashSet;
-use papaya_words::probe::{Refused, ResizeMode};
+use papaya_words::refused::Refused;
+use papaya_words::resize_mode::ResizeMode;
+use papaya_words_keys::guard::Collector;
 use std::alloc::Global;
 use std::hash::BuildHasherDefault;
 use std::process::Abort;

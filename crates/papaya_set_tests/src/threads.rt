@@ -2,7 +2,7 @@
 use crate::expect::is;
 use crate::labels::{Keys, MODES, any, made};
 use papaya_testing::crossing::Crossing;
-use papaya_words::probe::Refused;
+use papaya_words::refused::Refused;
 use std::process::Abort;
 use std::sync::Wait;
 use std::test::Fail;

@@ -63,7 +63,7 @@ impl Gate {
     }
 
     /// Returns whether the state observed stays the same until the gate is open, and once after.
-    pub fn stays<L: Look>(&self, look: &mut L) -> bool {
+    pub fn stays<L: Peek>(&self, look: &mut L) -> bool {
         self.reached.store(true, Ordering::SeqCst);
         for _ in 0..self.turns {
             let is_last = self.open.load(Ordering::SeqCst);
@@ -80,7 +80,7 @@ impl Gate {
 }
 
 /// A state that a thread observes while others change a map or set.
-pub trait Look {
+pub trait Peek {
     /// Returns whether the state is as it was.
     fn is_same(&mut self) -> bool;
 }

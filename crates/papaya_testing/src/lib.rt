@@ -1,7 +1,11 @@
-//! Helpers that the tests share: hashers (`same`, `times`), places where threads wait for each
-//! other (`gate`, `crossing`), and calls that run out of memory (`heap`, `tries`).
-//! `tests/refused.py` puts a heap below the tests that refuses requests, or holds up a thread, at
-//! their command. Without it nothing is refused or held up, and each call succeeds at once.
+//! Helpers that tests share: hashers, places where threads meet, and calls that run out of memory.
+//! It uses `papaya_words`.
+//! Crates whose names end in `_tests` build on it.
+//!
+//! [`same`] and [`times`] have hashers, [`gate`] and [`crossing`] places where threads wait for
+//! each other, and [`heap`] and [`tries`] calls that run out of memory. `tests/refused.py` puts a
+//! heap below the tests that refuses requests, or holds up a thread, at their command. Without it
+//! nothing is refused or held up, and each call succeeds at once.
 #![tactic(auto)]
 
 pub mod crossing;

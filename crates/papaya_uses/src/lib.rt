@@ -1,8 +1,11 @@
-//! Twelve small callers of `papaya`, proved and run, to copy from. For one owner: a word count, and
-//! a cache with a limit. By sessions: settings and hits that threads share, a table of who is
-//! signed in, and registries of counters and of metrics. Also texts by numbers, a table of routes,
-//! and a set of items that were met. For a server that runs for months: logins that end at a time,
-//! and a cache with a limit that threads share.
+//! Twelve small callers of `papaya`, proved and run, to copy from.
+//! It uses `papaya` alone, as a caller does.
+//! `count_words` and `papaya_uses_tests` build on it.
+//!
+//! For one owner: a word count, and a cache with a limit. By sessions: settings and hits that
+//! threads share, a table of who is signed in, and registries of counters and of metrics. Also
+//! texts by numbers, a table of routes, and a set of items that were met. For a server that runs
+//! for months: logins that end at a time, and a cache with a limit that threads share.
 #![tactic(auto)]
 
 pub mod cache;

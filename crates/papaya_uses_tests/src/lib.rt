@@ -1,5 +1,6 @@
-//! Each caller of `papaya_uses`, run once; threads share the tables. Then each enum of the facade,
-//! matched by name.
+//! Tests of the callers in `papaya_uses`, and of the names that `papaya` exports.
+//! It uses `papaya` and `papaya_uses`.
+//! No crate builds on it.
 #![tactic(auto)]
 
 #[cfg(test)]

@@ -1,7 +1,9 @@
 // Each enum that the facade exports, matched only by the facade's names.
 use crate::expect::is;
-use papaya::raw::chain::{self, CopyAsk, Phase, Resize, ResizerState, Scan, ScanAsk, ScannerState};
-use papaya::raw::{Answer, Ask, At, Kind, OpKind, Probed, Search, State, StepKind, Task, Word};
+use papaya::raw::chain::{CopyAsk, Phase, Resize, ResizerState, Scan, ScanAsk, ScannerState};
+use papaya::raw::{
+    Answer, Ask, At, Kind, OpKind, ProbeStep, Search, State, StepKind, Task, Word, chain,
+};
 use papaya::schedule::{Call, Event, Reply, Turn};
 use papaya::seq::{Computed, Outcome};
 use papaya::{Compute, Operation, Refused, ResizeMode};
@@ -222,10 +224,10 @@ fn search_waits_for(search: Search) -> &'static str {
 }
 
 /// Returns whether a search is over.
-fn is_over(probed: Probed) -> bool {
+fn is_over(probed: ProbeStep) -> bool {
     match probed {
-        Probed::On(_) => false,
-        Probed::Empty(_) | Probed::Here(_, _) | Probed::Over(_) => true,
+        ProbeStep::On(_) => false,
+        ProbeStep::Empty(_) | ProbeStep::Here(_, _) | ProbeStep::Over(_) => true,
     }
 }
 
@@ -308,7 +310,7 @@ fn enums_of_machines_are_matched_by_name(rt: HostRuntime) -> Result<(), Fail> {
     is(&rt, waits, Some("a size"));
     is(
         &rt,
-        (is_over(Probed::Over(1)), resizes(Phase::Calling)),
+        (is_over(ProbeStep::Over(1)), resizes(Phase::Calling)),
         (true, false),
     );
     is(&rt, more(Resize::Reserve(9)), 9);

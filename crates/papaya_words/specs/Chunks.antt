@@ -1,8 +1,8 @@
 -- The chunks that a table is copied in.
 use Rattle.std.specs.Prelude.{ℕ, ◌+◌, ◌-◌, ◌/◌, max}
 use Rattle.papaya_words.specs.declared.limits.TheConstants.{BLOCKING_CHUNK}
-use Rattle.papaya_words.specs.declared.probe.ResizeMode.{ResizeMode}
-use Rattle.papaya_words.specs.declared.probe.ResizeMode.TheVariants.{Incremental, Blocking}
+use Rattle.papaya_words.specs.declared.resize_mode.ResizeMode.{ResizeMode}
+use Rattle.papaya_words.specs.declared.resize_mode.ResizeMode.TheVariants.{Incremental, Blocking}
 
 -- how many slots are copied at a time, one at least
 abbrev pub chunk_len : ResizeMode → ℕ

@@ -3,6 +3,6 @@ pub mod Counter
 pub mod Mode
 pub mod Probe
 pub mod Refusals
-pub mod Room
+pub mod Fresh
 pub mod Table
 pub mod Word

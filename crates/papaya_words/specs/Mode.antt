@@ -1,7 +1,7 @@
 -- How a map grows.
 use Rattle.std.specs.Prelude.{◌≤◌}
-use Rattle.papaya_words.specs.declared.probe.ResizeMode.{ResizeMode}
-use Rattle.papaya_words.specs.declared.probe.ResizeMode.TheVariants.{Incremental, Blocking}
+use Rattle.papaya_words.specs.declared.resize_mode.ResizeMode.{ResizeMode}
+use Rattle.papaya_words.specs.declared.resize_mode.ResizeMode.TheVariants.{Incremental, Blocking}
 
 -- a chunk has a slot at least
 abbrev pub IsChunked : ResizeMode → Type 0

@@ -1,7 +1,7 @@
 -- How refusals are reported.
 use Rattle.std.specs.Prelude.{ℕ, List, codes}
-use Rattle.papaya_words.specs.declared.probe.Refused.{Refused}
-use Rattle.papaya_words.specs.declared.probe.Refused.TheVariants.{Memory, Capacity, WrongGuard, RemoveNothing, ZeroChunk, Shape, KeyClash, Item, Limit}
+use Rattle.papaya_words.specs.declared.refused.Refused.{Refused}
+use Rattle.papaya_words.specs.declared.refused.Refused.TheVariants.{Memory, Capacity, WrongGuard, RemoveNothing, ZeroChunk, Shape, KeyClash, Item, Limit}
 
 -- the number by which a refusal is reported
 abbrev pub number_of : Refused → ℕ

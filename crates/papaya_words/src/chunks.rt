@@ -4,7 +4,7 @@ ghost use Rattle.std.specs.Prelude.{◌≡◌, ◌≤◌};
 ghost use Rattle.papaya_words.specs.Chunks as chunks;
 
 use crate::limits::BLOCKING_CHUNK;
-use crate::probe::ResizeMode;
+use crate::resize_mode::ResizeMode;
 
 /// Returns the length of a chunk in slots: at least 1, whatever the mode says.
 #[inline]

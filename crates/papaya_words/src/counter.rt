@@ -5,7 +5,7 @@ ghost use Rattle.std.specs.Int.{w64, int_wrap, IsPowerOfTwo, IsNextPowerOfTwo};
 ghost use Rattle.papaya_words.specs.Counter.{added_at, count_of, shard_of};
 
 use crate::limits::MAX_SHARDS;
-use crate::probe::Refused;
+use crate::refused::Refused;
 use std::alloc::Global;
 use std::marker::Model;
 

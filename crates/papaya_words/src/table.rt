@@ -5,9 +5,10 @@ ghost use Rattle.papaya_words.specs.Probe.{IsLimit};
 ghost use Rattle.std.specs.Int.{IsPowerOfTwo};
 ghost use Rattle.papaya_words.specs.Table.{length_after, limit_after};
 
+use crate::fresh::FreshWords;
 use crate::limits::{LEAST_TABLE_LEN, MAX_TABLE_LEN};
-use crate::probe::{Refused, limit};
-use crate::room::Room;
+use crate::probe::limit;
+use crate::refused::Refused;
 use std::alloc::Global;
 use std::marker::Model;
 
@@ -57,7 +58,7 @@ impl Table {
     /// Fails with `Refused::Memory` if memory runs out.
     pub fn new(
         alloc: Global,
-        room: Room,
+        room: FreshWords,
         number: u64,
         len: usize,
         limit: usize,
@@ -156,7 +157,7 @@ impl Table {
     }
 
     /// Writes whether a chunk of the table before is copied.
-    pub fn set_done(&mut self, chunk: usize, done: u64)
+    pub fn set_chunk_copied(&mut self, chunk: usize, done: u64)
         requires { chunk < length self.old.done }
         ensures { self.new ≡ record self.old { done = slice_set self.old.done chunk done } }
     {

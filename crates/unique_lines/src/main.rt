@@ -3,7 +3,7 @@
 #![tactic(auto)]
 
 use papaya::{HashSet, Refused, TextKey};
-use papaya_shell::failure::{Failure, ended};
+use papaya_run_shell::failure::{Failure, ended};
 use std::alloc::Global;
 use std::hash::{BuildHasherDefault, FoldHasher};
 use std::io;

@@ -1,11 +1,11 @@
 // Maps that are read from JSON, and the refusals.
 use crate::expect::is;
 use crate::json::numbers::{Numbers, digits, number};
-use papaya_json::reading::map_from_value;
-use papaya_json::writing::map_to_value;
-use papaya_keys::guard::TextKey;
+use papaya_json::from_value::map_from_value;
+use papaya_json::to_value::map_to_value;
 use papaya_seq::seq::HashMap;
-use papaya_words::probe::Refused;
+use papaya_words::refused::Refused;
+use papaya_words_keys::guard::TextKey;
 use serde_json::Value;
 use std::alloc::Global;
 use std::hash::BuildHasherDefault;

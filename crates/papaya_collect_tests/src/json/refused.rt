@@ -4,10 +4,10 @@ use crate::expect::is;
 use crate::json::numbers::{Numbers, digits, number};
 use crate::json::reads::numbers_of;
 use crate::json::sets::{Keys, keys_of};
-use papaya_json::writing::{map_to_value, set_to_value};
+use papaya_json::to_value::{map_to_value, set_to_value};
 use papaya_seq::seq::HashMap;
 use papaya_set::seq::HashSet;
-use papaya_words::probe::Refused;
+use papaya_words::refused::Refused;
 use std::alloc::Global;
 use std::test::Fail;
 

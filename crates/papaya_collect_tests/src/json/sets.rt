@@ -1,10 +1,10 @@
 // Sets as JSON, and sets that are read from JSON.
 use crate::expect::is;
 use crate::json::numbers::number;
-use papaya_json::reading::set_from_value;
-use papaya_json::writing::set_to_value;
+use papaya_json::from_value::set_from_value;
+use papaya_json::to_value::set_to_value;
 use papaya_set::seq::HashSet;
-use papaya_words::probe::Refused;
+use papaya_words::refused::Refused;
 use serde_json::Value;
 use std::alloc::Global;
 use std::hash::BuildHasherDefault;

@@ -4,7 +4,7 @@ use crate::json::numbers::number;
 use crate::json::sets::{Keys, keys_of};
 use papaya_json::shared::{shared_set_from_value, shared_set_to_value};
 use papaya_set::set::HashSet;
-use papaya_words::probe::Refused;
+use papaya_words::refused::Refused;
 use serde_json::Value;
 use std::alloc::Global;
 use std::hash::BuildHasherDefault;

@@ -1,9 +1,9 @@
 // Maps as JSON, and the refusals.
 use crate::expect::is;
 use crate::json::numbers::{Numbers, digits, number};
-use papaya_json::writing::map_to_value;
+use papaya_json::to_value::map_to_value;
 use papaya_seq::seq::HashMap;
-use papaya_words::probe::Refused;
+use papaya_words::refused::Refused;
 use serde_json::Value;
 use std::alloc::Global;
 use std::process::Abort;

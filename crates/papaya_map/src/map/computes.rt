@@ -3,23 +3,24 @@
 ghost use Rattle.std.specs.Prelude.{◌≡◌, Err, IsSome, Some};
 ghost use Rattle.std.specs.Borrow.{sem};
 ghost use mathlib.Core.List.{IsPrefix};
-ghost use Rattle.papaya_book.specs.Limits.{HasNoRoom};
-ghost use Rattle.papaya_change.specs.Showings.{Operates};
-ghost use Rattle.papaya_compute.specs.ComputeAnswers.{IsComputeBy, changes};
-ghost use Rattle.papaya_lookup.specs.History.{Makes};
+ghost use Rattle.papaya_map_book.specs.Limits.{HasNoRoom};
+ghost use Rattle.papaya_map_change.specs.Showings.{Operates};
+ghost use Rattle.papaya_map_compute.specs.ComputeAnswers.{IsComputeBy, changes};
+ghost use Rattle.papaya_map_lookup.specs.History.{Makes};
 ghost use Rattle.papaya_map.specs.Plain.{IsOfHistorySince, of_its_history, rule_of, unpinned};
-ghost use Rattle.papaya_book.specs.contracts.rule.entry.Event.{the_row as EventOf};
+ghost use Rattle.papaya_map_book.specs.contracts.rule.entry.Event.{the_row as EventOf};
 
-use crate::computing::compute;
-use crate::map::{HashMap, HashMapRef, Pass};
+use crate::keeping::compute;
+use crate::map::{HashMap, HashMapRef};
+use crate::pass::Pass;
 use crate::told::Told;
 use logbook::Rule;
-use papaya_book::rule::entry::{Event, Named};
-use papaya_book::rule::law::Law;
 use papaya_call::answers::Operation;
-use papaya_keys::compute::Compute;
-use papaya_keys::guard::Guard;
-use papaya_words::probe::Refused;
+use papaya_map_book::rule::entry::{Event, Named};
+use papaya_map_book::rule::law::Law;
+use papaya_words::refused::Refused;
+use papaya_words_keys::guard::Guard;
+use papaya_words_keys::results::Compute;
 use std::hash::{BuildHasher, Hash};
 use std::sync::Wait;
 

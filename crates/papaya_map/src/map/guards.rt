@@ -2,12 +2,13 @@
 //! collector the call fails, and changes nothing.
 ghost use Rattle.std.specs.Prelude.{◌≡◌, Err, IfOk, Ok, [], is_ok, true};
 ghost use mathlib.Core.List.{IsPrefix};
-ghost use Rattle.papaya_lookup.specs.History.{IsLegalHistory, history_of, key_of};
+ghost use Rattle.papaya_map_lookup.specs.History.{IsLegalHistory, history_of, key_of};
 
-use crate::map::{HashMap, Pass};
+use crate::map::HashMap;
+use crate::pass::Pass;
 use crate::told::Saying;
-use papaya_keys::guard::{Guard, LocalGuard, OwnedGuard};
-use papaya_words::probe::Refused;
+use papaya_words::refused::Refused;
+use papaya_words_keys::guard::{Guard, LocalGuard, OwnedGuard};
 use std::hash::{BuildHasher, Hash};
 
 impl<K: Hash + Eq, V, S: BuildHasher> HashMap<K, V, S> {

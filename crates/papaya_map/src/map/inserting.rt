@@ -3,23 +3,24 @@
 ghost use Rattle.std.specs.Prelude.{◌≡◌, Err, IfErr, IfOk, is_ok};
 ghost use Rattle.std.specs.Borrow.{sem};
 ghost use mathlib.Core.List.{IsPrefix};
-ghost use Rattle.papaya_book.specs.Limits.{HasNoRoom};
-ghost use Rattle.papaya_change.specs.Changes.{IsPut};
-ghost use Rattle.papaya_lookup.specs.History.{Makes};
+ghost use Rattle.papaya_map_book.specs.Limits.{HasNoRoom};
+ghost use Rattle.papaya_map_change.specs.Changes.{IsPut};
+ghost use Rattle.papaya_map_lookup.specs.History.{Makes};
 ghost use Rattle.papaya_map.specs.Limited.{IsPlainRefusal, IsWriteRefusal};
 ghost use Rattle.papaya_map.specs.Plain.{IsOfHistorySince, of_its_history, rule_of, unpinned};
 ghost use Rattle.papaya_map.specs.Storing.{IsThere, IsTried, IsTriedWith};
-ghost use Rattle.papaya_book.specs.contracts.rule.entry.Event.{the_row as EventOf};
+ghost use Rattle.papaya_map_book.specs.contracts.rule.entry.Event.{the_row as EventOf};
 
-use crate::map::{HashMap, HashMapRef, Pass};
+use crate::map::{HashMap, HashMapRef};
+use crate::pass::Pass;
 use crate::told::Told;
 use logbook::Rule;
-use papaya_book::rule::entry::{Event, Named};
-use papaya_book::rule::law::Law;
-use papaya_change::fast_path::insert;
-use papaya_keys::guard::Guard;
-use papaya_keys::occupied::OccupiedError;
-use papaya_words::probe::Refused;
+use papaya_map_book::rule::entry::{Event, Named};
+use papaya_map_book::rule::law::Law;
+use papaya_map_change::fast_path::insert;
+use papaya_words::refused::Refused;
+use papaya_words_keys::guard::Guard;
+use papaya_words_keys::results::OccupiedError;
 use std::hash::{BuildHasher, Hash};
 use std::sync::Wait;
 

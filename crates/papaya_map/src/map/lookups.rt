@@ -2,18 +2,19 @@
 ghost use Rattle.std.specs.Prelude.{◌≡◌, Err, IfOk, is_ok, true};
 ghost use Rattle.std.specs.Borrow.{sem};
 ghost use mathlib.Core.List.{IsPrefix};
-ghost use Rattle.papaya_lookup.specs.Answers.{IsAnsweredBetween, IsPairAnsweredBetween};
+ghost use Rattle.papaya_map_lookup.specs.Answers.{IsAnsweredBetween, IsPairAnsweredBetween};
 ghost use Rattle.papaya_map.specs.Plain.{IsContained, IsOfHistorySince, of_its_history, rule_of, unpinned};
-ghost use Rattle.papaya_book.specs.contracts.rule.entry.Event.{the_row as EventOf};
+ghost use Rattle.papaya_map_book.specs.contracts.rule.entry.Event.{the_row as EventOf};
 
-use crate::map::{HashMap, HashMapRef, Pass};
+use crate::map::{HashMap, HashMapRef};
+use crate::pass::Pass;
 use crate::told::Told;
 use logbook::Rule;
-use papaya_book::rule::entry::{Event, Named};
-use papaya_book::rule::law::Law;
-use papaya_keys::guard::{Equivalent, Guard};
-use papaya_lookup::lookup::look_up;
-use papaya_words::probe::Refused;
+use papaya_map_book::rule::entry::{Event, Named};
+use papaya_map_book::rule::law::Law;
+use papaya_map_lookup::lookup::look_up;
+use papaya_words::refused::Refused;
+use papaya_words_keys::guard::{Equivalent, Guard};
 use std::hash::{BuildHasher, Hash};
 
 impl<'a, K: Hash + Eq, V, S: BuildHasher> HashMapRef<'a, K, V, S> {

@@ -1,10 +1,10 @@
 //! The calls that reserve room, and change no entry.
 ghost use Rattle.std.specs.Prelude.{◌≡◌, Err, IfErr};
-ghost use Rattle.papaya_change.specs.Writing.{IsMemoryOrCapacity};
+ghost use Rattle.papaya_map_change.specs.Writing.{IsMemoryOrCapacity};
 
 use crate::map::{HashMap, HashMapRef};
-use papaya_keys::guard::Guard;
-use papaya_words::probe::Refused;
+use papaya_words::refused::Refused;
+use papaya_words_keys::guard::Guard;
 use std::hash::{BuildHasher, Hash};
 use std::sync::Wait;
 

@@ -2,23 +2,24 @@
 ghost use Rattle.std.specs.Prelude.{◌≡◌, Err, IfErr, IfOk, []};
 ghost use Rattle.std.specs.Borrow.{sem};
 ghost use mathlib.Core.List.{IsPrefix};
-ghost use Rattle.papaya_book.specs.Limits.{HasNoRoom};
-ghost use Rattle.papaya_change.specs.Showings.{Judges};
-ghost use Rattle.papaya_change.specs.Writing.{IsMemoryOrCapacity};
+ghost use Rattle.papaya_map_book.specs.Limits.{HasNoRoom};
+ghost use Rattle.papaya_map_change.specs.Showings.{Judges};
+ghost use Rattle.papaya_map_change.specs.Writing.{IsMemoryOrCapacity};
 ghost use Rattle.papaya_map.specs.Plain.{IsOfHistorySince, of_its_history, rule_of, unpinned};
-ghost use Rattle.papaya_scan.specs.Leaving.{HasKept, IsCleared};
-ghost use Rattle.papaya_book.specs.contracts.rule.entry.Event.{the_row as EventOf};
+ghost use Rattle.papaya_map_scan.specs.Leaving.{HasKept, IsCleared};
+ghost use Rattle.papaya_map_book.specs.contracts.rule.entry.Event.{the_row as EventOf};
 
-use crate::map::{HashMap, HashMapRef, Pass};
+use crate::map::{HashMap, HashMapRef};
+use crate::pass::Pass;
 use crate::told::Told;
 use logbook::Rule;
-use papaya_book::rule::entry::{Event, Named};
-use papaya_book::rule::law::Law;
-use papaya_change::means::Means;
-use papaya_keys::guard::Guard;
-use papaya_scan::root::take_root;
-use papaya_scan::walk::{Iter, Keys, Values};
-use papaya_words::probe::Refused;
+use papaya_map_book::rule::entry::{Event, Named};
+use papaya_map_book::rule::law::Law;
+use papaya_map_change::driver::Means;
+use papaya_map_scan::root::take_root;
+use papaya_map_scan::walk::{Iter, Keys, Values};
+use papaya_words::refused::Refused;
+use papaya_words_keys::guard::Guard;
 use std::hash::{BuildHasher, Hash};
 use std::sync::Wait;
 

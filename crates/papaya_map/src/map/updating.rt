@@ -6,15 +6,15 @@ ghost use Rattle.std.specs.Fn.{FnReturnsAt};
 ghost use Rattle.papaya_map.specs.Limited.{IsPlainRefusal};
 ghost use Rattle.papaya_map.specs.Plain.{IsOfHistorySince, of_its_history, rule_of, unpinned};
 ghost use Rattle.papaya_map.specs.Storing.{IsUpdated, IsUpserted};
-ghost use Rattle.papaya_book.specs.contracts.rule.entry.Event.{the_row as EventOf};
+ghost use Rattle.papaya_map_book.specs.contracts.rule.entry.Event.{the_row as EventOf};
 
 use crate::map::{HashMap, HashMapRef};
 use crate::told::Told;
 use logbook::Rule;
-use papaya_book::rule::entry::{Event, Named};
-use papaya_book::rule::law::Law;
-use papaya_keys::guard::Guard;
-use papaya_words::probe::Refused;
+use papaya_map_book::rule::entry::{Event, Named};
+use papaya_map_book::rule::law::Law;
+use papaya_words::refused::Refused;
+use papaya_words_keys::guard::Guard;
 use std::hash::{BuildHasher, Hash};
 use std::sync::Wait;
 

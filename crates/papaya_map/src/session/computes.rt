@@ -1,16 +1,16 @@
 //! The call of a session whose closure returns what becomes of a key's entry.
 ghost use Rattle.std.specs.Prelude.{◌≡◌, Err, Some};
 ghost use mathlib.Core.List.{IsPrefix};
-ghost use Rattle.papaya_book.specs.Limits.{HasNoRoom};
-ghost use Rattle.papaya_change.specs.Showings.{Operates};
-ghost use Rattle.papaya_compute.specs.ComputeAnswers.{IsComputeBy, changes};
-ghost use Rattle.papaya_lookup.specs.History.{Makes};
+ghost use Rattle.papaya_map_book.specs.Limits.{HasNoRoom};
+ghost use Rattle.papaya_map_change.specs.Showings.{Operates};
+ghost use Rattle.papaya_map_compute.specs.ComputeAnswers.{IsComputeBy, changes};
+ghost use Rattle.papaya_map_lookup.specs.History.{Makes};
 
 use crate::session::Session;
 use papaya_call::answers::Operation;
-use papaya_compute::lending::compute_lent;
-use papaya_keys::compute::Compute;
-use papaya_words::probe::Refused;
+use papaya_map_compute::lending::compute_lent;
+use papaya_words::refused::Refused;
+use papaya_words_keys::results::Compute;
 use std::hash::{BuildHasher, Hash};
 use std::sync::Wait;
 

@@ -1,13 +1,13 @@
 //! The call by which other calls of a session store what a rule returns.
 ghost use Rattle.std.specs.Prelude.{◌≡◌, Err, Some};
 ghost use mathlib.Core.List.{IsPrefix};
-ghost use Rattle.papaya_book.specs.Limits.{HasNoRoom};
-ghost use Rattle.papaya_compute.specs.Deciding.{IsDecided, puts};
-ghost use Rattle.papaya_lookup.specs.History.{Makes};
+ghost use Rattle.papaya_map_book.specs.Limits.{HasNoRoom};
+ghost use Rattle.papaya_map_compute.specs.Deciding.{IsDecided, puts};
+ghost use Rattle.papaya_map_lookup.specs.History.{Makes};
 
 use crate::session::Session;
-use papaya_compute::deciding::{Outcome, Rule, decide};
-use papaya_words::probe::Refused;
+use papaya_map_compute::deciding::{Decided, Rule, decide};
+use papaya_words::refused::Refused;
 use std::hash::{BuildHasher, Hash};
 use std::sync::Wait;
 
@@ -19,7 +19,7 @@ impl<'a, K: Hash + Eq + Drop, V: Drop, S: BuildHasher> Session<'a, K, V, S> {
         rt: &R,
         key: K,
         rule: &mut D,
-    ) -> Result<Outcome<'a, V>, Refused>
+    ) -> Result<Decided<'a, V>, Refused>
         requires callable { D.callable rule.old }
         ensures map { self.new.map ≡ self.old.map }
         ensures seen { IsPrefix self.old.history self.new.history }

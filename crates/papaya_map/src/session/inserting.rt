@@ -1,18 +1,18 @@
 //! The calls of a session that store a value, always or only if the key has none.
 ghost use Rattle.std.specs.Prelude.{◌≡◌, Err, IfErr, IfOk, MatchOption, None, is_ok};
 ghost use mathlib.Core.List.{IsPrefix};
-ghost use Rattle.papaya_book.specs.Limits.{HasNoRoom};
-ghost use Rattle.papaya_change.specs.Changes.{IsPut};
-ghost use Rattle.papaya_keys.specs.declared.occupied.NotInserted.TheVariants.{Logged, Value};
-ghost use Rattle.papaya_lookup.specs.History.{Makes};
+ghost use Rattle.papaya_map_book.specs.Limits.{HasNoRoom};
+ghost use Rattle.papaya_map_change.specs.Changes.{IsPut};
+ghost use Rattle.papaya_words_keys.specs.declared.results.NotInserted.TheVariants.{Logged, Value};
+ghost use Rattle.papaya_map_lookup.specs.History.{Makes};
 ghost use Rattle.papaya_map.specs.Limited.{IsWriteRefusal};
 ghost use Rattle.papaya_map.specs.Storing.{IsThereBy, IsTried, IsTriedWith, stored};
 
 use crate::session::Session;
-use papaya_compute::deciding::Outcome;
-use papaya_compute::rules::{Giving, Made, Ready};
-use papaya_keys::occupied::{NotInserted, OccupiedError};
-use papaya_words::probe::Refused;
+use papaya_map_compute::deciding::Decided;
+use papaya_map_compute::rules::{Giving, MadeBy, Ready};
+use papaya_words::refused::Refused;
+use papaya_words_keys::results::{NotInserted, OccupiedError};
 use std::hash::{BuildHasher, Hash};
 use std::sync::Wait;
 
@@ -79,9 +79,9 @@ impl<'a, K: Hash + Eq + Drop, V: Drop, S: BuildHasher> Session<'a, K, V, S> {
             supply: Some(Ready { value }),
         };
         match self.decide(rt, key, &mut rule) {
-            Ok(Outcome::Put(stored)) => Ok(Ok(stored)),
+            Ok(Decided::Put(stored)) => Ok(Ok(stored)),
             Ok(
-                Outcome::Left {
+                Decided::Left {
                     current: Some(current),
                     spare,
                 },
@@ -89,8 +89,8 @@ impl<'a, K: Hash + Eq + Drop, V: Drop, S: BuildHasher> Session<'a, K, V, S> {
                 current,
                 not_inserted: not_inserted(rule.supply, spare),
             })),
-            Ok(Outcome::Left { current: None, .. }) => unreachable!(),
-            Ok(Outcome::Replaced(_)) => unreachable!(),
+            Ok(Decided::Left { current: None, .. }) => unreachable!(),
+            Ok(Decided::Replaced(_)) => unreachable!(),
             Err(refused) => Err(refused),
         }
     }
@@ -118,18 +118,18 @@ impl<'a, K: Hash + Eq + Drop, V: Drop, S: BuildHasher> Session<'a, K, V, S> {
             self.new.tables self.new.given }
     {
         let mut rule = Giving {
-            supply: Some(Made { make: f }),
+            supply: Some(MadeBy { make: f }),
         };
         match self.decide(rt, key, &mut rule) {
-            Ok(Outcome::Put(stored)) => Ok(Ok(stored)),
+            Ok(Decided::Put(stored)) => Ok(Ok(stored)),
             Ok(
-                Outcome::Left {
+                Decided::Left {
                     current: Some(current),
                     ..
                 },
             ) => Ok(Err(current)),
-            Ok(Outcome::Left { current: None, .. }) => unreachable!(),
-            Ok(Outcome::Replaced(_)) => unreachable!(),
+            Ok(Decided::Left { current: None, .. }) => unreachable!(),
+            Ok(Decided::Replaced(_)) => unreachable!(),
             Err(refused) => Err(refused),
         }
     }

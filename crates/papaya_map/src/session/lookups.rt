@@ -2,11 +2,11 @@
 ghost use Rattle.std.specs.Prelude.{◌≡◌, Option, is_some};
 ghost use Rattle.std.specs.Borrow.{Bor};
 ghost use mathlib.Core.List.{IsPrefix};
-ghost use Rattle.papaya_lookup.specs.Answers.{IsAnsweredBetween, IsPairAnsweredBetween};
+ghost use Rattle.papaya_map_lookup.specs.Answers.{IsAnsweredBetween, IsPairAnsweredBetween};
 
 use crate::session::Session;
-use papaya_keys::guard::Equivalent;
-use papaya_lookup::lookup::look_up_pair;
+use papaya_map_lookup::lookup::look_up_pair;
+use papaya_words_keys::guard::Equivalent;
 use std::hash::{BuildHasher, Hash};
 
 impl<'a, K: Hash + Eq, V, S: BuildHasher> Session<'a, K, V, S> {

@@ -1,14 +1,14 @@
 //! The calls of a session that remove a key's entry.
 ghost use Rattle.std.specs.Prelude.{◌≡◌, Err, true};
 ghost use mathlib.Core.List.{IsPrefix};
-ghost use Rattle.papaya_book.specs.Limits.{HasNoRoom};
-ghost use Rattle.papaya_change.specs.RemovalAnswers.{IsEntryRemoved, IsRemovalBy, IsRemoved, took, went};
-ghost use Rattle.papaya_change.specs.Showings.{Judges};
-ghost use Rattle.papaya_lookup.specs.History.{Makes};
+ghost use Rattle.papaya_map_book.specs.Limits.{HasNoRoom};
+ghost use Rattle.papaya_map_change.specs.RemovalAnswers.{IsEntryRemoved, IsRemovalBy, IsRemoved, took, went};
+ghost use Rattle.papaya_map_change.specs.Showings.{Judges};
+ghost use Rattle.papaya_map_lookup.specs.History.{Makes};
 
 use crate::session::Session;
-use papaya_keys::guard::Equivalent;
-use papaya_words::probe::Refused;
+use papaya_words::refused::Refused;
+use papaya_words_keys::guard::Equivalent;
 use std::hash::{BuildHasher, Hash};
 use std::sync::Wait;
 

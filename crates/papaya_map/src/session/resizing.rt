@@ -1,14 +1,14 @@
 //! The call of a session that reserves room.
 ghost use Rattle.std.specs.Prelude.{◌≡◌, Err, IfErr, IfOk};
 ghost use mathlib.Core.List.{IsPrefix};
-ghost use Rattle.papaya_change.specs.Resizing.{HasNoRoomAhead, HasRoomAhead};
-ghost use Rattle.papaya_change.specs.Writing.{IsMemoryOrCapacity};
+ghost use Rattle.papaya_map_change.specs.Resizing.{HasNoRoomAhead, HasRoomAhead};
+ghost use Rattle.papaya_map_change.specs.Writing.{IsMemoryOrCapacity};
 
 use crate::session::Session;
-use papaya_chain::resizer::Resize;
-use papaya_change::means::Means;
-use papaya_change::resizing::resize;
-use papaya_words::probe::Refused;
+use papaya_call::chain::resizer::Resize;
+use papaya_map_change::driver::Means;
+use papaya_map_change::resizing::resize;
+use papaya_words::refused::Refused;
 use std::hash::{BuildHasher, Hash};
 use std::sync::Wait;
 

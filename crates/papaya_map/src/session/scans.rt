@@ -1,16 +1,16 @@
 //! The calls of a session that scan the whole map.
 ghost use Rattle.std.specs.Prelude.{◌≡◌, Err, IfErr, IfOk, false, []};
 ghost use mathlib.Core.List.{IsPrefix};
-ghost use Rattle.papaya_book.specs.Limits.{HasNoRoom};
-ghost use Rattle.papaya_change.specs.Showings.{Judges};
-ghost use Rattle.papaya_change.specs.Writing.{IsMemoryOrCapacity};
-ghost use Rattle.papaya_scan.specs.Leaving.{HasDropped, HasKept, IsCleared};
+ghost use Rattle.papaya_map_book.specs.Limits.{HasNoRoom};
+ghost use Rattle.papaya_map_change.specs.Showings.{Judges};
+ghost use Rattle.papaya_map_change.specs.Writing.{IsMemoryOrCapacity};
+ghost use Rattle.papaya_map_scan.specs.Leaving.{HasDropped, HasKept, IsCleared};
 
 use crate::session::Session;
-use papaya_change::means::Means;
-use papaya_scan::retain::retain;
-use papaya_scan::walk::{Iter, Keys, Values};
-use papaya_words::probe::Refused;
+use papaya_map_change::driver::Means;
+use papaya_map_scan::retain::retain;
+use papaya_map_scan::walk::{Iter, Keys, Values};
+use papaya_words::refused::Refused;
 use std::hash::{BuildHasher, Hash};
 use std::sync::Wait;
 

@@ -2,16 +2,16 @@
 ghost use Rattle.std.specs.Prelude.{◌≡◌, Err, IfErr, IfOk, is_ok};
 ghost use Rattle.std.specs.Fn.{FnReturnsAt};
 ghost use mathlib.Core.List.{IsPrefix};
-ghost use Rattle.papaya_book.specs.Limits.{HasNoRoom};
-ghost use Rattle.papaya_change.specs.RemovalAnswers.{took};
-ghost use Rattle.papaya_lookup.specs.History.{Makes};
+ghost use Rattle.papaya_map_book.specs.Limits.{HasNoRoom};
+ghost use Rattle.papaya_map_change.specs.RemovalAnswers.{took};
+ghost use Rattle.papaya_map_lookup.specs.History.{Makes};
 ghost use Rattle.papaya_map.specs.Limited.{IsWriteRefusal};
 ghost use Rattle.papaya_map.specs.Storing.{IsUpdated, IsUpserted};
 
 use crate::session::Session;
-use papaya_compute::deciding::Outcome;
-use papaya_compute::rules::{Made, Ready, Supply, Updating, Upserting};
-use papaya_words::probe::Refused;
+use papaya_map_compute::deciding::Decided;
+use papaya_map_compute::rules::{MadeBy, Ready, Supply, Updating, Upserting};
+use papaya_words::refused::Refused;
 use std::hash::{BuildHasher, Hash};
 use std::sync::Wait;
 
@@ -43,9 +43,9 @@ impl<'a, K: Hash + Eq + Drop, V: Drop, S: BuildHasher> Session<'a, K, V, S> {
     {
         let mut rule = Updating { update: f };
         match self.decide(rt, key, &mut rule) {
-            Ok(Outcome::Replaced(value)) => Ok(Some(value)),
-            Ok(Outcome::Left { .. }) => Ok(None),
-            Ok(Outcome::Put(_)) => unreachable!(),
+            Ok(Decided::Replaced(value)) => Ok(Some(value)),
+            Ok(Decided::Left { .. }) => Ok(None),
+            Ok(Decided::Put(_)) => unreachable!(),
             Err(refused) => Err(refused),
         }
     }
@@ -77,9 +77,9 @@ impl<'a, K: Hash + Eq + Drop, V: Drop, S: BuildHasher> Session<'a, K, V, S> {
             supply: Some(supply),
         };
         match self.decide(rt, key, &mut rule) {
-            Ok(Outcome::Replaced(value)) => Ok(value),
-            Ok(Outcome::Put(value)) => Ok(value),
-            Ok(Outcome::Left { .. }) => unreachable!(),
+            Ok(Decided::Replaced(value)) => Ok(value),
+            Ok(Decided::Put(value)) => Ok(value),
+            Ok(Decided::Left { .. }) => unreachable!(),
             Err(refused) => Err(refused),
         }
     }
@@ -135,6 +135,6 @@ impl<'a, K: Hash + Eq + Drop, V: Drop, S: BuildHasher> Session<'a, K, V, S> {
         ensures crowded { result ≡ Err Refused.Capacity → HasNoRoom self.old.map.initial
             self.new.tables self.new.given }
     {
-        self.upsert(rt, key, update, Made { make: f })
+        self.upsert(rt, key, update, MadeBy { make: f })
     }
 }

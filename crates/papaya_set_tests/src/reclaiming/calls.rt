@@ -6,7 +6,7 @@ use papaya_reclaiming::reclaiming::{
     Handle, LEAST_STORED, Reclaiming, ReclaimingMap, ReclaimingSet,
 };
 use papaya_set::set::HashSet;
-use papaya_words::probe::Refused;
+use papaya_words::refused::Refused;
 use std::process::Abort;
 use std::sync::Wait;
 use std::test::Fail;

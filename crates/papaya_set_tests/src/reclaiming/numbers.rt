@@ -2,7 +2,7 @@
 use crate::expect::is;
 use papaya_map::map::HashMap;
 use papaya_reclaiming::reclaiming::{Handle, Reclaiming, ReclaimingMap};
-use papaya_words::probe::Refused;
+use papaya_words::refused::Refused;
 use std::alloc::Global;
 use std::hash::{BuildHasherDefault, FoldHasher};
 use std::process::Abort;

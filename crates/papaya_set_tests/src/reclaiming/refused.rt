@@ -1,7 +1,7 @@
 // A test that passes whichever request for memory is refused.
 use crate::expect::is;
 use crate::reclaiming::numbers::{Way, has, numbers, write};
-use papaya_words::probe::Refused;
+use papaya_words::refused::Refused;
 use std::process::Abort;
 use std::sync::Wait;
 use std::test::Fail;

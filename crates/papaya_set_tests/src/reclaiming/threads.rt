@@ -2,7 +2,7 @@
 use crate::expect::is;
 use crate::reclaiming::numbers::{Numbers, numbers};
 use papaya_reclaiming::reclaiming::ReclaimingMap;
-use papaya_words::probe::Refused;
+use papaya_words::refused::Refused;
 use std::process::Abort;
 use std::sync::Wait;
 use std::sync::atomic::{AtomicBool, AtomicU64, Ordering};

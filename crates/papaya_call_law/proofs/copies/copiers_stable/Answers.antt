@@ -1,8 +1,8 @@
-use Rattle.papaya_law.specs.Exchange.{run}
-use Rattle.papaya_law.proofs.Chain.{next_zero}
-use Rattle.papaya_law.proofs.Grows.{on_run}
-use Rattle.papaya_law.proofs.Later.{later_run}
-use Rattle.papaya_law.proofs.OneMap.{keeping_sound}
+use Rattle.papaya_words_law.specs.Exchange.{run}
+use Rattle.papaya_words_law.proofs.Chain.{next_zero}
+use Rattle.papaya_words_law.proofs.Grows.{on_run}
+use Rattle.papaya_words_law.proofs.Later.{later_run}
+use Rattle.papaya_words_law.proofs.OneMap.{keeping_sound}
 use Rattle.papaya_call_law.proofs.CopierStable.{copying_stable}
 use Rattle.papaya_call_law.proofs.CopierTables.{copying_carries}
 use Rattle.papaya_call_law.proofs.copies.copiers_stable.Goals as goal

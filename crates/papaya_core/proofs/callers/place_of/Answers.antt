@@ -1,7 +1,7 @@
 use Rattle.std.proofs.Common.{◌≡◌, ◌<◌, ◌≤◌, length, slice_get, refl, sym, ap, ◌∙◌, ⊎_elim, arith}
 use Rattle.std.proofs.lemmas.Option.{slice_get_read, slice_get_within}
 use Rattle.std.proofs.lemmas.Bool.{cases_lt}
-use Rattle.papaya_timeline.proofs.CallersLemmas.{same_item}
+use Rattle.papaya_core_timeline.proofs.CallersLemmas.{same_item}
 use Rattle.papaya_core.proofs.callers.place_of.Goals as goal
 
 pub loop-place-init : goal.loop-place-init

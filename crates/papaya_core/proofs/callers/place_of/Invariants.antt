@@ -1,5 +1,5 @@
 use Rattle.std.proofs.Common.{◌≡◌, ◌≢◌, ℕ, ◌<◌, Some, slice_get}
-use Rattle.papaya_timeline.specs.declared.seat.Seat.{Seat}
+use Rattle.papaya_core_timeline.specs.declared.seat.Seat.{Seat}
 use Rattle.papaya_core.proofs.callers.place_of.Given as goal
 
 -- no seat so far is the caller's

@@ -1,12 +1,12 @@
 use Rattle.std.proofs.Common.{◌≡◌, [], ◌++◌, None, Some, refl, sym, ap, subst, ◌∙◌}
-use Rattle.papaya_chain.specs.Scanner.{after, ask_of, reply_of}
-use Rattle.papaya_timeline.specs.declared.seat.Work.TheVariants as works
-use Rattle.papaya_timeline.specs.ScanGoes.{event_of_scan, reply_or}
-use Rattle.papaya_keys.specs.Hashes.{hash_of}
-use Rattle.papaya_store.specs.declared.mode.Mode.{Mode}
-use Rattle.papaya_timeline.specs.Core.{IsCore}
-use Rattle.papaya_timeline.proofs.ScanStands.{scan_core}
-use Rattle.papaya_timeline.specs.Outcomes.{ListsGiven, all_given, given_by}
+use Rattle.papaya_call.specs.Scanner.{after, ask_of, reply_of}
+use Rattle.papaya_core_timeline.specs.declared.seat.Work.TheVariants as works
+use Rattle.papaya_core_timeline.specs.ScanGoes.{event_of_scan, reply_or}
+use Rattle.papaya_words_keys.specs.Hashes.{hash_of}
+use Rattle.papaya_core_store.specs.declared.store.Mode.{Mode}
+use Rattle.papaya_core_timeline.specs.Core.{IsCore}
+use Rattle.papaya_core_timeline.proofs.ScanStands.{scan_core}
+use Rattle.papaya_core_timeline.specs.Outcomes.{ListsGiven, all_given, given_by}
 use Rattle.papaya_core.proofs.Walks.{given_is}
 use Rattle.papaya_core.proofs.scans.advance_scan.Goals as goal
 

@@ -1,11 +1,11 @@
 use Rattle.std.proofs.Common.{◌≡◌, ℕ, Some, refl, sym, ap, subst, ◌∙◌}
 use Rattle.papaya_call.specs.Answers.{Says}
-use Rattle.papaya_chain.specs.Machine.{IsFitAsk, after, ask_of, kind_of_ask}
-use Rattle.papaya_keys.specs.Hashes.{hash_of}
-use Rattle.papaya_store.specs.Asks.{PerformsAsk}
-use Rattle.papaya_timeline.specs.declared.seat.Work.TheVariants as works
-use Rattle.papaya_timeline.specs.Advances.{event_of, reply_in}
-use Rattle.papaya_timeline.proofs.StoreLemmas.{performed_ask, unnumbered}
+use Rattle.papaya_call.specs.ChainMachine.{IsFitAsk, after, ask_of, kind_of_ask}
+use Rattle.papaya_words_keys.specs.Hashes.{hash_of}
+use Rattle.papaya_core_store.specs.Asks.{PerformsAsk}
+use Rattle.papaya_core_timeline.specs.declared.seat.Work.TheVariants as works
+use Rattle.papaya_core_timeline.specs.Advances.{event_of, reply_in}
+use Rattle.papaya_core_timeline.proofs.StoreLemmas.{performed_ask, unnumbered}
 use Rattle.papaya_core.proofs.schedule.advance_call.Goals as goal
 use Rattle.papaya_core.proofs.schedule.advance_call.Given.{Over}
 

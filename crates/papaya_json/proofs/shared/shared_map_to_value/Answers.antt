@@ -1,7 +1,7 @@
 use Rattle.std.proofs.Common.{[], ◌∷◌, ◌++◌, inl, inr, ⊎_elim, List, map, sym, ap, ◌∙◌, subst}
 use mathlib.Core.List.{IsPrefix}
-use Rattle.papaya_book.specs.Logs.{Stored}
-use Rattle.papaya_lookup.specs.History.{Change}
+use Rattle.papaya_map_book.specs.Logs.{Stored}
+use Rattle.papaya_map_lookup.specs.History.{Change}
 use Rattle.std.proofs.lemmas.Result.{IfErr-weaker, IfOk-weaker}
 use Rattle.std.specs.Fn.{FnReturnsAt}
 use Rattle.std.specs.Map.Iter.{deref_pair}

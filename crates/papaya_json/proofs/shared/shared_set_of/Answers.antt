@@ -1,6 +1,6 @@
 use Rattle.std.proofs.Common.{◌≡◌, [], None, map, subst}
 use Rattle.papaya_words.specs.declared.limits.TheConstants.{DEFAULT_CHUNK, DEFAULT_SHARDS}
-use Rattle.papaya_words.specs.declared.probe.ResizeMode.TheVariants.{Incremental}
+use Rattle.papaya_words.specs.declared.resize_mode.ResizeMode.TheVariants.{Incremental}
 use Rattle.papaya_map.specs.Collected.{AreStored}
 use Rattle.papaya_map.proofs.Collected.{for_learned, hasher_learned, stored_until}
 use Rattle.papaya_set.specs.Sets.{entry_of_key}

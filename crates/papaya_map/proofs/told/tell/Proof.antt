@@ -27,7 +27,7 @@ use denote.Struct.Lending.{lent_out}
 use denote.Triple.Entry.{alive}
 use denote.Triple.Walked.{Stays, stay_dropped, walk_of, Goes-dropped}
 use Rattle.std.specs.contracts.marker.PhantomData as marker
-use Rattle.papaya_book.specs.contracts.rule.own.OwnSteps as OwnSteps
+use Rattle.papaya_map_book.specs.contracts.rule.own.OwnSteps as OwnSteps
 use Rattle.std.proofs.raw_atomic.Walks.{proved_at}
 use Rattle.logbook.specs.Kept.{rules, seen_owns}
 use Rattle.logbook.specs.contracts.tokens.Seen as Seen

@@ -1,16 +1,16 @@
 //! The first halves of the calls whose closure returns what becomes of a key's entry.
 ghost use Rattle.std.specs.Prelude.{◌≡◌, Err, IsSome, []};
 ghost use mathlib.Core.List.{IsPrefix};
-ghost use Rattle.papaya_change.specs.Showings.{Operates};
-ghost use Rattle.papaya_compute.specs.ComputeAnswers.{IsComputeBy, changes};
-ghost use Rattle.papaya_lookup.specs.History.{IsLegalHistory, Makes, history_of, key_of};
+ghost use Rattle.papaya_map_change.specs.Showings.{Operates};
+ghost use Rattle.papaya_map_compute.specs.ComputeAnswers.{IsComputeBy, changes};
+ghost use Rattle.papaya_map_lookup.specs.History.{IsLegalHistory, Makes, history_of, key_of};
 
 use crate::map::{HashMap, HashMapRef};
 use crate::told::Saying;
 use papaya_call::answers::Operation;
-use papaya_keys::compute::Compute;
-use papaya_keys::guard::Guard;
-use papaya_words::probe::Refused;
+use papaya_words::refused::Refused;
+use papaya_words_keys::guard::Guard;
+use papaya_words_keys::results::Compute;
 use std::hash::{BuildHasher, Hash};
 use std::sync::Wait;
 

@@ -1,16 +1,16 @@
 //! The first halves of the calls that store a value.
 ghost use Rattle.std.specs.Prelude.{◌≡◌, Err, IfErr, IfOk, [], is_ok};
 ghost use mathlib.Core.List.{IsPrefix};
-ghost use Rattle.papaya_change.specs.Changes.{IsPut};
-ghost use Rattle.papaya_lookup.specs.History.{IsLegalHistory, Makes, history_of, key_of};
+ghost use Rattle.papaya_map_change.specs.Changes.{IsPut};
+ghost use Rattle.papaya_map_lookup.specs.History.{IsLegalHistory, Makes, history_of, key_of};
 ghost use Rattle.papaya_map.specs.Limited.{IsPlainRefusal};
 ghost use Rattle.papaya_map.specs.Storing.{IsThereBy, IsTried, IsTriedWith, stored};
 
 use crate::map::{HashMap, HashMapRef};
 use crate::told::Saying;
-use papaya_keys::guard::Guard;
-use papaya_keys::occupied::OccupiedError;
-use papaya_words::probe::Refused;
+use papaya_words::refused::Refused;
+use papaya_words_keys::guard::Guard;
+use papaya_words_keys::results::OccupiedError;
 use std::hash::{BuildHasher, Hash};
 use std::sync::Wait;
 

@@ -1,14 +1,14 @@
 //! The first halves of lookups.
 ghost use Rattle.std.specs.Prelude.{◌≡◌, Err, IfOk, [], is_ok, true};
 ghost use mathlib.Core.List.{IsPrefix};
-ghost use Rattle.papaya_lookup.specs.Answers.{IsAnsweredBetween, IsPairAnsweredBetween};
-ghost use Rattle.papaya_lookup.specs.History.{IsLegalHistory, history_of, key_of};
+ghost use Rattle.papaya_map_lookup.specs.Answers.{IsAnsweredBetween, IsPairAnsweredBetween};
+ghost use Rattle.papaya_map_lookup.specs.History.{IsLegalHistory, history_of, key_of};
 ghost use Rattle.papaya_map.specs.Plain.{IsContained};
 
 use crate::map::{HashMap, HashMapRef};
 use crate::told::Saying;
-use papaya_keys::guard::{Equivalent, Guard};
-use papaya_words::probe::Refused;
+use papaya_words::refused::Refused;
+use papaya_words_keys::guard::{Equivalent, Guard};
 use std::hash::{BuildHasher, Hash};
 
 impl<'a, K: Hash + Eq, V, S: BuildHasher> HashMapRef<'a, K, V, S> {

@@ -1,14 +1,14 @@
 //! The first halves of the calls that remove a key's entry.
 ghost use Rattle.std.specs.Prelude.{◌≡◌, Err, []};
 ghost use mathlib.Core.List.{IsPrefix};
-ghost use Rattle.papaya_change.specs.RemovalAnswers.{IsEntryRemoved, IsRemovalBy, IsRemoved, took, went};
-ghost use Rattle.papaya_change.specs.Showings.{Judges};
-ghost use Rattle.papaya_lookup.specs.History.{IsLegalHistory, Makes, history_of, key_of};
+ghost use Rattle.papaya_map_change.specs.RemovalAnswers.{IsEntryRemoved, IsRemovalBy, IsRemoved, took, went};
+ghost use Rattle.papaya_map_change.specs.Showings.{Judges};
+ghost use Rattle.papaya_map_lookup.specs.History.{IsLegalHistory, Makes, history_of, key_of};
 
 use crate::map::{HashMap, HashMapRef};
 use crate::told::Saying;
-use papaya_keys::guard::{Equivalent, Guard};
-use papaya_words::probe::Refused;
+use papaya_words::refused::Refused;
+use papaya_words_keys::guard::{Equivalent, Guard};
 use std::hash::{BuildHasher, Hash};
 use std::sync::Wait;
 

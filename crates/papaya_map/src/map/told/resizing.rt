@@ -2,13 +2,13 @@
 //! in it which tables it has observed, and the sum of the count.
 ghost use Rattle.std.specs.Prelude.{◌≡◌, Err, IfErr, IfOk, []};
 ghost use mathlib.Core.List.{IsPrefix};
-ghost use Rattle.papaya_change.specs.Resizing.{HasNoRoomAhead, HasRoomAhead};
-ghost use Rattle.papaya_change.specs.Writing.{IsMemoryOrCapacity};
+ghost use Rattle.papaya_map_change.specs.Resizing.{HasNoRoomAhead, HasRoomAhead};
+ghost use Rattle.papaya_map_change.specs.Writing.{IsMemoryOrCapacity};
 
 use crate::map::{HashMap, HashMapRef};
 use crate::session::Session;
-use papaya_keys::guard::Guard;
-use papaya_words::probe::Refused;
+use papaya_words::refused::Refused;
+use papaya_words_keys::guard::Guard;
 use std::hash::{BuildHasher, Hash};
 use std::sync::Wait;
 

@@ -1,15 +1,15 @@
 //! The first halves of the calls that scan the whole map.
 ghost use Rattle.std.specs.Prelude.{◌≡◌, Err, IfErr, IfOk, []};
 ghost use mathlib.Core.List.{IsPrefix};
-ghost use Rattle.papaya_change.specs.Showings.{Judges};
-ghost use Rattle.papaya_change.specs.Writing.{IsMemoryOrCapacity};
-ghost use Rattle.papaya_lookup.specs.History.{IsLegalHistory, history_of, key_of};
-ghost use Rattle.papaya_scan.specs.Leaving.{HasDropped, HasKept, IsCleared};
+ghost use Rattle.papaya_map_change.specs.Showings.{Judges};
+ghost use Rattle.papaya_map_change.specs.Writing.{IsMemoryOrCapacity};
+ghost use Rattle.papaya_map_lookup.specs.History.{IsLegalHistory, history_of, key_of};
+ghost use Rattle.papaya_map_scan.specs.Leaving.{HasDropped, HasKept, IsCleared};
 
 use crate::map::{HashMap, HashMapRef};
 use crate::told::Saying;
-use papaya_keys::guard::Guard;
-use papaya_words::probe::Refused;
+use papaya_words::refused::Refused;
+use papaya_words_keys::guard::Guard;
 use std::hash::{BuildHasher, Hash};
 use std::sync::Wait;
 

@@ -2,15 +2,15 @@
 ghost use Rattle.std.specs.Prelude.{◌≡◌, Err, IfErr, IfOk, [], is_ok};
 ghost use Rattle.std.specs.Fn.{FnReturnsAt};
 ghost use mathlib.Core.List.{IsPrefix};
-ghost use Rattle.papaya_change.specs.RemovalAnswers.{took};
-ghost use Rattle.papaya_lookup.specs.History.{IsLegalHistory, Makes, history_of, key_of};
+ghost use Rattle.papaya_map_change.specs.RemovalAnswers.{took};
+ghost use Rattle.papaya_map_lookup.specs.History.{IsLegalHistory, Makes, history_of, key_of};
 ghost use Rattle.papaya_map.specs.Limited.{IsPlainRefusal};
 ghost use Rattle.papaya_map.specs.Storing.{IsUpdated, IsUpserted};
 
 use crate::map::{HashMap, HashMapRef};
 use crate::told::Saying;
-use papaya_keys::guard::Guard;
-use papaya_words::probe::Refused;
+use papaya_words::refused::Refused;
+use papaya_words_keys::guard::Guard;
 use std::hash::{BuildHasher, Hash};
 use std::sync::Wait;
 

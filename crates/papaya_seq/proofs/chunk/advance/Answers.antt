@@ -1,12 +1,12 @@
 use Rattle.std.proofs.Common.{rules, ◌≡◌, ℕ, sym, ◌∙◌, subst}
-use Rattle.papaya_ask.specs.declared.ask.At.TheVariants.{Done}
-use Rattle.papaya_copy.specs.Step.{IsStandingStep, next_cursor}
-use Rattle.papaya_copy.specs.declared.copying.Copied.TheVariants.{On}
-use Rattle.papaya_copy.specs.declared.copying.Copying.TheVariants.{Stepping}
-use Rattle.papaya_copy.specs.declared.step.Step.TheVariants.{Advancing, AtChunk}
-use Rattle.papaya_words.specs.declared.probe.ResizeMode.{ResizeMode}
-use Rattle.papaya_keys.specs.Hashes.{hash_of}
-use Rattle.papaya_store.specs.Tables.{word_at}
+use Rattle.papaya_call.specs.declared.ask.At.TheVariants.{Done}
+use Rattle.papaya_call.specs.Step.{IsStandingStep, next_cursor}
+use Rattle.papaya_call.specs.declared.copy.copying.Copied.TheVariants.{On}
+use Rattle.papaya_call.specs.declared.copy.copying.Copying.TheVariants.{Stepping}
+use Rattle.papaya_call.specs.declared.copy.step.Step.TheVariants.{Advancing, AtChunk}
+use Rattle.papaya_words.specs.declared.resize_mode.ResizeMode.{ResizeMode}
+use Rattle.papaya_words_keys.specs.Hashes.{hash_of}
+use Rattle.papaya_core_store.specs.Tables.{word_at}
 use Rattle.papaya_seq.specs.Copies.{Steps}
 use Rattle.papaya_seq.proofs.Advancing.{advance_led, chunk_led, chunk_passed}
 use Rattle.papaya_seq.proofs.CopyTurns.{comes_then}

@@ -1,8 +1,8 @@
-use Rattle.papaya_alone.specs.Measure.{words_left}
-use Rattle.papaya_copy.specs.Step.{IsStandingCursor, next_cursor}
-use Rattle.papaya_copy.specs.declared.step.Step.TheVariants.{Advancing}
-use Rattle.papaya_words.specs.declared.probe.ResizeMode.{ResizeMode}
-use Rattle.papaya_keys.specs.Hashes.{hash_of}
+use Rattle.papaya_call_alone.specs.Measure.{words_left}
+use Rattle.papaya_call.specs.Step.{IsStandingCursor, next_cursor}
+use Rattle.papaya_call.specs.declared.copy.step.Step.TheVariants.{Advancing}
+use Rattle.papaya_words.specs.declared.resize_mode.ResizeMode.{ResizeMode}
+use Rattle.papaya_words_keys.specs.Hashes.{hash_of}
 use Rattle.papaya_seq.specs.Copies.{Steps}
 use Rattle.papaya_seq.proofs.chunk.advance.Given as goal
 

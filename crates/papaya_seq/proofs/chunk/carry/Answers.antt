@@ -1,12 +1,12 @@
 use Rattle.std.proofs.Common.{rules, ◌≡◌, ℕ, Some, sym, ◌∙◌, subst}
 use Rattle.papaya_words.specs.Word.{pair_of as number_of}
-use Rattle.papaya_words.specs.declared.probe.ResizeMode.{ResizeMode}
-use Rattle.papaya_ask.specs.Search.{first_place}
-use Rattle.papaya_copy.specs.declared.carry.Carry.TheVariants.{Hashing, Sizing, Looking}
-use Rattle.papaya_copy.specs.declared.settle.Slot.{Slot}
-use Rattle.papaya_keys.specs.Hashes.{hash_of}
-use Rattle.papaya_store.specs.Store.{pair_of}
-use Rattle.papaya_store.specs.Tables.{table_of}
+use Rattle.papaya_words.specs.declared.resize_mode.ResizeMode.{ResizeMode}
+use Rattle.papaya_call.specs.Search.{first_place}
+use Rattle.papaya_call.specs.declared.copy.carry.Carry.TheVariants.{Hashing, Sizing, Looking}
+use Rattle.papaya_call.specs.declared.copy.settle.SlotToCopy.{SlotToCopy}
+use Rattle.papaya_words_keys.specs.Hashes.{hash_of}
+use Rattle.papaya_core_store.specs.Store.{pair_of}
+use Rattle.papaya_core_store.specs.Tables.{table_of}
 use Rattle.papaya_seq.specs.Copies.{Settles}
 use Rattle.papaya_seq.specs.Searches.{IsThere}
 use Rattle.papaya_seq.proofs.CopyTurns.{carried, carry_then, hashes, sizes}
@@ -20,7 +20,7 @@ abbrev hash : (g : Over) → g.row.S.Denot → g.row.K.Denot → ℕ
 hash g = hash_of g.K.Hash.hash_input g.S.BuildHasher.build_hasher g.S.Hasher.Hasher.write g.S.Hasher.Hasher.finish
 
 -- the pair's key has this hash
-hashed : (g : Over) (c : After-size_of g) (mode : ResizeMode) (slot : Slot)
+hashed : (g : Over) (c : After-size_of g) (mode : ResizeMode) (slot : SlotToCopy)
     → Settles g.K.PartialEq.eq (hash g) mode slot c.args.store.now
     (carried g.K.PartialEq.eq (hash g) mode slot c.args.store.now c.args.marked (Hashing c.args.table)) c.args.store.now
     (carried g.K.PartialEq.eq (hash g) mode slot c.args.store.now c.args.marked (Sizing c.hash-hash.result c.args.table))

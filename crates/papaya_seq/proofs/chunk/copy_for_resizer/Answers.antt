@@ -1,11 +1,11 @@
 use Rattle.std.proofs.Common.{rules, ◌≡◌, ℕ, sym, subst}
-use Rattle.papaya_chain.specs.declared.resizer.State.TheVariants.{Copying as Copying_root}
-use Rattle.papaya_chain.specs.Resizer.{after, ask_of}
-use Rattle.papaya_copy.specs.declared.copying.Copied.TheVariants.{On}
-use Rattle.papaya_copy.specs.declared.copying.Copying.TheVariants.{Stepping}
-use Rattle.papaya_copy.specs.declared.settle.Settle.TheVariants.{Looking}
-use Rattle.papaya_copy.specs.declared.step.Step.TheVariants.{Settling}
-use Rattle.papaya_keys.specs.Hashes.{hash_of}
+use Rattle.papaya_call.specs.declared.chain.resizer.ResizerState.TheVariants.{Copying as Copying_root}
+use Rattle.papaya_call.specs.Resizer.{after, ask_of}
+use Rattle.papaya_call.specs.declared.copy.copying.Copied.TheVariants.{On}
+use Rattle.papaya_call.specs.declared.copy.copying.Copying.TheVariants.{Stepping}
+use Rattle.papaya_call.specs.declared.copy.settle.Settle.TheVariants.{Looking}
+use Rattle.papaya_call.specs.declared.copy.step.Step.TheVariants.{Settling}
+use Rattle.papaya_words_keys.specs.Hashes.{hash_of}
 use Rattle.papaya_seq.specs.Copies.{Copies}
 use Rattle.papaya_seq.proofs.CopyTurns.{resizes_so}
 use Rattle.papaya_seq.proofs.chunk.copy_for_resizer.Goals as goal

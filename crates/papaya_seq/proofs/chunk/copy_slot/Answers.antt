@@ -2,12 +2,12 @@ use Rattle.std.proofs.Common.{rules, ◌≡◌, inl, inr, ℕ, refl, sym, ◌∙
 use Rattle.papaya_words.specs.Word.{kind_of}
 use Rattle.papaya_words.specs.declared.word.Kind.{Kind}
 use Rattle.papaya_words.specs.declared.word.Kind.TheVariants as kinds
-use Rattle.papaya_ask.specs.declared.ask.At.TheVariants as words
-use Rattle.papaya_copy.specs.Settle.{look_at}
-use Rattle.papaya_copy.specs.declared.settle.Settle.TheVariants.{Closing, Looking, Marking, Shutting}
-use Rattle.papaya_copy.specs.declared.settle.Settled.TheVariants.{On, Settled as Was_settled}
-use Rattle.papaya_keys.specs.Hashes.{hash_of}
-use Rattle.papaya_store.specs.Tables.{word_at}
+use Rattle.papaya_call.specs.declared.ask.At.TheVariants as words
+use Rattle.papaya_call.specs.Settle.{look_at}
+use Rattle.papaya_call.specs.declared.copy.settle.Settle.TheVariants.{Closing, Looking, Marking, Shutting}
+use Rattle.papaya_call.specs.declared.copy.settle.Settled.TheVariants.{On, Settled as Was_settled}
+use Rattle.papaya_words_keys.specs.Hashes.{hash_of}
+use Rattle.papaya_core_store.specs.Tables.{word_at}
 use Rattle.papaya_seq.specs.Copies.{Settles, settled_as}
 use Rattle.papaya_seq.proofs.CopyTurns.{closes, exchange_sized, looks_at, note_sized, settles_then, shuts}
 use Rattle.papaya_seq.proofs.chunk.copy_slot.Goals as goal
@@ -21,17 +21,17 @@ pub returns-then-word-eq0-clause-settles : goal.returns-then-word-eq0-clause-set
 returns-then-word-eq0-clause-settles g c =
     let s = c.args.store.now in
     let s1 = c.exchange.new.self in
-    let s2 = c.note.new.self in
+    let s2 = c.write_hint.new.self in
     let empty : word_at s.words (words.Slot c.args.slot.from c.args.slot.index) ≡ 0 = search rules in
     settles_then g.K.PartialEq.eq (hash g) c.args.mode c.args.slot s (On Looking) s (On Closing) s2 Was_settled
     (looks_at g.K.PartialEq.eq (hash g) c.args.mode c.args.slot s 0 kinds.Empty empty refl)
     (settles_then g.K.PartialEq.eq (hash g) c.args.mode c.args.slot s (On Closing) s1 (On Shutting) s2 Was_settled
     (closes g.K.PartialEq.eq (hash g) c.args.mode c.args.slot s s1 c.exchange.result empty c.exchange.ensures)
-    (shuts g.K.PartialEq.eq (hash g) c.args.mode c.args.slot s1 s2 c.note.ensures))
+    (shuts g.K.PartialEq.eq (hash g) c.args.mode c.args.slot s1 s2 c.write_hint.ensures))
 
 pub returns-then-word-eq0-clause-sized : goal.returns-then-word-eq0-clause-sized
 returns-then-word-eq0-clause-sized g c =
-    note_sized g.K.PartialEq.eq (hash g) c.exchange.new.self c.note.new.self c.args.slot.from c.args.slot.index 129 c.note.ensures
+    note_sized g.K.PartialEq.eq (hash g) c.exchange.new.self c.write_hint.new.self c.args.slot.from c.args.slot.index 129 c.write_hint.ensures
     (exchange_sized g.K.PartialEq.eq (hash g) c.args.store.now c.exchange.new.self (words.Slot c.args.slot.from c.args.slot.index) 0 5
     c.exchange.result c.exchange.ensures c.requires)
 

@@ -1,12 +1,12 @@
 use Rattle.std.proofs.Common.{ℕ, sym, subst}
-use Rattle.papaya_copy.specs.Copying.{leads}
-use Rattle.papaya_copy.specs.Step.{next_in, next_slot, settled_to}
-use Rattle.papaya_copy.specs.declared.copying.Aim.{Aim}
-use Rattle.papaya_copy.specs.declared.copying.Copied.TheVariants.{On}
-use Rattle.papaya_copy.specs.declared.copying.Copying.TheVariants.{Stepping}
-use Rattle.papaya_copy.specs.declared.settle.Settle.TheVariants.{Looking}
-use Rattle.papaya_copy.specs.declared.step.Step.TheVariants.{Advancing, Settling}
-use Rattle.papaya_keys.specs.Hashes.{hash_of}
+use Rattle.papaya_call.specs.Copying.{leads}
+use Rattle.papaya_call.specs.Step.{next_in, next_slot, settled_to}
+use Rattle.papaya_call.specs.declared.copy.copying.Aim.{Aim}
+use Rattle.papaya_call.specs.declared.copy.copying.Copied.TheVariants.{On}
+use Rattle.papaya_call.specs.declared.copy.copying.Copying.TheVariants.{Stepping}
+use Rattle.papaya_call.specs.declared.copy.settle.Settle.TheVariants.{Looking}
+use Rattle.papaya_call.specs.declared.copy.step.Step.TheVariants.{Advancing, Settling}
+use Rattle.papaya_words_keys.specs.Hashes.{hash_of}
 use Rattle.papaya_seq.specs.Copies.{Comes, settled_as}
 use Rattle.papaya_seq.proofs.CopyTurns.{comes_then, last_slot, next_slots}
 use Rattle.papaya_seq.proofs.chunk.copy_slots.Goals as goal

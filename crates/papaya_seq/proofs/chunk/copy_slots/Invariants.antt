@@ -1,8 +1,8 @@
 use Rattle.std.specs.Prelude.{◌-◌}
-use Rattle.papaya_copy.specs.Step.{IsStandingChunk}
-use Rattle.papaya_copy.specs.declared.settle.Settle.TheVariants.{Looking}
-use Rattle.papaya_copy.specs.declared.step.Step.TheVariants.{Settling}
-use Rattle.papaya_keys.specs.Hashes.{hash_of}
+use Rattle.papaya_call.specs.Step.{IsStandingChunk}
+use Rattle.papaya_call.specs.declared.copy.settle.Settle.TheVariants.{Looking}
+use Rattle.papaya_call.specs.declared.copy.step.Step.TheVariants.{Settling}
+use Rattle.papaya_words_keys.specs.Hashes.{hash_of}
 use Rattle.papaya_seq.specs.Copies.{IsSized, Steps}
 use Rattle.papaya_seq.proofs.chunk.copy_slots.Given as goal
 

@@ -1,12 +1,12 @@
 use Rattle.std.proofs.Common.{rules, ◌≡◌, ℕ, sym, ◌∙◌}
-use Rattle.papaya_ask.specs.declared.ask.At.TheVariants as words
-use Rattle.papaya_ask.specs.declared.search.Search.TheVariants as searches
-use Rattle.papaya_ask.specs.declared.search.Probed.TheVariants as seen
-use Rattle.papaya_copy.specs.declared.carry.Carry.TheVariants.{Looking, Reading, Placing}
-use Rattle.papaya_copy.specs.declared.settle.Settle.TheVariants.{Carrying}
-use Rattle.papaya_copy.specs.declared.settle.Settled.TheVariants.{On}
-use Rattle.papaya_keys.specs.Hashes.{hash_of}
-use Rattle.papaya_store.specs.Tables.{word_at}
+use Rattle.papaya_call.specs.declared.ask.At.TheVariants as words
+use Rattle.papaya_call.specs.declared.search.Search.TheVariants as searches
+use Rattle.papaya_call.specs.declared.search.ProbeStep.TheVariants as seen
+use Rattle.papaya_call.specs.declared.copy.carry.Carry.TheVariants.{Looking, Reading, Placing}
+use Rattle.papaya_call.specs.declared.copy.settle.Settle.TheVariants.{Carrying}
+use Rattle.papaya_call.specs.declared.copy.settle.Settled.TheVariants.{On}
+use Rattle.papaya_words_keys.specs.Hashes.{hash_of}
+use Rattle.papaya_core_store.specs.Tables.{word_at}
 use Rattle.papaya_seq.proofs.CopyTurns.{carry_then, finds, reads_passed, settles_none}
 use Rattle.papaya_seq.proofs.chunk.find_place.Goals as goal
 use Rattle.papaya_seq.proofs.chunk.find_place.Given.{Over}

@@ -1,9 +1,9 @@
 use Rattle.std.proofs.Common.{rules, ◌≡◌, true, false, sym, subst}
-use Rattle.papaya_ask.specs.declared.ask.Answer.TheVariants.{Yes}
-use Rattle.papaya_ask.specs.declared.call.Reply.TheVariants.{Removed}
-use Rattle.papaya_ask.specs.declared.call.Task.TheVariants.{RemoveIf}
+use Rattle.papaya_call.specs.declared.ask.Answer.TheVariants.{Yes}
+use Rattle.papaya_call.specs.declared.call.Reply.TheVariants.{Removed}
+use Rattle.papaya_call.specs.declared.call.Task.TheVariants.{RemoveIf}
 use Rattle.papaya_call.specs.declared.machine.State.TheVariants.{Showing}
-use Rattle.papaya_store.specs.Store.{pair_of}
+use Rattle.papaya_core_store.specs.Store.{pair_of}
 use Rattle.papaya_seq.specs.Buries.{IsRemovedFrom, itself}
 use Rattle.papaya_seq.specs.Removes.{IsShown}
 use Rattle.papaya_seq.proofs.Burying.{kept, removed}

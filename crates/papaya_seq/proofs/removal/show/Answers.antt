@@ -1,8 +1,8 @@
 use Rattle.std.proofs.Common.{◌≡◌, ℕ, Bool, Option, Some, refl, sym, subst}
 use denote.Ref.{Bor}
 use Rattle.std.specs.Fn.{Called, Mut}
-use Rattle.papaya_ask.specs.declared.ask.Answer.TheVariants.{Yes}
-use Rattle.papaya_store.specs.Store.{Stored, pair_of}
+use Rattle.papaya_call.specs.declared.ask.Answer.TheVariants.{Yes}
+use Rattle.papaya_core_store.specs.Store.{Stored, pair_of}
 use Rattle.papaya_seq.specs.Removes.{IsShown}
 use Rattle.papaya_seq.proofs.removal.show.Goals as goal
 

@@ -1,8 +1,8 @@
 use Rattle.std.proofs.Common.{rules, ◌≡◌, sym, ◌∙◌, subst}
-use Rattle.papaya_ask.specs.declared.search.Probed.TheVariants.{On}
-use Rattle.papaya_ask.specs.declared.search.Search.TheVariants.{Looking, Reading}
+use Rattle.papaya_call.specs.declared.search.ProbeStep.TheVariants.{On}
+use Rattle.papaya_call.specs.declared.search.Search.TheVariants.{Looking, Reading}
 use Rattle.papaya_call.specs.declared.machine.State.TheVariants.{Searching}
-use Rattle.papaya_store.specs.Tables.{word_at}
+use Rattle.papaya_core_store.specs.Tables.{word_at}
 use Rattle.papaya_seq.specs.Searches.{Sees, seen_by}
 use Rattle.papaya_seq.proofs.Searching.{passed_matched, passed_stands, sees_on, sees_passed, turn_seen}
 use Rattle.papaya_seq.proofs.search.look_at.Goals as goal

@@ -1,10 +1,10 @@
 use Rattle.std.proofs.Common.{rules, ◌≡◌, ℕ, zero, suc, ◌≤◌, ◌<◌, Some, length, refl, sym, ◌∙◌, ap, subst, arith}
-use Rattle.papaya_ask.specs.declared.search.Place.{Place}
-use Rattle.papaya_ask.specs.declared.search.Probed.{Probed}
-use Rattle.papaya_ask.specs.declared.search.Probed.TheVariants.{On}
-use Rattle.papaya_ask.specs.declared.search.Search.TheVariants.{Looking}
-use Rattle.papaya_ask.specs.Search.{IsProbed, hinted}
-use Rattle.papaya_store.specs.Tables.{hint_at, table_of}
+use Rattle.papaya_call.specs.declared.search.Place.{Place}
+use Rattle.papaya_call.specs.declared.search.ProbeStep.{ProbeStep}
+use Rattle.papaya_call.specs.declared.search.ProbeStep.TheVariants.{On}
+use Rattle.papaya_call.specs.declared.search.Search.TheVariants.{Looking}
+use Rattle.papaya_call.specs.Search.{IsProbed, hinted}
+use Rattle.papaya_core_store.specs.Tables.{hint_at, table_of}
 use Rattle.papaya_seq.specs.Searches.{GoesOnIn, IsPassed, IsPassedTo, IsThere, left_at, passed_by, passed_on, seen_at}
 use Rattle.papaya_seq.proofs.Searching.{hint_read, hinted_in, hinted_led, hinted_left, left_seen}
 use Rattle.papaya_seq.proofs.search.pass_by.Goals as goal
@@ -74,7 +74,7 @@ loop-next-preserved g c =
 pub returns-in_default-hinted : goal.returns-in_default-hinted
 returns-in_default-hinted g c =
     let h = (goal.at.returns-in_default-hinted g c).After-hinted in
-    subst (λ (s : Probed). IsPassed c.args.store.now c.args.hash c.args.at s) (search rules) (ends g h (λ place e. search rules))
+    subst (λ (s : ProbeStep). IsPassed c.args.store.now c.args.hash c.args.at s) (search rules) (ends g h (λ place e. search rules))
 
 pub returns-in_default-hinted-2 : goal.returns-in_default-hinted-2
 returns-in_default-hinted-2 g c = ends g (goal.at.returns-in_default-hinted-2 g c).After-hinted (λ place e. search rules)

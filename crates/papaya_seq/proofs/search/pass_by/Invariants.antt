@@ -1,6 +1,6 @@
 use Rattle.std.specs.Prelude.{◌≡◌, ◌≤◌, ℕ, Some, length}
-use Rattle.papaya_ask.specs.Search.{IsWithin}
-use Rattle.papaya_store.specs.Tables.{table_of}
+use Rattle.papaya_call.specs.Search.{IsWithin}
+use Rattle.papaya_core_store.specs.Tables.{table_of}
 use Rattle.papaya_seq.specs.Searches.{left_at, passed_by}
 use Rattle.papaya_seq.proofs.search.pass_by.Given as goal
 

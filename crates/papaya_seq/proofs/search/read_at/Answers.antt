@@ -1,10 +1,10 @@
 use Rattle.std.proofs.Common.{rules, ◌≡◌, ℕ, ◌<◌, Some, length, refl, sym, ◌∙◌, ap, subst}
-use Rattle.papaya_ask.specs.declared.search.Search.TheVariants.{Reading, Comparing}
-use Rattle.papaya_ask.specs.declared.search.Probed.TheVariants.{On}
-use Rattle.papaya_ask.specs.Search.{at_yes, look}
+use Rattle.papaya_call.specs.declared.search.Search.TheVariants.{Reading, Comparing}
+use Rattle.papaya_call.specs.declared.search.ProbeStep.TheVariants.{On}
+use Rattle.papaya_call.specs.Search.{at_yes, look}
 use Rattle.papaya_call.specs.declared.machine.State.TheVariants.{Searching}
 use Rattle.papaya_words.specs.Word.{kind_of}
-use Rattle.papaya_store.specs.Tables.{table_of, word_at}
+use Rattle.papaya_core_store.specs.Tables.{table_of, word_at}
 use Rattle.papaya_seq.specs.Searches.{GoesOnIn, IsMatchedBy, IsThere, SeesFrom, StandsBy}
 use Rattle.papaya_seq.proofs.Searching.{look_in, yes_in, slot_read, matched_look, matched_yes, sees_same, sees_word, stands_look, stands_yes, turn_seen, word_there}
 use Rattle.papaya_seq.proofs.search.read_at.Goals as goal

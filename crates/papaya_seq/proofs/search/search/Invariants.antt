@@ -1,5 +1,5 @@
 use Rattle.papaya_seq.specs.Searches.{IsTurn, left_at}
-use Rattle.papaya_seq.specs.declared.search.Turn.TheVariants.{Next}
+use Rattle.papaya_seq.specs.declared.search.ProbeHit.TheVariants.{Next}
 use Rattle.papaya_seq.proofs.search.search.Given as goal
 
 -- the turns so far led on from the first place to this one

@@ -1,10 +1,10 @@
 use Rattle.std.proofs.Common.{rules, ◌≡◌, Some, length, sym, ◌∙◌, ap, subst}
-use Rattle.papaya_ask.specs.declared.ask.Answer.TheVariants.{Size}
-use Rattle.papaya_ask.specs.Search.{first_place}
-use Rattle.papaya_store.specs.Performs.{size_of}
-use Rattle.papaya_store.specs.Tables.{table_of}
+use Rattle.papaya_call.specs.declared.ask.Answer.TheVariants.{Size}
+use Rattle.papaya_call.specs.Search.{first_place}
+use Rattle.papaya_core_store.specs.Performs.{size_of}
+use Rattle.papaya_core_store.specs.Tables.{table_of}
 use Rattle.papaya_seq.specs.Searches.{IsRootTurn, IsThere, IsTurn, seen_by}
-use Rattle.papaya_seq.specs.declared.search.Turn.{Turn}
+use Rattle.papaya_seq.specs.declared.search.ProbeHit.{ProbeHit}
 use Rattle.papaya_seq.proofs.Searching.{sees_root}
 use Rattle.papaya_seq.proofs.search.search_root.Goals as goal
 
@@ -23,7 +23,7 @@ returns g c turn e =
     ∙ ap (first_place c.args.hash store.words.root (length t.slots)) c.limit.ensures in
     let by : IsTurn matches store c.args.hash (first_place c.args.hash store.words.root (length t.slots) t.limit)
     c.search.result = subst (λ p. IsTurn matches store c.args.hash p c.search.result) first c.search.ensures.turn in
-    subst (λ (x : Turn). IsRootTurn matches store c.args.hash x) is
+    subst (λ (x : ProbeHit). IsRootTurn matches store c.args.hash x) is
     (record {
       sees = sees_root matches store c.args.hash (length t.slots) t.limit size (seen_by c.search.result) by.sees;
       stands = by.stands;

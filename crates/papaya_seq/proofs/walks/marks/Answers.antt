@@ -1,8 +1,8 @@
 use Rattle.std.proofs.Common.{rules, ◌≡◌, ◌-◌, inl, sym, ◌∙◌, arith}
 use Rattle.papaya_words.specs.Word.{kind_of, pair_of as number_of}
 use Rattle.papaya_words.specs.declared.word.Kind.TheVariants.{Marked}
-use Rattle.papaya_ask.specs.declared.ask.At.TheVariants.{Slot}
-use Rattle.papaya_store.specs.Tables.{table_of, word_at}
+use Rattle.papaya_call.specs.declared.ask.At.TheVariants.{Slot}
+use Rattle.papaya_core_store.specs.Tables.{table_of, word_at}
 use Rattle.papaya_seq.proofs.WalkSteps.{searched_more, searched_over, sized_table}
 use Rattle.papaya_seq.proofs.walks.marks.Goals as goal
 use Rattle.papaya_seq.proofs.walks.marks.Goals.{in_default-kind-via-in-Marked+else-pair, in_default-kind-via-in_default-kind}

@@ -1,18 +1,18 @@
 use Rattle.std.proofs.Common.{rules, ◌≡◌, ◌==◌, Bool, true, false, if◌then◌else◌, [], refl, subst}
 use Rattle.papaya_words.specs.Word.{kind_of, pair_of as number_of}
 use Rattle.papaya_words.specs.declared.word.Kind.TheVariants.{Live}
-use Rattle.papaya_ask.specs.declared.call.Task.TheVariants.{Insert}
+use Rattle.papaya_call.specs.declared.call.Task.TheVariants.{Insert}
 use Rattle.papaya_call.specs.Machine.{started}
 use Rattle.papaya_call.specs.declared.machine.State.TheVariants.{AtRoot, Growing}
 use Rattle.papaya_call.specs.declared.need.Need.TheVariants.{Room}
-use Rattle.papaya_keys.specs.Hashes.{hash_of}
+use Rattle.papaya_words_keys.specs.Hashes.{hash_of}
 use Rattle.papaya_seq.specs.Drives.{IsLedTo}
 use Rattle.papaya_seq.specs.Searches.{IsRootTurn}
 use Rattle.papaya_seq.specs.Writes.{slot_of}
-use Rattle.papaya_seq.specs.declared.search.Turn.{Turn}
-use Rattle.papaya_seq.specs.declared.search.Turn.TheVariants as turns
-use Rattle.papaya_store.specs.Store.{pair_of}
-use Rattle.papaya_store.specs.Tables.{word_at}
+use Rattle.papaya_seq.specs.declared.search.ProbeHit.{ProbeHit}
+use Rattle.papaya_seq.specs.declared.search.ProbeHit.TheVariants as turns
+use Rattle.papaya_core_store.specs.Store.{pair_of}
+use Rattle.papaya_core_store.specs.Tables.{word_at}
 use Rattle.papaya_seq.proofs.FastPath.{claimed, occupied, replaces_it}
 use Rattle.papaya_seq.proofs.TableSearch.{some_matched}
 use Rattle.papaya_seq.proofs.writing.insert_fast.Goals as goal
@@ -21,12 +21,12 @@ use Rattle.papaya_seq.proofs.writing.insert_fast.Given.{Over}
 
 -- what the search of the root saw
 empty : (g : Over) (c : In-Some-Empty g) → IsRootTurn (g.K.PartialEq.eq c.args.key) c.args.store.now c.args.hash (turns.Empty c.in-Some-Empty.place)
-empty g c = subst (λ (t : Turn). IsRootTurn (g.K.PartialEq.eq c.args.key) c.args.store.now c.args.hash t) (search rules)
+empty g c = subst (λ (t : ProbeHit). IsRootTurn (g.K.PartialEq.eq c.args.key) c.args.store.now c.args.hash t) (search rules)
     (c.search_root.ensures c.in-Some-Empty.field-0 c.in-Some-Empty.is)
 
 here : (g : Over) (c : In-Some-Here g) → IsRootTurn (g.K.PartialEq.eq c.args.key) c.args.store.now c.args.hash
     (turns.Here c.in-Some-Here.place c.in-Some-Here.word)
-here g c = subst (λ (t : Turn). IsRootTurn (g.K.PartialEq.eq c.args.key) c.args.store.now c.args.hash t) (search rules)
+here g c = subst (λ (t : ProbeHit). IsRootTurn (g.K.PartialEq.eq c.args.key) c.args.store.now c.args.hash t) (search rules)
     (c.search_root.ensures c.in-Some-Here.field-0 c.in-Some-Here.is)
 
 -- where nothing was, no word stands
@@ -71,7 +71,7 @@ returns-else-not-replace-clause-ok g c mode initial =
 pub returns-in-Some-Over-clause-err : goal.returns-in-Some-Over-clause-err
 returns-in-Some-Over-clause-err g c =
     let over : IsRootTurn (g.K.PartialEq.eq c.args.key) c.args.store.now c.args.hash
-    (turns.Over c.in-Some-Over.table) = subst (λ (t : Turn). IsRootTurn (g.K.PartialEq.eq c.args.key) c.args.store.now c.args.hash t) (search rules)
+    (turns.Over c.in-Some-Over.table) = subst (λ (t : ProbeHit). IsRootTurn (g.K.PartialEq.eq c.args.key) c.args.store.now c.args.hash t) (search rules)
     (c.search_root.ensures c.in-Some-Over.field-0 c.in-Some-Over.is) in
     (refl, refl, refl, leads (c.in-Some-Over.table == 0) (λ mode initial limit. over.sees (started (Insert c.args.replace) c.args.hash mode initial limit)))
   where

@@ -7,10 +7,10 @@ returns-then-write-eq0 g c =
     let logged = pair_was_logged c.args.store.now c.args.key c.args.value c.log_pair.new.self c.args.write.old c.in-Ok.pair c.key_for-key.result
     c.key_for-key.ensures c.in-Ok.ensures.ok.0 in
     -- what is written ahead is not seen
-    let same : c.if-is_crowded.store ≡ c.note.new.self = search rules in
+    let same : c.if-is_crowded.store ≡ c.write_hint.new.self = search rules in
     rw same (was_inserted c.args.store.now c.args.key c.args.value c.log_pair.new.self c.args.write c.in-Ok.pair logged c.requires.stands
     c.live.result.0 c.live.ensures c.exchange.result c.exchange.new.self c.exchange.ensures (search rules) c.args.hash c.add_to_shard.new.self
-    c.note.new.self c.add_to_shard.ensures c.hint.result c.hint.ensures c.note.ensures)
+    c.write_hint.new.self c.add_to_shard.ensures c.hint.result c.hint.ensures c.write_hint.ensures)
 
 pub returns : goal.returns
 returns g c =

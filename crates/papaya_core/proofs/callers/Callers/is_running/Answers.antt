@@ -1,8 +1,8 @@
 use Rattle.std.proofs.Common.{◌≡◌, ◌<◌, ◌≤◌, List, length, Some, slice_get, get_or, is_some, ltb-true, ltb-false, refl, sym, ap, subst, ◌∙◌, arith}
 use Rattle.std.proofs.lemmas.Option.{slice_get_read}
-use Rattle.papaya_timeline.specs.declared.seat.Seat.{Seat}
-use Rattle.papaya_timeline.specs.Callers.{working, IsSeatAt}
-use Rattle.papaya_timeline.proofs.CallersLemmas.{working-at, working-none}
+use Rattle.papaya_core_timeline.specs.declared.seat.Seat.{Seat}
+use Rattle.papaya_core_timeline.specs.Callers.{working, IsSeatAt}
+use Rattle.papaya_core_timeline.proofs.CallersLemmas.{working-at, working-none}
 use Rattle.papaya_core.proofs.callers.Callers.is_running.Goals as goal
 
 pub returns-in-Some : goal.returns-in-Some

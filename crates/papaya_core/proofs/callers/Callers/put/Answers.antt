@@ -1,7 +1,7 @@
 use Rattle.std.proofs.Common.{List, sym, ap, subst, ◌∙◌}
-use Rattle.papaya_timeline.specs.declared.seat.Seat.{Seat}
-use Rattle.papaya_timeline.specs.Callers.{with_work, IsSeated, IsSeatAt}
-use Rattle.papaya_timeline.proofs.CallersLemmas.{item_there, seated-within, with_work-at}
+use Rattle.papaya_core_timeline.specs.declared.seat.Seat.{Seat}
+use Rattle.papaya_core_timeline.specs.Callers.{with_work, IsSeated, IsSeatAt}
+use Rattle.papaya_core_timeline.proofs.CallersLemmas.{item_there, seated-within, with_work-at}
 use Rattle.papaya_core.proofs.callers.Callers.put.Goals as goal
 
 pub put_work-requires : goal.put_work-requires

@@ -1,7 +1,7 @@
 use Rattle.std.proofs.Common.{◌≡◌, ◌<◌, List, length, sym, ap, subst, ◌∙◌, arith}
-use Rattle.papaya_timeline.specs.declared.seat.Seat.{Seat}
-use Rattle.papaya_timeline.specs.Callers.{with_seat, IsSeated, IsSeatAt}
-use Rattle.papaya_timeline.proofs.CallersLemmas.{seat-seated, with_seat-end, with_seat-there, end-seated}
+use Rattle.papaya_core_timeline.specs.declared.seat.Seat.{Seat}
+use Rattle.papaya_core_timeline.specs.Callers.{with_seat, IsSeated, IsSeatAt}
+use Rattle.papaya_core_timeline.proofs.CallersLemmas.{seat-seated, with_seat-end, with_seat-there, end-seated}
 use Rattle.papaya_core.proofs.callers.Callers.seat.Goals as goal
 
 pub returns-then-place_of-len-clause-ok : goal.returns-then-place_of-len-clause-ok

@@ -1,7 +1,7 @@
 use Rattle.std.proofs.Common.{◌≡◌, List, None, is_some, true, sym, ap, subst, ◌∙◌}
-use Rattle.papaya_timeline.specs.declared.seat.Seat.{Seat}
-use Rattle.papaya_timeline.specs.Callers.{working, with_work, IsSeated, IsSeatAt}
-use Rattle.papaya_timeline.proofs.CallersLemmas.{item_there, not_none, working-at, working-within, with_work-at, with_work-seated}
+use Rattle.papaya_core_timeline.specs.declared.seat.Seat.{Seat}
+use Rattle.papaya_core_timeline.specs.Callers.{working, with_work, IsSeated, IsSeatAt}
+use Rattle.papaya_core_timeline.proofs.CallersLemmas.{item_there, not_none, working-at, working-within, with_work-at, with_work-seated}
 use Rattle.papaya_core.proofs.callers.Callers.take.Goals as goal
 
 pub take_work-requires : goal.take_work-requires

@@ -1,12 +1,12 @@
 use Rattle.std.proofs.Common.{◌≡◌, List, None, refl, sym, ap, subst, ◌∙◌}
 use Rattle.papaya_call.specs.Answers.{Says}
-use Rattle.papaya_timeline.specs.declared.seat.Seat.{Seat}
-use Rattle.papaya_timeline.specs.Callers.{scanner_in, scanning, with_work}
-use Rattle.papaya_timeline.specs.Core.{CoreState}
-use Rattle.papaya_timeline.specs.Kept.{IsLawfulCore}
-use Rattle.papaya_keys.specs.Hashes.{hash_of}
-use Rattle.papaya_timeline.proofs.CallersLemmas.{with_work-twice}
-use Rattle.papaya_timeline.specs.Outcomes.{AnswersWalk, as_reply}
+use Rattle.papaya_core_timeline.specs.declared.seat.Seat.{Seat}
+use Rattle.papaya_core_timeline.specs.Callers.{scanner_in, scanning, with_work}
+use Rattle.papaya_core_timeline.specs.Core.{CoreState}
+use Rattle.papaya_core_timeline.specs.Kept.{IsLawfulCore}
+use Rattle.papaya_words_keys.specs.Hashes.{hash_of}
+use Rattle.papaya_core_timeline.proofs.CallersLemmas.{with_work-twice}
+use Rattle.papaya_core_timeline.specs.Outcomes.{AnswersWalk, as_reply}
 use Rattle.papaya_core.proofs.LimitMet.{spent_refuses}
 use Rattle.papaya_core.proofs.LimitRefusals.{refused_spent}
 use Rattle.papaya_core.proofs.Steps.{IsSound, work_sound, work_stands}

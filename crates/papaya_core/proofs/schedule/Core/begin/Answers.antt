@@ -1,19 +1,19 @@
 use Rattle.std.proofs.Common.{◌≡◌, ℕ, List, Some, refl, sym, ap, subst, ◌∙◌}
-use Rattle.papaya_store.specs.Store.{StoreState}
-use Rattle.papaya_store.specs.declared.mode.Mode.{Mode}
-use Rattle.papaya_timeline.specs.declared.seat.Seat.{Seat}
-use Rattle.papaya_timeline.specs.Callers.{with_seat, with_work, working}
-use Rattle.papaya_timeline.specs.Begins.{Begins}
-use Rattle.papaya_timeline.specs.Core.{CoreState, work_of}
-use Rattle.papaya_timeline.specs.Counted.{IsCounted}
-use Rattle.papaya_timeline.specs.Intends.{IntendsHanded}
-use Rattle.papaya_timeline.specs.Kept.{IsLawfulCore}
-use Rattle.papaya_timeline.proofs.CallersLemmas.{same_item, working-same}
-use Rattle.papaya_keys.specs.Hashes.{hash_of}
-use Rattle.papaya_timeline.proofs.HeadlineLemmas.{begin-core}
-use Rattle.papaya_timeline.proofs.CountedLemmas.{counted_begin}
-use Rattle.papaya_timeline.proofs.Intents.{begun_intends}
-use Rattle.papaya_timeline.proofs.KeptCore.{begin_lawful}
+use Rattle.papaya_core_store.specs.Store.{StoreState}
+use Rattle.papaya_core_store.specs.declared.store.Mode.{Mode}
+use Rattle.papaya_core_timeline.specs.declared.seat.Seat.{Seat}
+use Rattle.papaya_core_timeline.specs.Callers.{with_seat, with_work, working}
+use Rattle.papaya_core_timeline.specs.Begins.{Begins}
+use Rattle.papaya_core_timeline.specs.Core.{CoreState, work_of}
+use Rattle.papaya_core_timeline.specs.Counted.{IsCounted}
+use Rattle.papaya_core_timeline.specs.Intends.{IntendsHanded}
+use Rattle.papaya_core_timeline.specs.Kept.{IsLawfulCore}
+use Rattle.papaya_core_timeline.proofs.CallersLemmas.{same_item, working-same}
+use Rattle.papaya_words_keys.specs.Hashes.{hash_of}
+use Rattle.papaya_core_timeline.proofs.HeadlineLemmas.{begin-core}
+use Rattle.papaya_core_timeline.proofs.CountedLemmas.{counted_begin}
+use Rattle.papaya_core_timeline.proofs.Intents.{begun_intends}
+use Rattle.papaya_core_timeline.proofs.KeptCore.{begin_lawful}
 use Rattle.papaya_core.proofs.schedule.Core.begin.Goals as goal
 use Rattle.papaya_core.proofs.schedule.Core.begin.Goals.{After-put}
 use Rattle.papaya_core.proofs.schedule.Core.begin.Given.{Over}

@@ -1,7 +1,7 @@
 use Rattle.std.proofs.Common.{◌+◌, ◌-◌, reverse, sym, ◌∙◌, arith}
-use Rattle.papaya_timeline.specs.Core.{work_of}
-use Rattle.papaya_keys.specs.Hashes.{hash_of}
-use Rattle.papaya_timeline.proofs.RunLemmas.{is_none, StepsRun-idle, StepsRun-more}
+use Rattle.papaya_core_timeline.specs.Core.{work_of}
+use Rattle.papaya_words_keys.specs.Hashes.{hash_of}
+use Rattle.papaya_core_timeline.proofs.RunLemmas.{is_none, StepsRun-idle, StepsRun-more}
 use Rattle.papaya_core.proofs.schedule.Core.finish_into.Goals as goal
 
 pub returns-then-not-running-clause-ok : goal.returns-then-not-running-clause-ok

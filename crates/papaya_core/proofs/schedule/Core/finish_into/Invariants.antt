@@ -1,7 +1,7 @@
 use Rattle.std.proofs.Common.{reverse}
-use Rattle.papaya_timeline.specs.Counted.{IsCounted}
-use Rattle.papaya_keys.specs.Hashes.{hash_of}
-use Rattle.papaya_timeline.specs.Runs.{StepsRun}
+use Rattle.papaya_core_timeline.specs.Counted.{IsCounted}
+use Rattle.papaya_words_keys.specs.Hashes.{hash_of}
+use Rattle.papaya_core_timeline.specs.Runs.{StepsRun}
 use Rattle.papaya_core.proofs.schedule.Core.finish_into.Given as goal
 
 -- so many steps were made, and the core stays counted

@@ -1,8 +1,8 @@
 use Rattle.std.proofs.Common.{refl}
-use Rattle.papaya_store.specs.declared.mode.Mode.{Mode}
-use Rattle.papaya_timeline.proofs.CoreLemmas.{new-core}
-use Rattle.papaya_timeline.proofs.CountedLemmas.{counted_new, new_content}
-use Rattle.papaya_timeline.proofs.KeptCore.{new_lawful}
+use Rattle.papaya_core_store.specs.declared.store.Mode.{Mode}
+use Rattle.papaya_core_timeline.proofs.CoreLemmas.{new-core}
+use Rattle.papaya_core_timeline.proofs.CountedLemmas.{counted_new, new_content}
+use Rattle.papaya_core_timeline.proofs.KeptCore.{new_lawful}
 use Rattle.papaya_core.proofs.schedule.Core.of.Goals as goal
 
 pub invariant_of-result : goal.invariant_of-result

@@ -8,12 +8,12 @@ use Rattle.std.proofs.lemmas.Iterator.{YieldsList}
 use Rattle.std.proofs.lemmas.Iterator.Adapters.{YieldsList-from_vec}
 use Rattle.std.proofs.lemmas.Iterator.Consumers.{YieldsList-from_enumerate, YieldsList-turn, YieldsList-end}
 use Rattle.std.proofs.lemmas.Result.{err_from_is_err_and}
-use Rattle.papaya_words.specs.declared.probe.Refused.TheVariants.{Memory}
-use Rattle.papaya_keys.specs.Hashes.{hash_of}
-use Rattle.papaya_timeline.specs.Kept.{IsLawfulCore}
-use Rattle.papaya_timeline.specs.Runs.{TurnsRun, StopsEarly}
-use Rattle.papaya_timeline.proofs.HeadlineLemmas.{lawful_logs, lawful_stops, lawful_timeline}
-use Rattle.papaya_timeline.proofs.RunLemmas.{numbered_item, TurnsRun-more, StopsEarly-at}
+use Rattle.papaya_words.specs.declared.refused.Refused.TheVariants.{Memory}
+use Rattle.papaya_words_keys.specs.Hashes.{hash_of}
+use Rattle.papaya_core_timeline.specs.Kept.{IsLawfulCore}
+use Rattle.papaya_core_timeline.specs.Runs.{TurnsRun, StopsEarly}
+use Rattle.papaya_core_timeline.proofs.HeadlineLemmas.{lawful_logs, lawful_stops, lawful_timeline}
+use Rattle.papaya_core_timeline.proofs.RunLemmas.{numbered_item, TurnsRun-more, StopsEarly-at}
 use Rattle.papaya_core.proofs.schedule.Core.run.Goals as goal
 use Rattle.papaya_core.proofs.schedule.Core.run.Goals.{After-into_iter-turn-iterator, After-next}
 use Rattle.papaya_core.proofs.schedule.Core.run.Given.{Over}

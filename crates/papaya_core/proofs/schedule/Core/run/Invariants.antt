@@ -1,7 +1,7 @@
 use Rattle.std.proofs.Common.{reverse, length}
-use Rattle.papaya_timeline.specs.Counted.{IsCounted}
-use Rattle.papaya_keys.specs.Hashes.{hash_of}
-use Rattle.papaya_timeline.specs.Runs.{TurnsRun}
+use Rattle.papaya_core_timeline.specs.Counted.{IsCounted}
+use Rattle.papaya_words_keys.specs.Hashes.{hash_of}
+use Rattle.papaya_core_timeline.specs.Runs.{TurnsRun}
 use Rattle.papaya_core.proofs.schedule.Core.run.Given as goal
 
 -- the turns so far were made, and the core is counted

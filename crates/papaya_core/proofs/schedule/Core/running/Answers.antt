@@ -1,11 +1,11 @@
 use Rattle.std.proofs.Common.{subst}
-use Rattle.papaya_law.specs.Content.{AreApart}
-use Rattle.papaya_timeline.specs.Content.{content}
-use Rattle.papaya_timeline.specs.Core.{CoreState}
-use Rattle.papaya_timeline.proofs.CountedCore.{lawful_apart}
+use Rattle.papaya_words_law.specs.Content.{AreApart}
+use Rattle.papaya_core_timeline.specs.Content.{content}
+use Rattle.papaya_core_timeline.specs.Core.{CoreState}
+use Rattle.papaya_core_timeline.proofs.CountedCore.{lawful_apart}
 use Rattle.papaya_core.specs.Limits.{IsWithin}
 use Rattle.papaya_core.proofs.NumbersTaken.{core_within}
-use Rattle.papaya_keys.specs.Hashes.{hash_of}
+use Rattle.papaya_words_keys.specs.Hashes.{hash_of}
 use Rattle.papaya_core.proofs.schedule.Core.running.Goals as goal
 
 pub returns-clause-apart : goal.returns-clause-apart

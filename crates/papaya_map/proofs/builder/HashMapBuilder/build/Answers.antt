@@ -1,5 +1,5 @@
 use Rattle.std.proofs.Common.{IfOk, subst}
-use Rattle.papaya_keys.specs.Sizes.{IsAllowed}
+use Rattle.papaya_words_keys.specs.Sizes.{IsAllowed}
 use Rattle.papaya_map.specs.Wanted.{Wanted}
 use Rattle.papaya_map.proofs.builder.HashMapBuilder.build.Goals as goal
 

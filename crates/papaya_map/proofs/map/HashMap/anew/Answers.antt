@@ -1,4 +1,4 @@
-use Rattle.papaya_book.specs.Limits.{tables_of}
+use Rattle.papaya_map_book.specs.Limits.{tables_of}
 use Rattle.papaya_map.proofs.FirstTable.{has_first}
 use Rattle.papaya_map.proofs.map.HashMap.anew.Goals as goal
 

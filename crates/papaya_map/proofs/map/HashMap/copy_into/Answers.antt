@@ -1,7 +1,7 @@
 use Rattle.std.proofs.Common.{List, [], map, sym, ap, ◌∙◌, subst}
 use mathlib.Core.List.{IsPrefix}
-use Rattle.papaya_book.specs.Logs.{Stored}
-use Rattle.papaya_lookup.specs.History.{Change}
+use Rattle.papaya_map_book.specs.Logs.{Stored}
+use Rattle.papaya_map_lookup.specs.History.{Change}
 use Rattle.papaya_seq.specs.Map.{deref_pair}
 use Rattle.papaya_map.specs.Collected.{AreStored}
 use Rattle.papaya_map.specs.Fixed.{Fixed}

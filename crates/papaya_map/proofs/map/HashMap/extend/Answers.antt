@@ -1,7 +1,7 @@
 use Rattle.std.proofs.Common.{List, subst}
 use mathlib.Core.List.{IsPrefix}
-use Rattle.papaya_book.specs.Logs.{Stored}
-use Rattle.papaya_lookup.specs.History.{Change, IsLegalHistory, key_of}
+use Rattle.papaya_map_book.specs.Logs.{Stored}
+use Rattle.papaya_map_lookup.specs.History.{Change, IsLegalHistory, key_of}
 use Rattle.papaya_map.specs.Collected.{Stores}
 use Rattle.papaya_map.proofs.map.HashMap.extend.Goals as goal
 

@@ -1,5 +1,5 @@
 use Rattle.std.proofs.Common.{◌∙◌}
-use Rattle.papaya_book.proofs.Logs.{prefix_trans}
+use Rattle.papaya_map_book.proofs.Logs.{prefix_trans}
 use Rattle.papaya_map.proofs.Collected.{prefix_itself, stored_more, stored_on, stored_until}
 use Rattle.papaya_map.proofs.map.HashMap.extend_as.Goals as goal
 

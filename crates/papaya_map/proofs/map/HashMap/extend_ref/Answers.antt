@@ -1,7 +1,7 @@
 use Rattle.std.proofs.Common.{List, map, subst}
 use mathlib.Core.List.{IsPrefix}
-use Rattle.papaya_book.specs.Logs.{Stored}
-use Rattle.papaya_lookup.specs.History.{Change, IsLegalHistory, key_of}
+use Rattle.papaya_map_book.specs.Logs.{Stored}
+use Rattle.papaya_map_lookup.specs.History.{Change, IsLegalHistory, key_of}
 use Rattle.papaya_seq.specs.Map.{deref_pair}
 use Rattle.papaya_map.specs.Collected.{Stores}
 use Rattle.papaya_map.proofs.map.HashMap.extend_ref.Goals as goal

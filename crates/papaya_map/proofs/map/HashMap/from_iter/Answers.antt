@@ -1,7 +1,7 @@
 use Rattle.std.proofs.Common.{[], None, subst}
 use Rattle.papaya_map.specs.Collected.{AreStored}
 use Rattle.papaya_words.specs.declared.limits.TheConstants.{DEFAULT_CHUNK, DEFAULT_SHARDS}
-use Rattle.papaya_words.specs.declared.probe.ResizeMode.TheVariants.{Incremental}
+use Rattle.papaya_words.specs.declared.resize_mode.ResizeMode.TheVariants.{Incremental}
 use Rattle.papaya_map.proofs.Collected.{for_learned, stored_until}
 use Rattle.papaya_map.proofs.map.HashMap.from_iter.Goals as goal
 

@@ -1,7 +1,7 @@
 use Rattle.std.proofs.Common.{ap, subst, ◌∙◌}
 use mathlib.Core.List.{IsPrefix}
-use Rattle.papaya_lookup.specs.History.{history_of}
-use Rattle.papaya_lookup.proofs.Histories.{history_legal, history_since}
+use Rattle.papaya_map_lookup.specs.History.{history_of}
+use Rattle.papaya_map_lookup.proofs.Histories.{history_legal, history_since}
 use Rattle.papaya_map.specs.Fixed.{Fixed}
 use Rattle.papaya_map.proofs.map.HashMap.pin.Goals as goal
 

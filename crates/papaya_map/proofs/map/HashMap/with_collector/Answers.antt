@@ -1,8 +1,8 @@
 use Rattle.std.proofs.Common.{rules, ◌≡◌, ◌<◌, ◌≤◌, ◌⊎◌, ⊎_elim, IfErr, ℕ, Ok, Err}
 use Rattle.std.proofs.lemmas.Bool.{cases_lt}
 use Rattle.papaya_words.specs.declared.limits.TheConstants.{MAX_SHARDS}
-use Rattle.papaya_words.specs.declared.probe.Refused.TheVariants.{Capacity}
-use Rattle.papaya_keys.specs.Sizes.{IsAllowed}
+use Rattle.papaya_words.specs.declared.refused.Refused.TheVariants.{Capacity}
+use Rattle.papaya_words_keys.specs.Sizes.{IsAllowed}
 use Rattle.papaya_map.proofs.map.HashMap.with_collector.Goals as goal
 
 pub returns-in_err-opened-clause-err : goal.returns-in_err-opened-clause-err

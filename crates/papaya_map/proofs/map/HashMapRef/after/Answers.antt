@@ -1,7 +1,7 @@
 use Rattle.std.proofs.Common.{rules, subst, sym}
 use mathlib.Core.List.{IsPrefix}
-use Rattle.papaya_lookup.specs.History.{Past, history_of}
-use Rattle.papaya_lookup.proofs.Histories.{history_legal, history_since}
+use Rattle.papaya_map_lookup.specs.History.{Past, history_of}
+use Rattle.papaya_map_lookup.proofs.Histories.{history_legal, history_since}
 use Rattle.papaya_map.specs.Fixed.{Pinned}
 use Rattle.papaya_map.proofs.map.HashMapRef.after.Goals as goal
 

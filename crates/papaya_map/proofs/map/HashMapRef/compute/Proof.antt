@@ -10,18 +10,18 @@ use denote.Signature.{named_lft}
 use denote.Param.{param, bounded}
 use denote.Param.Laws.{param_laws}
 use Rattle.std.proofs.result.Result.TheLaws.{the_row_laws as result_laws}
-use Rattle.papaya_words.proofs.probe.Refused.TheLaws.{the_row_laws as refused_laws}
-use Rattle.papaya_words.specs.contracts.probe.Refused.{the_row as RefusedRow}
-use Rattle.papaya_words.specs.declared.probe.Refused.TheVariants.{Limit}
-use Rattle.papaya_book.specs.contracts.rule.entry.Event as event
-use Rattle.papaya_book.specs.contracts.rule.entry.Named as naming
-use Rattle.papaya_book.specs.contracts.rule.law.Law as law
-use Rattle.papaya_book.specs.contracts.rule.law.LawRuleEventNamed.TheImpl as LawRule
-use Rattle.papaya_lookup.specs.History.{IsLegalHistory, history_of, key_of}
-use Rattle.papaya_keys.specs.contracts.compute.Compute as Computed
-use Rattle.papaya_keys.proofs.compute.Compute.TheLaws.{the_row_laws as computed_laws}
-use Rattle.papaya_change.specs.Showings.{Operates}
-use Rattle.papaya_compute.specs.ComputeAnswers.{IsComputeBy}
+use Rattle.papaya_words.proofs.refused.Refused.TheLaws.{the_row_laws as refused_laws}
+use Rattle.papaya_words.specs.contracts.refused.Refused.{the_row as RefusedRow}
+use Rattle.papaya_words.specs.declared.refused.Refused.TheVariants.{Limit}
+use Rattle.papaya_map_book.specs.contracts.rule.entry.Event as event
+use Rattle.papaya_map_book.specs.contracts.rule.entry.Named as naming
+use Rattle.papaya_map_book.specs.contracts.rule.law.Law as law
+use Rattle.papaya_map_book.specs.contracts.rule.law.LawRuleEventNamed.TheImpl as LawRule
+use Rattle.papaya_map_lookup.specs.History.{IsLegalHistory, history_of, key_of}
+use Rattle.papaya_words_keys.specs.contracts.results.Compute as Computed
+use Rattle.papaya_words_keys.proofs.results.Compute.TheLaws.{the_row_laws as computed_laws}
+use Rattle.papaya_map_change.specs.Showings.{Operates}
+use Rattle.papaya_map_compute.specs.ComputeAnswers.{IsComputeBy}
 use Rattle.papaya_map.specs.Plain.{IsSince, rule_of}
 use Rattle.papaya_map.proofs.Telling.{held_good, one_of, one_ref}
 use Rattle.papaya_map.proofs.ToldWalks.{walk_rroo}

@@ -7,11 +7,11 @@ use base.Logic.{id⊢}
 use denote.Ref.{NamedLft}
 use denote.Signature.{named_lft}
 use denote.Param.{param, bounded}
-use Rattle.papaya_book.specs.contracts.rule.entry.Event as event
-use Rattle.papaya_book.specs.contracts.rule.entry.Named as naming
-use Rattle.papaya_book.specs.contracts.rule.law.Law as law
-use Rattle.papaya_book.specs.contracts.rule.law.LawRuleEventNamed.TheImpl as LawRule
-use Rattle.papaya_lookup.specs.History.{IsLegalHistory, history_of, key_of}
+use Rattle.papaya_map_book.specs.contracts.rule.entry.Event as event
+use Rattle.papaya_map_book.specs.contracts.rule.entry.Named as naming
+use Rattle.papaya_map_book.specs.contracts.rule.law.Law as law
+use Rattle.papaya_map_book.specs.contracts.rule.law.LawRuleEventNamed.TheImpl as LawRule
+use Rattle.papaya_map_lookup.specs.History.{IsLegalHistory, history_of, key_of}
 use Rattle.papaya_map.specs.Plain.{IsContained}
 use Rattle.papaya_map.proofs.Telling.{bool_laws}
 use Rattle.papaya_map.specs.Plain.{IsSince, rule_of}

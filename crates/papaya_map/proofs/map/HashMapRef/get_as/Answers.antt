@@ -1,6 +1,6 @@
 use Rattle.std.proofs.Common.{sym}
-use Rattle.papaya_book.proofs.Lengths.{tables_since}
-use Rattle.papaya_lookup.proofs.Histories.{history_since}
+use Rattle.papaya_map_book.proofs.Lengths.{tables_since}
+use Rattle.papaya_map_lookup.proofs.Histories.{history_since}
 use Rattle.papaya_map.proofs.map.HashMapRef.get_as.Goals as goal
 
 pub returns-clause-seen : goal.returns-clause-seen

@@ -1,9 +1,9 @@
 use Rattle.std.proofs.Common.{subst}
 use mathlib.Core.List.{IsPrefix}
-use Rattle.papaya_lookup.specs.History.{Past, history_of}
-use Rattle.papaya_book.specs.Limits.{tables_of}
-use Rattle.papaya_book.proofs.Lengths.{tables_since}
-use Rattle.papaya_lookup.proofs.Histories.{history_legal, history_since}
+use Rattle.papaya_map_lookup.specs.History.{Past, history_of}
+use Rattle.papaya_map_book.specs.Limits.{tables_of}
+use Rattle.papaya_map_book.proofs.Lengths.{tables_since}
+use Rattle.papaya_map_lookup.proofs.Histories.{history_legal, history_since}
 use Rattle.papaya_map.proofs.map.HashMapRef.meet.Goals as goal
 
 pub invariant_of-a : goal.invariant_of-a

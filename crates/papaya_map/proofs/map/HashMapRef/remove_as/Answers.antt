@@ -1,6 +1,6 @@
 use Rattle.std.proofs.Common.{◌≡◌, Ok, Err, Some, ap, ◌∙◌, rules}
-use Rattle.papaya_words.specs.declared.probe.Refused.TheVariants.{Capacity}
-use Rattle.papaya_change.proofs.RemovingReplies.{none_stays, refused_removed, value_removed}
+use Rattle.papaya_words.specs.declared.refused.Refused.TheVariants.{Capacity}
+use Rattle.papaya_map_change.proofs.RemovingReplies.{none_stays, refused_removed, value_removed}
 use Rattle.papaya_map.proofs.map.HashMapRef.remove_as.Goals as goal
 
 pub unreachable-requires : goal.unreachable-requires

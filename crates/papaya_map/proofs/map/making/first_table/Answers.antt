@@ -1,6 +1,6 @@
 use Rattle.std.proofs.Common.{IfOk, Result, Err, Ok}
-use Rattle.papaya_book.specs.Parts.{begun_of}
-use Rattle.papaya_lookup.proofs.Histories.{history_legal}
+use Rattle.papaya_map_book.specs.Parts.{begun_of}
+use Rattle.papaya_map_lookup.proofs.Histories.{history_legal}
 use Rattle.papaya_map.proofs.map.making.first_table.Goals as goal
 
 ok_map : {A E : Type 0} {P Q : A → Type 0} → ((a : A) → P a → Q a) → (r : Result A E) → IfOk r P → IfOk r Q

@@ -1,5 +1,5 @@
-use Rattle.papaya_book.specs.Parts.{begun_of}
-use Rattle.papaya_lookup.proofs.Histories.{history_legal}
+use Rattle.papaya_map_book.specs.Parts.{begun_of}
+use Rattle.papaya_map_lookup.proofs.Histories.{history_legal}
 use Rattle.papaya_map.proofs.pass.Pass.keep.Goals as goal
 
 pub invariant_of-self : goal.invariant_of-self

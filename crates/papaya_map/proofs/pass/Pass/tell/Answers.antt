@@ -1,5 +1,5 @@
 use Rattle.std.proofs.Common.{ap, ◌∙◌}
-use Rattle.papaya_lookup.specs.History.{Past, history_of}
+use Rattle.papaya_map_lookup.specs.History.{Past, history_of}
 use Rattle.papaya_map.proofs.Lives.{event_within, law_within, named_within, step_within}
 use Rattle.papaya_map.proofs.OwnEntries.{history_by}
 use Rattle.papaya_map.proofs.pass.Pass.tell.Goals as goal

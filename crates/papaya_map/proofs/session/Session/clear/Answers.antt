@@ -1,4 +1,4 @@
-use Rattle.papaya_scan.proofs.Leaving.{kept_drops}
+use Rattle.papaya_map_scan.proofs.Leaving.{kept_drops}
 use Rattle.papaya_map.proofs.Cleared.{none_left}
 use Rattle.papaya_map.proofs.session.Session.clear.Goals as goal
 

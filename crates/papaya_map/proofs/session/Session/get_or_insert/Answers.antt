@@ -1,7 +1,7 @@
 use Rattle.std.proofs.Common.{◌≡◌, Ok, Err, inl, inr, ap, ◌∙◌, subst}
 use Rattle.std.specs.Prelude.{IfOk}
-use Rattle.papaya_words.specs.declared.probe.Refused.TheVariants.{Capacity}
-use Rattle.papaya_lookup.specs.History.{Makes}
+use Rattle.papaya_words.specs.declared.refused.Refused.TheVariants.{Capacity}
+use Rattle.papaya_map_lookup.specs.History.{Makes}
 use Rattle.papaya_map.specs.Storing.{IsTried, stored}
 use Rattle.papaya_map.proofs.session.Session.get_or_insert.Goals as goal
 

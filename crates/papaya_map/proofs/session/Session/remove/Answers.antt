@@ -1,5 +1,5 @@
 use Rattle.std.proofs.Common.{subst}
-use Rattle.papaya_change.specs.RemovalAnswers.{IsRemoved}
+use Rattle.papaya_map_change.specs.RemovalAnswers.{IsRemoved}
 use Rattle.papaya_map.specs.Known.{Known}
 use Rattle.papaya_map.proofs.session.Session.remove.Goals as goal
 

@@ -1,9 +1,9 @@
 use Rattle.std.proofs.Common.{subst, sym}
 use mathlib.Core.List.{IsPrefix}
-use Rattle.papaya_book.specs.Limits.{tables_of}
-use Rattle.papaya_book.proofs.Lengths.{tables_since}
-use Rattle.papaya_lookup.specs.Drivers.{past}
-use Rattle.papaya_lookup.proofs.Histories.{history_since}
+use Rattle.papaya_map_book.specs.Limits.{tables_of}
+use Rattle.papaya_map_book.proofs.Lengths.{tables_since}
+use Rattle.papaya_map_lookup.specs.Drivers.{past}
+use Rattle.papaya_map_lookup.proofs.Histories.{history_since}
 use Rattle.papaya_map.specs.Known.{Known}
 use Rattle.papaya_map.proofs.session.Session.retain.Goals as goal
 

@@ -1,6 +1,6 @@
 use Rattle.std.proofs.Common.{◌≡◌, Some, Ok, refl, sym, ap, ◌∙◌, subst, Err}
-use Rattle.papaya_words.specs.declared.probe.Refused.TheVariants.{Capacity}
-use Rattle.papaya_compute.specs.declared.rules.Ready.{Ready}
+use Rattle.papaya_words.specs.declared.refused.Refused.TheVariants.{Capacity}
+use Rattle.papaya_map_compute.specs.declared.rules.Ready.{Ready}
 use Rattle.papaya_map.specs.Storing.{IsCurrent}
 use Rattle.papaya_map.proofs.Ruled.{back_is, give_back, give_current, give_put, give_replaced, spare_there}
 use Rattle.papaya_map.proofs.session.Session.try_insert.Goals as goal

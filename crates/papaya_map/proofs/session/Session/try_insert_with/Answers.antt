@@ -1,20 +1,20 @@
 use Rattle.std.proofs.Common.{◌≡◌, Some, Ok, refl, sym, ap, ◌∙◌, subst, Err}
-use Rattle.papaya_words.specs.declared.probe.Refused.TheVariants.{Capacity}
-use Rattle.papaya_compute.specs.declared.rules.Made.{Made}
+use Rattle.papaya_words.specs.declared.refused.Refused.TheVariants.{Capacity}
+use Rattle.papaya_map_compute.specs.declared.rules.MadeBy.{MadeBy}
 use Rattle.papaya_map.specs.Storing.{IsCurrent}
 use Rattle.papaya_map.proofs.Ruled.{give_current, give_put, give_replaced}
 use Rattle.papaya_map.proofs.session.Session.try_insert_with.Goals as goal
 
 pub returns-in-Ok-Put-clause-tried : goal.returns-in-Ok-Put-clause-tried
 returns-in-Ok-Put-clause-tried g c = let at = c.in-Ok-Put in
-    give_put g.row.K.Denot {G = Made g.row.F.Denot} (λ z v. goal.F-post g z.make v) g.K.PartialEq.eq c.args.key c.args.self.now.history
+    give_put g.row.K.Denot {G = MadeBy g.row.F.Denot} (λ z v. goal.F-post g z.make v) g.K.PartialEq.eq c.args.key c.args.self.now.history
     c.decide.new.self.history (record { supply = Some (record { make = c.args.f }) }) c.decide.new.rule (record { make = c.args.f }) refl
     c.decide.result c.decide.ensures.decided at.stored (at.is ∙ ap (λ z. Ok z) at.field-0-is)
 
 pub returns-in-Ok-Left-Some-default-clause-tried : goal.returns-in-Ok-Left-Some-default-clause-tried
 returns-in-Ok-Left-Some-default-clause-tried g c =
     let at = c.in-Ok-Left-Some-default in
-    let there = give_current g.row.K.Denot {G = Made g.row.F.Denot} (λ z v. goal.F-post g z.make v) g.K.PartialEq.eq c.args.key
+    let there = give_current g.row.K.Denot {G = MadeBy g.row.F.Denot} (λ z v. goal.F-post g z.make v) g.K.PartialEq.eq c.args.key
     c.args.self.now.history c.decide.new.self.history (record { supply = Some (record { make = c.args.f }) }) c.decide.new.rule
     (record { make = c.args.f }) refl c.decide.result c.decide.ensures.decided at.field-0-0 at.field-0-1 (at.is ∙ ap (λ z. Ok z) at.field-0-is) in
     let one : there.0 ≡ at.current = let e = sym there.1 ∙ at.field-0-0-is in cc e in
@@ -22,14 +22,14 @@ returns-in-Ok-Left-Some-default-clause-tried g c =
 
 pub unreachable-requires : goal.unreachable-requires
 unreachable-requires g c = let at = c.in-Ok-Left-None-default in
-    let there = give_current g.row.K.Denot {G = Made g.row.F.Denot} (λ z v. goal.F-post g z.make v) g.K.PartialEq.eq c.args.key
+    let there = give_current g.row.K.Denot {G = MadeBy g.row.F.Denot} (λ z v. goal.F-post g z.make v) g.K.PartialEq.eq c.args.key
     c.args.self.now.history c.decide.new.self.history (record { supply = Some (record { make = c.args.f }) }) c.decide.new.rule
     (record { make = c.args.f }) refl c.decide.result c.decide.ensures.decided at.field-0-0 at.field-0-1 (at.is ∙ ap (λ z. Ok z) at.field-0-is)
     in let e = sym there.1 ∙ at.field-0-0-is in cc e
 
 pub unreachable-requires-in-Ok-Replaced : goal.unreachable-requires-in-Ok-Replaced
 unreachable-requires-in-Ok-Replaced g c = let at = c.in-Ok-Replaced in
-    give_replaced g.row.K.Denot {G = Made g.row.F.Denot} (λ z v. goal.F-post g z.make v) g.K.PartialEq.eq c.args.key c.args.self.now.history
+    give_replaced g.row.K.Denot {G = MadeBy g.row.F.Denot} (λ z v. goal.F-post g z.make v) g.K.PartialEq.eq c.args.key c.args.self.now.history
     c.decide.new.self.history (record { supply = Some (record { make = c.args.f }) }) c.decide.new.rule (record { make = c.args.f }) refl
     c.decide.result c.decide.ensures.decided at.field-0-0 (at.is ∙ ap (λ z. Ok z) at.field-0-is)
 

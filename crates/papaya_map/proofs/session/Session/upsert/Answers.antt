@@ -1,5 +1,5 @@
 use Rattle.std.proofs.Common.{Some, Ok, inl, inr, refl, ap, ◌∙◌, ◌≡◌, Err}
-use Rattle.papaya_words.specs.declared.probe.Refused.TheVariants.{Capacity}
+use Rattle.papaya_words.specs.declared.refused.Refused.TheVariants.{Capacity}
 use Rattle.std.specs.Fn.{FnReturnsAt}
 use Rattle.papaya_map.proofs.Ruled.{upsert_left, upsert_put, upsert_replaced}
 use Rattle.papaya_map.proofs.session.Session.upsert.Goals as goal

@@ -1,11 +1,11 @@
 use Rattle.std.proofs.Common.{rules, ◌≡◌, inl, ℕ, Bool, true, false, List, OnOk, Option, None, Some, option_map, refl, sym, ap, ◌∙◌, subst}
-use Rattle.papaya_law.specs.Content.{AreApart, lookup}
-use Rattle.papaya_timeline.specs.Content.{content, map_in}
-use Rattle.papaya_store.specs.Store.{StoreState, Stored}
-use Rattle.papaya_keys.specs.Hashes.{hash_of}
-use Rattle.papaya_ask.specs.declared.call.Call.TheVariants.{Clear, Compute, CopyAll, Insert, RemoveIf, Reserve, Retain, TryInsert}
-use Rattle.papaya_ask.specs.declared.call.Reply.TheVariants.{Absent, Done, Found, Refused}
-use Rattle.papaya_timeline.proofs.CountedCore.{lawful_apart}
+use Rattle.papaya_words_law.specs.Content.{AreApart, lookup}
+use Rattle.papaya_core_timeline.specs.Content.{content, map_in}
+use Rattle.papaya_core_store.specs.Store.{StoreState, Stored}
+use Rattle.papaya_words_keys.specs.Hashes.{hash_of}
+use Rattle.papaya_call.specs.declared.call.Call.TheVariants.{Clear, Compute, CopyAll, Insert, RemoveIf, Reserve, Retain, TryInsert}
+use Rattle.papaya_call.specs.declared.call.Reply.TheVariants.{Absent, Done, Found, Refused}
+use Rattle.papaya_core_timeline.proofs.CountedCore.{lawful_apart}
 use Rattle.papaya_call.specs.Answers.{Says}
 use Rattle.papaya_seq.specs.Calls.{IsCalled, IsLeftAlone, IsSifted}
 use Rattle.papaya_seq.specs.Map.{HasNone, Holds, IsLawfulMap, core_of, insertion}

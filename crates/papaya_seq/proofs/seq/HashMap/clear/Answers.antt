@@ -1,5 +1,5 @@
 use Rattle.std.proofs.Common.{rules}
-use Rattle.papaya_timeline.specs.Content.{content}
+use Rattle.papaya_core_timeline.specs.Content.{content}
 use Rattle.papaya_seq.proofs.Sifted.{ok_then, retains_none}
 use Rattle.papaya_seq.proofs.seq.HashMap.clear.Goals as goal
 

@@ -1,10 +1,10 @@
 use Rattle.std.proofs.Common.{◌≡◌, ℕ, Ok, Err, Some, sym, ◌∙◌, ap, subst}
 use Rattle.std.proofs.lemmas.Result.{err_from_is_err_and}
-use Rattle.papaya_keys.specs.Hashes.{hash_of}
+use Rattle.papaya_words_keys.specs.Hashes.{hash_of}
 use Rattle.papaya_seq.specs.Computes.{compute_answered}
 use Rattle.papaya_seq.specs.MadeAlone.{IsComputedAlone}
 use Rattle.papaya_seq.specs.Map.{deref_pair}
-use Rattle.papaya_keys.specs.declared.compute.Computed.TheVariants.{Inserted, Updated, Removed, Aborted}
+use Rattle.papaya_words_keys.specs.declared.results.Computed.TheVariants.{Inserted, Updated, Removed, Aborted}
 use Rattle.papaya_seq.proofs.ComputesDone.{parted_whole}
 use Rattle.papaya_seq.proofs.seq.HashMap.compute.Goals as goal
 use Rattle.papaya_seq.proofs.seq.HashMap.compute.Given.{Over}

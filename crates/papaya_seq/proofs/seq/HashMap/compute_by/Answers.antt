@@ -1,12 +1,12 @@
 use Rattle.std.proofs.Common.{rules, ◌≡◌, ℕ, ◌^◌, ◌<◌, None, Option, [], sym, ◌∙◌, ap, subst}
 use denote.Ref.{Bor}
-use Rattle.papaya_ask.specs.declared.call.Task.TheVariants.{Compute}
+use Rattle.papaya_call.specs.declared.call.Task.TheVariants.{Compute}
 use Rattle.papaya_call.specs.declared.answers.Operation.{Operation}
 use Rattle.papaya_call.specs.Machine.{started}
-use Rattle.papaya_chain_law.proofs.Standing.{started_stands}
-use Rattle.papaya_keys.specs.Hashes.{hash_of}
-use Rattle.papaya_store.specs.Store.{Stored}
-use Rattle.papaya_timeline.specs.Content.{map_in}
+use Rattle.papaya_call_law.proofs.ChainStanding.{started_stands}
+use Rattle.papaya_words_keys.specs.Hashes.{hash_of}
+use Rattle.papaya_core_store.specs.Store.{Stored}
+use Rattle.papaya_core_timeline.specs.Content.{map_in}
 use Rattle.papaya_seq.specs.ComputeRuns.{IsComputedFrom}
 use Rattle.papaya_seq.specs.Computes.{ComputesBy, Says, Takes}
 use Rattle.papaya_seq.specs.Map.{MapState}

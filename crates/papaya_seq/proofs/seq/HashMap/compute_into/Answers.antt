@@ -1,9 +1,9 @@
 use Rattle.std.proofs.Common.{ℕ, Ok, Err, refl, ◌∙◌, ap}
 use Rattle.std.proofs.lemmas.Result.{err_from_is_err_and}
-use Rattle.papaya_keys.specs.Hashes.{hash_of}
-use Rattle.papaya_ask.specs.declared.call.Call.TheVariants.{Compute}
+use Rattle.papaya_words_keys.specs.Hashes.{hash_of}
+use Rattle.papaya_call.specs.declared.call.Call.TheVariants.{Compute}
 use Rattle.papaya_seq.specs.Map.{deref_pair}
-use Rattle.papaya_keys.specs.declared.compute.Computed.TheVariants.{Inserted, Updated, Removed, Aborted}
+use Rattle.papaya_words_keys.specs.declared.results.Computed.TheVariants.{Inserted, Updated, Removed, Aborted}
 use Rattle.papaya_seq.proofs.ComputesDone.{computes_shown}
 use Rattle.papaya_seq.proofs.DoneAlone.{alone_done, alone_refused}
 use Rattle.papaya_seq.proofs.UpdatesDone.{removed_logged, updated_logged}

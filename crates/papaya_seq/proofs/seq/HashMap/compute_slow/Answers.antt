@@ -4,18 +4,18 @@ use Rattle.papaya_call.specs.Answers.{Says as Answers_say, first_or, rest_of}
 use Rattle.papaya_call.specs.declared.answers.Listed.{Listed}
 use Rattle.papaya_call.specs.declared.answers.Operation.{Operation}
 use Rattle.papaya_call.specs.declared.answers.Operation.TheVariants.{Abort}
-use Rattle.papaya_ask.specs.declared.ask.Ask.TheVariants.{ShowNone, ShowPair, Done as Ask_done}
-use Rattle.papaya_ask.specs.declared.call.Reply.{Reply}
-use Rattle.papaya_chain.specs.declared.ask.Answer.{Answer}
-use Rattle.papaya_chain.specs.declared.ask.Ask.TheVariants as asks
-use Rattle.papaya_chain.specs.declared.machine.Machine.{Machine}
-use Rattle.papaya_chain.specs.Machine.{IsFitAsk, IsStanding, after, ask_of}
-use Rattle.papaya_store.specs.Asks.{PerformsAsk}
-use Rattle.papaya_store.specs.declared.pairs.Part.TheVariants.{Own}
-use Rattle.papaya_keys.specs.Hashes.{hash_of}
-use Rattle.papaya_timeline.specs.Advances.{reply_in}
-use Rattle.papaya_timeline.proofs.KeptCore.{keys_lawful}
-use Rattle.papaya_timeline.proofs.KeptSettings.{IsLawfulKeys}
+use Rattle.papaya_call.specs.declared.ask.Ask.TheVariants.{ShowNone, ShowPair, Done as Ask_done}
+use Rattle.papaya_call.specs.declared.call.Reply.{Reply}
+use Rattle.papaya_call.specs.declared.chain.ask.Answer.{Answer}
+use Rattle.papaya_call.specs.declared.chain.ask.Ask.TheVariants as asks
+use Rattle.papaya_call.specs.declared.chain.machine.Machine.{Machine}
+use Rattle.papaya_call.specs.ChainMachine.{IsFitAsk, IsStanding, after, ask_of}
+use Rattle.papaya_core_store.specs.Asks.{PerformsAsk}
+use Rattle.papaya_core_store.specs.declared.pairs.Part.TheVariants.{Own}
+use Rattle.papaya_words_keys.specs.Hashes.{hash_of}
+use Rattle.papaya_core_timeline.specs.Advances.{reply_in}
+use Rattle.papaya_core_timeline.proofs.KeptCore.{keys_lawful}
+use Rattle.papaya_core_timeline.proofs.KeptSettings.{IsLawfulKeys}
 use Rattle.papaya_seq.specs.MadeAlone.{IsMadeAlone}
 use Rattle.papaya_seq.specs.Map.{IsLawfulMap, KeepsAndGrows, MapState}
 use Rattle.papaya_seq.proofs.Alone.{map_answered, map_hasher, map_lawful, map_logged}

@@ -1,6 +1,6 @@
 use Rattle.std.proofs.Common.{◌≡◌, ℕ, List, ◌++◌, ◌∷◌, map, inr, sym, ◌∙◌, subst}
-use Rattle.papaya_keys.specs.Hashes.{hash_of}
-use Rattle.papaya_timeline.specs.Content.{content}
+use Rattle.papaya_words_keys.specs.Hashes.{hash_of}
+use Rattle.papaya_core_timeline.specs.Content.{content}
 use Rattle.papaya_seq.specs.Clones.{IsCopied}
 use Rattle.papaya_seq.specs.Map.{deref_pair, entry_of}
 use Rattle.papaya_seq.specs.PutAlone.{AreClonedAlone}

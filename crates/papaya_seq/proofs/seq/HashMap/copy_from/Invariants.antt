@@ -1,5 +1,5 @@
 use Rattle.std.proofs.Common.{map}
-use Rattle.papaya_keys.specs.Hashes.{hash_of}
+use Rattle.papaya_words_keys.specs.Hashes.{hash_of}
 use Rattle.papaya_seq.specs.Clones.{IsCopied}
 use Rattle.papaya_seq.specs.Map.{deref_pair}
 use Rattle.papaya_seq.specs.PutAlone.{AreClonedAlone}

@@ -1,6 +1,6 @@
 use Rattle.std.proofs.Common.{◌≡◌, ◌++◌, ◌∷◌, map, refl, sym, ◌∙◌, subst}
 use Rattle.std.specs.List.{AllByRecursion}
-use Rattle.papaya_timeline.specs.Content.{content}
+use Rattle.papaya_core_timeline.specs.Content.{content}
 use Rattle.papaya_seq.specs.Map.{deref_pair, entry_of}
 use Rattle.papaya_seq.specs.Clones.{HasEqual}
 use Rattle.papaya_seq.proofs.Equal.{all_map, all_middle, all_push, equal_all, equal_each, equal_long, map_all}

@@ -1,5 +1,5 @@
 use Rattle.std.proofs.Common.{ℕ, refl}
-use Rattle.papaya_keys.specs.Hashes.{hash_of}
+use Rattle.papaya_words_keys.specs.Hashes.{hash_of}
 use Rattle.papaya_seq.proofs.Filled.{cut, fills_more, fills_none}
 use Rattle.papaya_seq.proofs.PutAlone.{cut_alone, put_more}
 use Rattle.papaya_seq.proofs.seq.HashMap.extend.Goals as goal

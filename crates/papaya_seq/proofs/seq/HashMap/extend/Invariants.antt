@@ -1,4 +1,4 @@
-use Rattle.papaya_keys.specs.Hashes.{hash_of}
+use Rattle.papaya_words_keys.specs.Hashes.{hash_of}
 use Rattle.papaya_seq.specs.Entries.{Fills}
 use Rattle.papaya_seq.specs.PutAlone.{ArePutAlone}
 use Rattle.papaya_seq.proofs.seq.HashMap.extend.Given as goal

@@ -1,4 +1,4 @@
-use Rattle.papaya_keys.specs.Hashes.{hash_of}
+use Rattle.papaya_words_keys.specs.Hashes.{hash_of}
 use Rattle.papaya_seq.specs.Entries.{Fills}
 use Rattle.papaya_seq.specs.Map.{deref_pair}
 use Rattle.papaya_seq.specs.PutAlone.{ArePutAlone}

@@ -1,8 +1,8 @@
 use Rattle.std.proofs.Common.{◌≡◌, true, Some, IsSome, refl, sym, ◌∙◌, ap, subst}
-use Rattle.papaya_store.specs.Store.{Stored, pair_of}
-use Rattle.papaya_keys.specs.Hashes.{hash_of}
-use Rattle.papaya_timeline.proofs.CountedCore.{lawful_apart}
-use Rattle.papaya_timeline.specs.Content.{map_in}
+use Rattle.papaya_core_store.specs.Store.{Stored, pair_of}
+use Rattle.papaya_words_keys.specs.Hashes.{hash_of}
+use Rattle.papaya_core_timeline.proofs.CountedCore.{lawful_apart}
+use Rattle.papaya_core_timeline.specs.Content.{map_in}
 use Rattle.papaya_seq.specs.Map.{Holds, IsLawfulMap, MapState, core_of, value_of}
 use Rattle.papaya_seq.proofs.LookResults.{found_map, no_value, number_logged}
 use Rattle.papaya_seq.proofs.seq.HashMap.get.Goals as goal

@@ -1,7 +1,7 @@
 use Rattle.std.proofs.Common.{◌≡◌, Some, None, IsSome, false, is_some, refl, sym, ◌∙◌, ap, subst}
-use Rattle.papaya_store.specs.Store.{pair_of}
-use Rattle.papaya_keys.specs.Hashes.{hash_of}
-use Rattle.papaya_timeline.proofs.CountedCore.{lawful_apart}
+use Rattle.papaya_core_store.specs.Store.{pair_of}
+use Rattle.papaya_words_keys.specs.Hashes.{hash_of}
+use Rattle.papaya_core_timeline.proofs.CountedCore.{lawful_apart}
 use Rattle.papaya_seq.specs.Map.{IsLawfulMap, MapState, core_of}
 use Rattle.papaya_seq.proofs.LookResults.{contains_found, number_logged, refers_found, refers_map}
 use Rattle.papaya_seq.proofs.seq.HashMap.get_key_value.Goals as goal

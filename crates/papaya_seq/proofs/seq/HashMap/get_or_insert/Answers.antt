@@ -1,7 +1,7 @@
 use Rattle.std.proofs.Common.{ℕ, refl}
 use Rattle.std.proofs.lemmas.Result.{err_from_is_err_and}
-use Rattle.papaya_ask.specs.declared.call.Call.TheVariants.{TryInsert}
-use Rattle.papaya_keys.specs.Hashes.{hash_of}
+use Rattle.papaya_call.specs.declared.call.Call.TheVariants.{TryInsert}
+use Rattle.papaya_words_keys.specs.Hashes.{hash_of}
 use Rattle.papaya_seq.proofs.Answered.{store_refusal, tried_refused, tried_value}
 use Rattle.papaya_seq.proofs.DoneAlone.{alone_done, alone_refused}
 use Rattle.papaya_seq.proofs.seq.HashMap.get_or_insert.Goals as goal

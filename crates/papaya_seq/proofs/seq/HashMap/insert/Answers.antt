@@ -1,8 +1,8 @@
 use Rattle.std.proofs.Common.{true, ℕ, IsSome, refl, sym, ◌∙◌, ap, subst}
-use Rattle.papaya_ask.specs.declared.call.Call.TheVariants.{Insert}
-use Rattle.papaya_keys.specs.Hashes.{hash_of}
-use Rattle.papaya_timeline.specs.Content.{map_in}
-use Rattle.papaya_timeline.specs.Solo.{IsAnswered}
+use Rattle.papaya_call.specs.declared.call.Call.TheVariants.{Insert}
+use Rattle.papaya_words_keys.specs.Hashes.{hash_of}
+use Rattle.papaya_core_timeline.specs.Content.{map_in}
+use Rattle.papaya_core_timeline.specs.Solo.{IsAnswered}
 use Rattle.papaya_seq.specs.Map.{insertion, value_of}
 use Rattle.papaya_seq.proofs.Answered.{neither_made, replaced_by, store_refusal, write_cause}
 use Rattle.papaya_seq.proofs.DoneAlone.{made_done, made_refused}

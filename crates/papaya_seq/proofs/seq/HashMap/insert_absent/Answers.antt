@@ -1,6 +1,6 @@
 use Rattle.std.proofs.Common.{ℕ, false, refl}
-use Rattle.papaya_ask.specs.declared.call.Call.TheVariants.{TryInsert}
-use Rattle.papaya_keys.specs.Hashes.{hash_of}
+use Rattle.papaya_call.specs.declared.call.Call.TheVariants.{TryInsert}
+use Rattle.papaya_words_keys.specs.Hashes.{hash_of}
 use Rattle.papaya_seq.proofs.Answered.{inserted_by, occupied_by}
 use Rattle.papaya_seq.proofs.DoneAlone.{made_done, made_refused}
 use Rattle.papaya_seq.proofs.seq.HashMap.insert_absent.Goals as goal

@@ -1,9 +1,9 @@
 use Rattle.std.proofs.Common.{rules, ◌≡◌, ℕ, ◌^◌, ◌<◌, Err, IfErr, None, Some, [], refl, subst}
-use Rattle.papaya_ask.specs.declared.call.Task.TheVariants.{Insert}
+use Rattle.papaya_call.specs.declared.call.Task.TheVariants.{Insert}
 use Rattle.papaya_call.specs.Machine.{started}
-use Rattle.papaya_chain_law.proofs.Standing.{started_stands}
-use Rattle.papaya_keys.specs.Hashes.{hash_of}
-use Rattle.papaya_timeline.proofs.KeptCore.{keys_lawful}
+use Rattle.papaya_call_law.proofs.ChainStanding.{started_stands}
+use Rattle.papaya_words_keys.specs.Hashes.{hash_of}
+use Rattle.papaya_core_timeline.proofs.KeptCore.{keys_lawful}
 use Rattle.papaya_seq.specs.Drives.{IsLedTo, IsReplied, at_hand, led_state}
 use Rattle.papaya_seq.specs.Map.{MapState}
 use Rattle.papaya_seq.proofs.InsertingDone.{InsertionDone, insertion_done}

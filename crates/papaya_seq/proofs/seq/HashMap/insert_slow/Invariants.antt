@@ -1,5 +1,5 @@
 use Rattle.std.proofs.Common.{◌≡◌}
-use Rattle.papaya_keys.specs.Hashes.{hash_of}
+use Rattle.papaya_words_keys.specs.Hashes.{hash_of}
 use Rattle.papaya_seq.proofs.Ending.{left_of}
 use Rattle.papaya_seq.proofs.InsertingRun.{IsInserting}
 use Rattle.papaya_seq.proofs.seq.HashMap.insert_slow.Given as goal

@@ -1,11 +1,11 @@
 use Rattle.std.proofs.Common.{◌≡◌, ℕ, suc, ◌-◌, ◌<◌, ◌^◌, ◌%◌, Some, sym, ◌∙◌, ap, subst, arith}
-use Rattle.papaya_ask.specs.declared.ask.At.TheVariants.{Next, Root}
-use Rattle.papaya_keys.specs.Hashes.{hash_of}
-use Rattle.papaya_store.specs.Store.{Stored, pair_of}
-use Rattle.papaya_store.specs.Tables.{word_at}
-use Rattle.papaya_timeline.proofs.KeptCore.{keys_lawful}
-use Rattle.papaya_timeline.proofs.KeptSettings.{IsLawfulKeys}
-use Rattle.papaya_timeline.specs.Kept.{low}
+use Rattle.papaya_call.specs.declared.ask.At.TheVariants.{Next, Root}
+use Rattle.papaya_words_keys.specs.Hashes.{hash_of}
+use Rattle.papaya_core_store.specs.Store.{Stored, pair_of}
+use Rattle.papaya_core_store.specs.Tables.{word_at}
+use Rattle.papaya_core_timeline.proofs.KeptCore.{keys_lawful}
+use Rattle.papaya_core_timeline.proofs.KeptSettings.{IsLawfulKeys}
+use Rattle.papaya_core_timeline.specs.Kept.{low}
 use Rattle.papaya_seq.specs.Map.{IsLawfulMap, MapState}
 use Rattle.papaya_seq.specs.Walks.{HasMark, HasNoMark}
 use Rattle.papaya_seq.proofs.WalkSteps.{IsPassing, passing_begins, passing_marked, passing_more}

@@ -1,10 +1,10 @@
 use Rattle.std.proofs.Common.{◌≡◌, ◌≤◌, ◌∙◌, ℕ, Some, [], ap, arith, length, subst}
-use Rattle.papaya_keys.specs.Hashes.{hash_of}
+use Rattle.papaya_words_keys.specs.Hashes.{hash_of}
 use Rattle.papaya_seq.proofs.Limits.{made_most}
 use Rattle.papaya_words.specs.Counter.{count_of}
-use Rattle.papaya_law.specs.Content.{AreApart}
-use Rattle.papaya_timeline.specs.Content.{content}
-use Rattle.papaya_timeline.proofs.CountedCore.{lawful_apart}
+use Rattle.papaya_words_law.specs.Content.{AreApart}
+use Rattle.papaya_core_timeline.specs.Content.{content}
+use Rattle.papaya_core_timeline.proofs.CountedCore.{lawful_apart}
 use Rattle.papaya_seq.specs.Map.{MapState, core_of}
 use Rattle.papaya_seq.proofs.Counting.{counted_sum}
 use Rattle.papaya_seq.proofs.seq.HashMap.len.Goals as goal

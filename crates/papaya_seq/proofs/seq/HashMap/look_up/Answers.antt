@@ -1,20 +1,20 @@
 use Rattle.std.proofs.Common.{rules, ◌≡◌, ℕ, ◌<◌, ◌^◌, Option, None, Some, option_map, fold, refl, ◌∙◌, ap, subst}
 use Rattle.papaya_words.specs.Word.{pair_of as number_of}
-use Rattle.papaya_ask.specs.declared.call.Reply.{Reply}
-use Rattle.papaya_ask.specs.declared.call.Reply.TheVariants.{Absent, Found}
-use Rattle.papaya_ask.specs.declared.call.Task.TheVariants.{Get}
+use Rattle.papaya_call.specs.declared.call.Reply.{Reply}
+use Rattle.papaya_call.specs.declared.call.Reply.TheVariants.{Absent, Found}
+use Rattle.papaya_call.specs.declared.call.Task.TheVariants.{Get}
 use Rattle.papaya_call.specs.declared.machine.State.TheVariants.{Ended}
 use Rattle.papaya_call.specs.Machine.{goes, started}
-use Rattle.papaya_keys.specs.Hashes.{hash_of}
-use Rattle.papaya_law.specs.Content.{AreApart}
-use Rattle.papaya_timeline.specs.Content.{content}
-use Rattle.papaya_timeline.proofs.CountedCore.{lawful_apart}
-use Rattle.papaya_timeline.proofs.KeptCore.{keys_lawful}
+use Rattle.papaya_words_keys.specs.Hashes.{hash_of}
+use Rattle.papaya_words_law.specs.Content.{AreApart}
+use Rattle.papaya_core_timeline.specs.Content.{content}
+use Rattle.papaya_core_timeline.proofs.CountedCore.{lawful_apart}
+use Rattle.papaya_core_timeline.proofs.KeptCore.{keys_lawful}
 use Rattle.papaya_seq.specs.Looks.{LooksUp}
 use Rattle.papaya_seq.specs.Map.{IsLawfulMap, MapState, core_of}
 use Rattle.papaya_seq.specs.Searches.{IsRootTurn, seen_by}
-use Rattle.papaya_seq.specs.declared.search.Turn.{Turn}
-use Rattle.papaya_seq.specs.declared.search.Turn.TheVariants as turns
+use Rattle.papaya_seq.specs.declared.search.ProbeHit.{ProbeHit}
+use Rattle.papaya_seq.specs.declared.search.ProbeHit.TheVariants as turns
 use Rattle.papaya_seq.proofs.LookFinds.{found_number, look_up_answers}
 use Rattle.papaya_seq.proofs.LookSteps.{IsLookUp}
 use Rattle.papaya_seq.proofs.LookTurns.{root_led}
@@ -36,7 +36,7 @@ module _ (g : Over) where
   Orderly s = IsLawfulMap g.K.PartialEq.eq (key_hash s.store.hasher) s.store s.mode s.initial
 
   -- where the search of the root ended a lookup, what it replies is what was found
-  root_found : (s : Map) → Orderly s → (key : g.row.Q.Denot) → query_hash s.store.hasher key < 2 ^ 64 → (turn : Turn)
+  root_found : (s : Map) → Orderly s → (key : g.row.Q.Denot) → query_hash s.store.hasher key < 2 ^ 64 → (turn : ProbeHit)
       → IsRootTurn (g.Q.Equivalent.matches key) s.store (query_hash s.store.hasher key) turn → (reply : Reply) (answer : Option ℕ)
       → answer ≡ found_number reply
       → goes (started Get (query_hash s.store.hasher key) s.mode.resize s.initial s.mode.limit) (seen_by turn) ≡ Ended reply
@@ -67,7 +67,7 @@ module _ (g : Over) where
     hash_made = c.hash-hash.ensures.value ∙ ap (λ (s : Map). query_hash s.store.hasher c.args.key.now) c.self.view_is
 
     -- the search of the root ended the lookup
-    ended : (turn : Turn) → c.search_root.result ≡ Some turn → (reply : Reply) (answer : Option ℕ) → answer ≡ found_number reply
+    ended : (turn : ProbeHit) → c.search_root.result ≡ Some turn → (reply : Reply) (answer : Option ℕ) → answer ≡ found_number reply
         → goes (started Get (query_hash c.args.self.now.store.hasher c.args.key.now) c.args.self.now.mode.resize c.args.self.now.initial
         c.args.self.now.mode.limit) (seen_by turn) ≡ Ended reply
         → (found : _) × LooksUp g.K.PartialEq.eq (g.Q.Equivalent.matches c.args.key.now) c.args.self.now.store

@@ -1,24 +1,24 @@
 use Rattle.std.proofs.Common.{rules, ◌≡◌, ℕ, ◌<◌, ◌^◌, Option, None, Some, option_map, fold, length, refl, sym, ◌∙◌, ap, subst, arith}
 use Rattle.std.specs.Prelude.{MatchOption}
 use Rattle.papaya_words.specs.Word.{pair_of as number_of}
-use Rattle.papaya_ask.specs.declared.ask.Answer.TheVariants.{Size}
-use Rattle.papaya_ask.specs.declared.ask.At.TheVariants.{Next, Root}
-use Rattle.papaya_ask.specs.declared.call.Reply.{Reply}
-use Rattle.papaya_ask.specs.declared.call.Reply.TheVariants.{Absent, Found}
-use Rattle.papaya_ask.specs.declared.call.Task.TheVariants.{Get}
+use Rattle.papaya_call.specs.declared.ask.Answer.TheVariants.{Size}
+use Rattle.papaya_call.specs.declared.ask.At.TheVariants.{Next, Root}
+use Rattle.papaya_call.specs.declared.call.Reply.{Reply}
+use Rattle.papaya_call.specs.declared.call.Reply.TheVariants.{Absent, Found}
+use Rattle.papaya_call.specs.declared.call.Task.TheVariants.{Get}
 use Rattle.papaya_call.specs.declared.machine.State.{State}
 use Rattle.papaya_call.specs.declared.machine.State.TheVariants.{Ended}
 use Rattle.papaya_call.specs.Machine.{goes, passes, started}
-use Rattle.papaya_store.specs.Performs.{size_of}
-use Rattle.papaya_store.specs.Store.{StoreState}
-use Rattle.papaya_store.specs.Tables.{table_of, word_at}
-use Rattle.papaya_keys.specs.Hashes.{hash_of}
-use Rattle.papaya_timeline.proofs.KeptCore.{keys_lawful}
-use Rattle.papaya_timeline.proofs.KeptSettings.{IsLawfulKeys}
+use Rattle.papaya_core_store.specs.Performs.{size_of}
+use Rattle.papaya_core_store.specs.Store.{StoreState}
+use Rattle.papaya_core_store.specs.Tables.{table_of, word_at}
+use Rattle.papaya_words_keys.specs.Hashes.{hash_of}
+use Rattle.papaya_core_timeline.proofs.KeptCore.{keys_lawful}
+use Rattle.papaya_core_timeline.proofs.KeptSettings.{IsLawfulKeys}
 use Rattle.papaya_seq.specs.Looks.{LooksUp}
 use Rattle.papaya_seq.specs.Map.{IsLawfulMap, MapState}
 use Rattle.papaya_seq.specs.Searches.{IsThere, IsTurn, seen_by}
-use Rattle.papaya_seq.specs.declared.search.Turn.{Turn}
+use Rattle.papaya_seq.specs.declared.search.ProbeHit.{ProbeHit}
 use Rattle.papaya_seq.proofs.LookFinds.{found_number, look_up_answers}
 use Rattle.papaya_seq.proofs.LookSteps.{IsLookUp, lookup_left}
 use Rattle.papaya_seq.proofs.LookTurns.{empty_else, next_loaded, none_there, numbered, passed_last, root_loaded, searched}
@@ -118,7 +118,7 @@ returns-in-Here g c =
     let came = (led g (goal.at.returns-in-Here g c).After-search (in_order g h)).0 in
     found_so g c.args.self.now c.args.key.now c.hash-hash.result (in_order g h) (hash_made g h) c.hash-hash.ensures.fits
     (Found (number_of c.in-Here.word)) (Some c.pair.result) (ap Some c.pair.ensures)
-    (subst (λ (t : Turn). Comes g c.args.self.now c.args.key.now c.hash-hash.result
+    (subst (λ (t : ProbeHit). Comes g c.args.self.now c.args.key.now c.hash-hash.result
     (goes (started Get c.hash-hash.result c.args.self.now.mode.resize c.args.self.now.initial c.args.self.now.mode.limit) (seen_by t))) c.in-Here.is came)
 
 -- past a table
@@ -128,7 +128,7 @@ passed : (g : Over) (c : In-Over g) → Orderly g c.args.self.now
     c.args.self.now c.args.key.now c.hash-hash.result (numbered c.loop-table.number))
 passed g c orderly =
     let s = c.args.self.now in
-    subst (λ (t : Turn). Comes g s c.args.key.now c.hash-hash.result
+    subst (λ (t : ProbeHit). Comes g s c.args.key.now c.hash-hash.result
     (goes (started Get c.hash-hash.result s.mode.resize s.initial s.mode.limit) (seen_by t))
     × (left g s c.args.key.now c.hash-hash.result (goes (started Get c.hash-hash.result s.mode.resize s.initial s.mode.limit) (seen_by t)) < left g
     s c.args.key.now c.hash-hash.result (numbered c.loop-table.number))) c.in-Over.is
@@ -176,7 +176,7 @@ returns-in_default-search g c =
     let orderly = in_order g at.After-hash-hash in
     let (place, empty) = empty_else c.search.result c.search.ensures.over (λ place word e. search rules) (λ t e. search rules) in
     found_so g s c.args.key.now c.hash-hash.result orderly (hash_made g at.After-hash-hash) c.hash-hash.ensures.fits Absent None refl
-    (subst (λ (t : Turn). Comes g s c.args.key.now c.hash-hash.result
+    (subst (λ (t : ProbeHit). Comes g s c.args.key.now c.hash-hash.result
     (goes (started Get c.hash-hash.result s.mode.resize s.initial s.mode.limit) (seen_by t))) empty (led g at.After-search orderly).0)
 
 pub returns : goal.returns

@@ -1,5 +1,5 @@
 use Rattle.std.proofs.Common.{length}
-use Rattle.papaya_ask.specs.declared.call.Task.TheVariants.{Get}
+use Rattle.papaya_call.specs.declared.call.Task.TheVariants.{Get}
 use Rattle.papaya_call.specs.Machine.{started}
 use Rattle.papaya_seq.proofs.LookSteps.{IsLookUp, lookup_left}
 use Rattle.papaya_seq.proofs.LookTurns.{numbered}

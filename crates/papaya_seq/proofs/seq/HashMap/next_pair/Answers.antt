@@ -1,10 +1,10 @@
 use Rattle.std.proofs.Common.{rules, ◌≡◌, ℕ, ◌+◌, ◌<◌, ◌≤◌, ◌^◌, [], length, sym, ◌∙◌, ap, subst, arith}
-use Rattle.papaya_ask.specs.declared.ask.At.TheVariants.{Next}
-use Rattle.papaya_words.specs.declared.probe.ResizeMode.TheVariants.{Incremental, Blocking}
-use Rattle.papaya_keys.specs.Hashes.{hash_of}
-use Rattle.papaya_store.specs.Tables.{table_of, word_at}
-use Rattle.papaya_timeline.proofs.KeptCore.{keys_lawful}
-use Rattle.papaya_timeline.proofs.KeptSettings.{IsLawfulKeys}
+use Rattle.papaya_call.specs.declared.ask.At.TheVariants.{Next}
+use Rattle.papaya_words.specs.declared.resize_mode.ResizeMode.TheVariants.{Incremental, Blocking}
+use Rattle.papaya_words_keys.specs.Hashes.{hash_of}
+use Rattle.papaya_core_store.specs.Tables.{table_of, word_at}
+use Rattle.papaya_core_timeline.proofs.KeptCore.{keys_lawful}
+use Rattle.papaya_core_timeline.proofs.KeptSettings.{IsLawfulKeys}
 use Rattle.papaya_seq.specs.Map.{IsLawfulMap, MapState, slots_in}
 use Rattle.papaya_seq.specs.Walks.{IsStand, left_to}
 use Rattle.papaya_seq.proofs.WalkSteps.{here_next, here_none, next_left, next_rises, next_stands, over_blocking, over_last, stand_same}

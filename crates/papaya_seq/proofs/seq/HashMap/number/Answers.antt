@@ -1,10 +1,10 @@
 use Rattle.std.proofs.Common.{◌≡◌, ◌≤◌, length, sym, subst, rules}
-use Rattle.papaya_ask.specs.declared.ask.At.TheVariants.{Made}
+use Rattle.papaya_call.specs.declared.ask.At.TheVariants.{Made}
 use Rattle.papaya_call.specs.Made.{IsLimit}
 use Rattle.papaya_call_law.proofs.AloneSteps.{exchange_done}
-use Rattle.papaya_store.specs.Store.{StoreState}
-use Rattle.papaya_store.specs.Tables.{word_at}
-use Rattle.papaya_keys.specs.Hashes.{hash_of}
+use Rattle.papaya_core_store.specs.Store.{StoreState}
+use Rattle.papaya_core_store.specs.Tables.{word_at}
+use Rattle.papaya_words_keys.specs.Hashes.{hash_of}
 use Rattle.papaya_seq.specs.Map.{IsLawfulMap, MapState}
 use Rattle.papaya_seq.proofs.Numbering.{numbered_lawful, numbered_store}
 use Rattle.papaya_seq.proofs.seq.HashMap.number.Goals as goal

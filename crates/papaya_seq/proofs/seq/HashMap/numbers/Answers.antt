@@ -1,5 +1,5 @@
 use Rattle.std.proofs.Common.{rules, ◌≡◌, ◌++◌, ◌∷◌, [], map, ◌∙◌, ap, subst}
-use Rattle.papaya_timeline.specs.Content.{content}
+use Rattle.papaya_core_timeline.specs.Content.{content}
 use Rattle.papaya_seq.specs.Walks.{IsNext, left_to}
 use Rattle.papaya_seq.proofs.Listed.{listed_fewer, listed_more}
 use Rattle.papaya_seq.proofs.seq.HashMap.numbers.Goals as goal

@@ -1,5 +1,5 @@
 use Rattle.std.proofs.Common.{◌≡◌, ◌++◌, length, map}
-use Rattle.papaya_timeline.specs.Content.{content}
+use Rattle.papaya_core_timeline.specs.Content.{content}
 use Rattle.papaya_seq.specs.Walks.{IsStand, left_to}
 use Rattle.papaya_seq.proofs.seq.HashMap.numbers.Given as goal
 

@@ -1,8 +1,8 @@
 use Rattle.std.proofs.Common.{ℕ, None, refl, subst}
-use Rattle.papaya_ask.specs.declared.call.Call.TheVariants.{Insert}
-use Rattle.papaya_keys.specs.Hashes.{hash_of}
-use Rattle.papaya_timeline.specs.Content.{map_in}
-use Rattle.papaya_timeline.specs.Solo.{IsAnswered}
+use Rattle.papaya_call.specs.declared.call.Call.TheVariants.{Insert}
+use Rattle.papaya_words_keys.specs.Hashes.{hash_of}
+use Rattle.papaya_core_timeline.specs.Content.{map_in}
+use Rattle.papaya_core_timeline.specs.Solo.{IsAnswered}
 use Rattle.papaya_seq.specs.Map.{insertion}
 use Rattle.std.specs.Prelude.{true}
 use Rattle.papaya_seq.proofs.Answered.{neither_made, replaced_by}

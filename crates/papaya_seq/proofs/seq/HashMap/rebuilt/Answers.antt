@@ -1,16 +1,16 @@
 use Rattle.std.proofs.Common.{◌≡◌, ◌≤◌, ℕ, [], length, map, sym, ap, ◌∙◌, subst, arith}
 use Rattle.std.proofs.lemmas.List.{length-map}
-use Rattle.papaya_keys.specs.Hashes.{hash_of}
+use Rattle.papaya_words_keys.specs.Hashes.{hash_of}
 use Rattle.papaya_seq.proofs.Limits.{made_most}
-use Rattle.papaya_timeline.specs.Content.{content}
+use Rattle.papaya_core_timeline.specs.Content.{content}
 use Rattle.papaya_seq.specs.Clones.{HasFreeParts}
 use Rattle.papaya_seq.specs.Lengths.{IsAskedFor}
 use Rattle.papaya_seq.specs.PutAlone.{IsMadeRoomy}
 use Rattle.papaya_seq.proofs.Filled.{new_with_own}
-use Rattle.papaya_timeline.specs.New.{IsNew}
+use Rattle.papaya_core_timeline.specs.New.{IsNew}
 use Rattle.papaya_seq.specs.Map.{MapState, core_of, entry_of}
-use Rattle.papaya_store.specs.declared.mode.Mode.{Mode}
-use Rattle.papaya_store.specs.Store.{StoreState}
+use Rattle.papaya_core_store.specs.declared.store.Mode.{Mode}
+use Rattle.papaya_core_store.specs.Store.{StoreState}
 use Rattle.papaya_seq.proofs.Rebuilt.{asked_long, cut_below, empty_still, fresh_parts}
 use Rattle.papaya_seq.proofs.Rebuilt.{limited_parts, limited_rebuilt, pairs_logged, parts_on}
 use Rattle.papaya_seq.proofs.Rebuilt.{rebuild_cut, rebuilt_of, room_refused, roomy_parts}

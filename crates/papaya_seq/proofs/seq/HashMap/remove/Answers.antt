@@ -1,6 +1,6 @@
 use Rattle.std.proofs.Common.{IfErr, IsOk, ℕ, None, Some, ap, refl, subst}
 use Rattle.std.proofs.lemmas.Result.{err_from_is_err_and}
-use Rattle.papaya_keys.specs.Hashes.{hash_of}
+use Rattle.papaya_words_keys.specs.Hashes.{hash_of}
 use Rattle.papaya_seq.specs.Answered.{entry_answered}
 use Rattle.papaya_seq.specs.Map.{IsMakeRefusal}
 use Rattle.papaya_seq.proofs.DoneAlone.{removal_as_done, removal_as_refused}

@@ -1,8 +1,8 @@
 use Rattle.std.proofs.Common.{ℕ, fold, sym, ◌∙◌, ap, subst}
-use Rattle.papaya_ask.specs.declared.call.Task.TheVariants.{RemoveIf}
+use Rattle.papaya_call.specs.declared.call.Task.TheVariants.{RemoveIf}
 use Rattle.papaya_call.specs.Machine.{started}
-use Rattle.papaya_keys.specs.Hashes.{hash_of}
-use Rattle.papaya_timeline.proofs.KeptCore.{keys_lawful}
+use Rattle.papaya_words_keys.specs.Hashes.{hash_of}
+use Rattle.papaya_core_timeline.proofs.KeptCore.{keys_lawful}
 use Rattle.papaya_seq.specs.Buries.{itself}
 use Rattle.papaya_seq.specs.Map.{MapState}
 use Rattle.papaya_seq.proofs.Burying.{leads_under_way}

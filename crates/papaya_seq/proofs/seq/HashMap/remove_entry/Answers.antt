@@ -1,5 +1,5 @@
 use Rattle.std.proofs.Common.{ℕ, option_map, refl}
-use Rattle.papaya_keys.specs.Hashes.{hash_of}
+use Rattle.papaya_words_keys.specs.Hashes.{hash_of}
 use Rattle.papaya_seq.specs.Map.{deref_pair}
 use Rattle.papaya_seq.proofs.DoneAlone.{removal_done}
 use Rattle.papaya_seq.proofs.Removed.{removed_entry}

@@ -1,10 +1,10 @@
 use Rattle.std.proofs.Common.{◌≡◌, ℕ, ◌<◌, ◌≤◌, arith, fold, sym, ◌∙◌, ap, subst}
-use Rattle.papaya_ask.specs.declared.ask.Ask.TheVariants.{Done as Ask_done}
-use Rattle.papaya_ask.specs.declared.call.Call.TheVariants.{RemoveIf}
-use Rattle.papaya_chain.specs.declared.ask.Ask.TheVariants as asks
-use Rattle.papaya_chain.specs.Machine.{IsFitAsk, IsStanding, ask_of}
-use Rattle.papaya_keys.specs.Hashes.{hash_of}
-use Rattle.papaya_timeline.proofs.KeptCore.{keys_lawful}
+use Rattle.papaya_call.specs.declared.ask.Ask.TheVariants.{Done as Ask_done}
+use Rattle.papaya_call.specs.declared.call.Call.TheVariants.{RemoveIf}
+use Rattle.papaya_call.specs.declared.chain.ask.Ask.TheVariants as asks
+use Rattle.papaya_call.specs.ChainMachine.{IsFitAsk, IsStanding, ask_of}
+use Rattle.papaya_words_keys.specs.Hashes.{hash_of}
+use Rattle.papaya_core_timeline.proofs.KeptCore.{keys_lawful}
 use Rattle.papaya_seq.specs.MadeAlone.{IsMadeAlone}
 use Rattle.papaya_seq.specs.Map.{IsLawfulMap, MapState}
 use Rattle.papaya_seq.specs.Resizes.{IsCopyCause}

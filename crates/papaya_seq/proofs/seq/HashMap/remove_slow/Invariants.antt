@@ -1,6 +1,6 @@
 use Rattle.std.proofs.Common.{◌≡◌}
-use Rattle.papaya_chain.specs.Machine.{IsStanding}
-use Rattle.papaya_keys.specs.Hashes.{hash_of}
+use Rattle.papaya_call.specs.ChainMachine.{IsStanding}
+use Rattle.papaya_words_keys.specs.Hashes.{hash_of}
 use Rattle.papaya_seq.proofs.Ending.{left_of}
 use Rattle.papaya_seq.proofs.RemovalWays.{IsUnderWay}
 use Rattle.papaya_seq.proofs.seq.HashMap.remove_slow.Given as goal

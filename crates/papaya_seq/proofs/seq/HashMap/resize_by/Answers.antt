@@ -1,13 +1,13 @@
 use Rattle.std.proofs.Common.{◌≡◌, ℕ, ◌<◌, ◌≤◌, arith, FitsSigned, None, Some, refl, sym, ◌∙◌, ap, subst, Ok, Err}
 use Rattle.std.specs.Int.{w64}
-use Rattle.papaya_ask.specs.declared.call.Reply.TheVariants.{Done as Reply_done, Refused as Reply_refused}
-use Rattle.papaya_words.specs.declared.probe.Refused.{Refused}
-use Rattle.papaya_words.specs.declared.probe.Refused.TheVariants.{Capacity}
-use Rattle.papaya_chain.specs.declared.resizer.Resizer.{Resizer}
-use Rattle.papaya_chain.specs.declared.resizer.State.TheVariants.{Refused as Was_refused}
-use Rattle.papaya_chain.specs.Resizer.{IsStandingResizer, after, ask_of, reply_in, reply_of}
-use Rattle.papaya_keys.specs.Hashes.{hash_of}
-use Rattle.papaya_store.specs.Store.{StoreState}
+use Rattle.papaya_call.specs.declared.call.Reply.TheVariants.{Done as Reply_done, Refused as Reply_refused}
+use Rattle.papaya_words.specs.declared.refused.Refused.{Refused}
+use Rattle.papaya_words.specs.declared.refused.Refused.TheVariants.{Capacity}
+use Rattle.papaya_call.specs.declared.chain.resizer.Resizer.{Resizer}
+use Rattle.papaya_call.specs.declared.chain.resizer.ResizerState.TheVariants.{Refused as Was_refused}
+use Rattle.papaya_call.specs.Resizer.{IsStandingResizer, after, ask_of, reply_in, reply_of}
+use Rattle.papaya_words_keys.specs.Hashes.{hash_of}
+use Rattle.papaya_core_store.specs.Store.{StoreState}
 use Rattle.papaya_seq.specs.MadeAlone.{IsResizedAlone}
 use Rattle.papaya_seq.specs.Map.{IsLawfulMap, Keeps, MapState}
 use Rattle.papaya_seq.specs.Resizes.{IsPastLimit, IsResizeRefusal, IsRoomThere}

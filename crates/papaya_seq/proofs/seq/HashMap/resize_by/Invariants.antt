@@ -1,5 +1,5 @@
 use Rattle.std.proofs.Common.{◌≡◌}
-use Rattle.papaya_keys.specs.Hashes.{hash_of}
+use Rattle.papaya_words_keys.specs.Hashes.{hash_of}
 use Rattle.papaya_seq.proofs.ResizerRun.{IsResizingTo}
 use Rattle.papaya_seq.proofs.ResizerSteps.{resizer_left}
 use Rattle.papaya_seq.proofs.seq.HashMap.resize_by.Given as goal

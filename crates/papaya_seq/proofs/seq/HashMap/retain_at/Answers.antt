@@ -3,13 +3,13 @@ use Rattle.std.specs.Prelude.{negsuc}
 use Rattle.papaya_words.specs.Counter.{added}
 use Rattle.papaya_words.specs.Word.{kind_of, pair_of as number_of, buried_word}
 use Rattle.papaya_words.specs.declared.word.Kind.TheVariants.{Live}
-use Rattle.papaya_ask.specs.declared.ask.Answer.TheVariants.{Yes}
-use Rattle.papaya_ask.specs.declared.ask.At.TheVariants.{Slot}
-use Rattle.papaya_keys.specs.Hashes.{hash_of}
-use Rattle.papaya_store.specs.Store.{StoreState, Stored, pair_of}
-use Rattle.papaya_store.specs.Tables.{put, word_at}
-use Rattle.papaya_timeline.proofs.KeptCore.{keys_lawful}
-use Rattle.papaya_timeline.proofs.KeptSettings.{IsLawfulKeys}
+use Rattle.papaya_call.specs.declared.ask.Answer.TheVariants.{Yes}
+use Rattle.papaya_call.specs.declared.ask.At.TheVariants.{Slot}
+use Rattle.papaya_words_keys.specs.Hashes.{hash_of}
+use Rattle.papaya_core_store.specs.Store.{StoreState, Stored, pair_of}
+use Rattle.papaya_core_store.specs.Tables.{put, word_at}
+use Rattle.papaya_core_timeline.proofs.KeptCore.{keys_lawful}
+use Rattle.papaya_core_timeline.proofs.KeptSettings.{IsLawfulKeys}
 use Rattle.papaya_seq.specs.Map.{IsLawfulMap, MapState, next_of, slots_of}
 use Rattle.papaya_seq.specs.Retains.{Answers, IsRetaining}
 use Rattle.papaya_seq.proofs.RetainLaw.{live_logged, root_word, buried_at, buried_lawful}

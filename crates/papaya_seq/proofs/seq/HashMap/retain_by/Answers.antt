@@ -1,8 +1,8 @@
 use Rattle.std.proofs.Common.{◌≡◌, Bool, refl, sym, ◌∙◌, subst, arith}
-use Rattle.papaya_law.specs.Content.{AreApart}
-use Rattle.papaya_timeline.specs.Content.{content}
-use Rattle.papaya_store.specs.Store.{StoreState}
-use Rattle.papaya_timeline.proofs.CountedCore.{lawful_apart}
+use Rattle.papaya_words_law.specs.Content.{AreApart}
+use Rattle.papaya_core_timeline.specs.Content.{content}
+use Rattle.papaya_core_store.specs.Store.{StoreState}
+use Rattle.papaya_core_timeline.proofs.CountedCore.{lawful_apart}
 use Rattle.papaya_seq.specs.Map.{MapState, Unchanged, core_of, next_of, slots_of}
 use Rattle.papaya_seq.proofs.RetainSteps.{retaining_ends}
 use Rattle.papaya_seq.proofs.seq.HashMap.retain_by.Goals as goal

@@ -1,6 +1,6 @@
 use Rattle.std.proofs.Common.{ℕ, rules, arith, ◌+◌, ◌≡◌, ◌++◌, ◌∷◌, [], ◌≤◌, vec_len, vec_capacity, length, refl, sym, ◌∙◌, ap, subst}
 use Rattle.std.proofs.lemmas.List.{length_push}
-use Rattle.papaya_keys.specs.Hashes.{hash_of}
+use Rattle.papaya_words_keys.specs.Hashes.{hash_of}
 use Rattle.papaya_seq.specs.Calls.{AreCalled}
 use Rattle.papaya_seq.proofs.CallsDone.{called_more}
 use Rattle.papaya_seq.proofs.seq.HashMap.run.Goals as goal

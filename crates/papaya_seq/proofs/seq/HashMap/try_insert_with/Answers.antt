@@ -1,7 +1,7 @@
 use Rattle.std.proofs.Common.{ℕ, Ok, IsSome, refl, sym, ◌∙◌, ap, subst}
 use Rattle.std.proofs.lemmas.Result.{err_from_is_err_and}
-use Rattle.papaya_ask.specs.declared.call.Call.TheVariants.{Compute}
-use Rattle.papaya_keys.specs.Hashes.{hash_of}
+use Rattle.papaya_call.specs.declared.call.Call.TheVariants.{Compute}
+use Rattle.papaya_words_keys.specs.Hashes.{hash_of}
 use Rattle.papaya_seq.proofs.DoneAlone.{alone_done, alone_refused}
 use Rattle.papaya_seq.proofs.UpdatesDone.{tried_found, tried_refused, tried_stored, tried_there}
 use Rattle.papaya_seq.proofs.seq.HashMap.try_insert_with.Goals as goal

@@ -1,8 +1,8 @@
 use Rattle.std.proofs.Common.{ℕ, Ok, refl, ◌∙◌, ap}
 use Rattle.std.proofs.lemmas.Result.{err_from_is_err_and}
 use Rattle.std.specs.Fn.{FnReturnsAt}
-use Rattle.papaya_ask.specs.declared.call.Call.TheVariants.{Compute}
-use Rattle.papaya_keys.specs.Hashes.{hash_of}
+use Rattle.papaya_call.specs.declared.call.Call.TheVariants.{Compute}
+use Rattle.papaya_words_keys.specs.Hashes.{hash_of}
 use Rattle.papaya_seq.proofs.DoneAlone.{alone_done, alone_refused}
 use Rattle.papaya_seq.proofs.UpdatesDone.{update_absent, update_refused, update_stored, updated_logged}
 use Rattle.papaya_seq.proofs.seq.HashMap.update.Goals as goal

@@ -1,8 +1,8 @@
 use Rattle.std.proofs.Common.{ℕ, Ok, refl, ◌∙◌, ap}
 use Rattle.std.proofs.lemmas.Result.{err_from_is_err_and}
 use Rattle.std.specs.Fn.{FnReturnsAt}
-use Rattle.papaya_ask.specs.declared.call.Call.TheVariants.{Compute}
-use Rattle.papaya_keys.specs.Hashes.{hash_of}
+use Rattle.papaya_call.specs.declared.call.Call.TheVariants.{Compute}
+use Rattle.papaya_words_keys.specs.Hashes.{hash_of}
 use Rattle.papaya_seq.proofs.DoneAlone.{alone_done, alone_refused}
 use Rattle.papaya_seq.proofs.UpdatesDone.{upsert_inserted, upsert_refused, upsert_updated}
 use Rattle.papaya_seq.proofs.seq.HashMap.update_or_insert_with.Goals as goal

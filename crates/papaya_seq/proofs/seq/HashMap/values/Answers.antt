@@ -1,6 +1,6 @@
 use Rattle.std.proofs.Common.{map, ◌∙◌, ap}
 use Rattle.std.proofs.lemmas.Simd.{map-map}
-use Rattle.papaya_timeline.specs.Content.{content}
+use Rattle.papaya_core_timeline.specs.Content.{content}
 use Rattle.papaya_seq.specs.Map.{entry_of}
 use Rattle.papaya_seq.proofs.seq.HashMap.values.Goals as goal
 

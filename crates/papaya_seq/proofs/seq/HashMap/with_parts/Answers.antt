@@ -1,11 +1,11 @@
 use Rattle.std.proofs.Common.{[], ◌≤◌, length, refl, sym, subst, arith, rules}
 use Rattle.papaya_call.specs.Made.{IsLimit}
-use Rattle.papaya_store.specs.declared.mode.Mode.{Mode}
-use Rattle.papaya_timeline.specs.Core.{IsCore}
-use Rattle.papaya_timeline.specs.Counted.{IsCounted}
-use Rattle.papaya_timeline.proofs.CoreLemmas.{new-core}
-use Rattle.papaya_timeline.proofs.CountedLemmas.{counted_new}
-use Rattle.papaya_timeline.proofs.KeptCore.{new_lawful}
+use Rattle.papaya_core_store.specs.declared.store.Mode.{Mode}
+use Rattle.papaya_core_timeline.specs.Core.{IsCore}
+use Rattle.papaya_core_timeline.specs.Counted.{IsCounted}
+use Rattle.papaya_core_timeline.proofs.CoreLemmas.{new-core}
+use Rattle.papaya_core_timeline.proofs.CountedLemmas.{counted_new}
+use Rattle.papaya_core_timeline.proofs.KeptCore.{new_lawful}
 use Rattle.papaya_seq.proofs.Counting.{counted_none}
 use Rattle.papaya_seq.proofs.TableLengths.{new_long}
 use Rattle.papaya_seq.proofs.seq.HashMap.with_parts.Goals as goal

@@ -1,6 +1,6 @@
 use Rattle.std.proofs.Common.{IfOk, subst}
-use Rattle.papaya_keys.specs.Sizes.{IsAllowed}
-use Rattle.papaya_timeline.specs.New.{IsNewLimited}
+use Rattle.papaya_words_keys.specs.Sizes.{IsAllowed}
+use Rattle.papaya_core_timeline.specs.New.{IsNewLimited}
 use Rattle.papaya_seq.specs.Map.{core_of}
 use Rattle.papaya_map.specs.Wanted.{Wanted}
 use Rattle.papaya_set.proofs.builder.HashSetBuilder.build_seq.Goals as goal

@@ -1,6 +1,6 @@
 use Rattle.std.proofs.Common.{inr}
 use Rattle.papaya_words.specs.declared.limits.TheConstants.{DEFAULT_CHUNK}
-use Rattle.papaya_words.specs.declared.probe.ResizeMode.TheVariants.{Incremental}
+use Rattle.papaya_words.specs.declared.resize_mode.ResizeMode.TheVariants.{Incremental}
 use Rattle.papaya_seq.proofs.Filled.{just, new_with_own}
 use Rattle.papaya_set.specs.Sets.{entry_of_key}
 use Rattle.papaya_set.proofs.seq.HashSet.from_iter.Goals as goal

@@ -1,5 +1,5 @@
 use Rattle.std.proofs.Common.{◌≡◌, subst}
-use Rattle.papaya_store.specs.Store.{Stored}
+use Rattle.papaya_core_store.specs.Store.{Stored}
 use Rattle.papaya_seq.specs.Map.{Holds, MapState}
 use Rattle.papaya_set.proofs.seq.HashSet.get.Goals as goal
 

@@ -1,5 +1,5 @@
 use Rattle.std.proofs.Common.{map, ◌∙◌}
-use Rattle.papaya_book.proofs.Logs.{prefix_trans}
+use Rattle.papaya_map_book.proofs.Logs.{prefix_trans}
 use Rattle.papaya_map.proofs.Collected.{prefix_itself, stored_next, stored_on, stored_until}
 use Rattle.papaya_set.specs.Sets.{entry_of_ref}
 use Rattle.papaya_set.proofs.set.HashSet.extend_ref_as.Goals as goal

@@ -8,11 +8,11 @@ use denote.Ref.{NamedLft}
 use denote.Signature.{named_lft}
 use denote.Param.{param, bounded}
 use denote.Struct.Field.{unit-field}
-use Rattle.papaya_book.specs.contracts.rule.entry.Event as event
-use Rattle.papaya_book.specs.contracts.rule.entry.Named as naming
-use Rattle.papaya_book.specs.contracts.rule.law.Law as law
-use Rattle.papaya_book.specs.contracts.rule.law.LawRuleEventNamed.TheImpl as LawRule
-use Rattle.papaya_lookup.specs.History.{IsLegalHistory, history_of, key_of}
+use Rattle.papaya_map_book.specs.contracts.rule.entry.Event as event
+use Rattle.papaya_map_book.specs.contracts.rule.entry.Named as naming
+use Rattle.papaya_map_book.specs.contracts.rule.law.Law as law
+use Rattle.papaya_map_book.specs.contracts.rule.law.LawRuleEventNamed.TheImpl as LawRule
+use Rattle.papaya_map_lookup.specs.History.{IsLegalHistory, history_of, key_of}
 use Rattle.papaya_set.specs.Shared.{IsContainedBetween}
 use Rattle.papaya_map.specs.Plain.{IsSince, rule_of}
 use Rattle.papaya_map.proofs.Telling.{bool_laws, held_good, one_ref}

@@ -10,14 +10,14 @@ use denote.Signature.{named_lft}
 use denote.Param.{param, bounded}
 use denote.Struct.Field.{unit-field, bool-field}
 use Rattle.std.proofs.result.Result.TheLaws.{the_row_laws as result_laws}
-use Rattle.papaya_words.proofs.probe.Refused.TheLaws.{the_row_laws as refused_laws}
-use Rattle.papaya_words.specs.contracts.probe.Refused.{the_row as RefusedRow}
-use Rattle.papaya_book.specs.contracts.rule.entry.Event as event
-use Rattle.papaya_book.specs.contracts.rule.entry.Named as naming
-use Rattle.papaya_book.specs.contracts.rule.law.Law as law
-use Rattle.papaya_book.specs.contracts.rule.law.LawRuleEventNamed.TheImpl as LawRule
-use Rattle.papaya_lookup.specs.History.{IsLegalHistory, history_of, key_of}
-use Rattle.papaya_change.specs.Writing.{IsMemoryOrCapacity}
+use Rattle.papaya_words.proofs.refused.Refused.TheLaws.{the_row_laws as refused_laws}
+use Rattle.papaya_words.specs.contracts.refused.Refused.{the_row as RefusedRow}
+use Rattle.papaya_map_book.specs.contracts.rule.entry.Event as event
+use Rattle.papaya_map_book.specs.contracts.rule.entry.Named as naming
+use Rattle.papaya_map_book.specs.contracts.rule.law.Law as law
+use Rattle.papaya_map_book.specs.contracts.rule.law.LawRuleEventNamed.TheImpl as LawRule
+use Rattle.papaya_map_lookup.specs.History.{IsLegalHistory, history_of, key_of}
+use Rattle.papaya_map_change.specs.Writing.{IsMemoryOrCapacity}
 use Rattle.papaya_set.specs.Shared.{IsRemovedKeyBetween}
 use Rattle.papaya_map.specs.Plain.{IsSince, rule_of}
 use Rattle.papaya_map.proofs.Telling.{bool_laws, held_good, one_ref}

@@ -1,1 +1,0 @@
--- no lemma: the contracts of the search are its definitions

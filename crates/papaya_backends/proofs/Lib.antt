@@ -1,6 +1,0 @@
-pub mod CoreLemmas
-pub mod ProgramLemmas
-pub mod RunLemmas
-pub mod SeqLemmas
-pub mod SharedLemmas
-pub mod WalkLemmas

@@ -1,6 +1,0 @@
-use Rattle.std.proofs.Common.{◌≡◌}
-use Rattle.papaya_book.proofs.book.Book.opened.Given as goal
-
--- the parts come back as they were
-abbrev pub invariant-loop : goal.invariant-loop
-invariant-loop g l = l.parts ≡ l.fn.parts

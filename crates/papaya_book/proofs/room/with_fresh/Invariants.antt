@@ -1,8 +1,0 @@
-use Rattle.std.proofs.Common.{◌≡◌, ◌+◌, length}
-use Rattle.std.specs.Vec.{vec_capacity}
-use Rattle.papaya_book.specs.Sheets.{AreFresh}
-use Rattle.papaya_book.proofs.room.with_fresh.Given as goal
-
-abbrev pub invariant-loop : goal.invariant-loop
-invariant-loop g l = AreFresh l.slots.items × (length l.slots.items ≡ length l.fn.ahead.items + l.counter)
-    × (vec_capacity l.slots ≡ vec_capacity l.fn.ahead)

@@ -1,0 +1,43 @@
+-- A call that takes a number for each pair that it makes, where there is a limit on them.
+use Rattle.std.specs.Prelude.{◌≡◌}
+use Rattle.papaya_call.specs.declared.ask.Answer.TheVariants.{Exchanged, Made as Made_number}
+use Rattle.papaya_call.specs.declared.ask.Ask.{Ask as Call_ask}
+use Rattle.papaya_call.specs.declared.ask.Ask.TheVariants.{Exchange, MakeKey, MakeValue, MakePair, MakePairOf}
+use Rattle.papaya_call.specs.declared.ask.At.TheVariants.{Made as Made_word}
+use Rattle.papaya_call.specs.declared.made.Number.TheVariants.{Taken}
+use Rattle.papaya_call.specs.declared.chain.ask.Ask.{Ask}
+use Rattle.papaya_call.specs.declared.chain.ask.Ask.TheVariants as asks
+use Rattle.papaya_call.specs.declared.chain.ask.Answer.{Answer}
+use Rattle.papaya_call.specs.declared.chain.ask.Answer.TheVariants as answers
+use Rattle.papaya_call.specs.declared.chain.machine.Machine.{Machine}
+use Rattle.papaya_call_law.specs.Says.{MakesPair}
+
+-- a call has something logged for its next pair: its key, a value, or the pair
+abbrev pub IsLogAsk : Call_ask → Type 0
+IsLogAsk MakeKey = Unit {0}
+IsLogAsk MakeValue = Unit {0}
+IsLogAsk MakePair = Unit {0}
+IsLogAsk (MakePairOf n) = Unit {0}
+IsLogAsk _ = ⊥
+
+abbrev pub IsLogging : Ask → Type 0
+IsLogging (asks.Call ask) = IsLogAsk ask
+IsLogging (asks.Copy ask) = ⊥
+
+-- it has a number for that
+abbrev pub HasNumber : Machine → Type 0
+HasNumber m = m.call.made.number ≡ Taken
+
+-- the pair was logged
+abbrev pub IsPairLogged : Ask → Answer → Type 0
+IsPairLogged (asks.Call ask) (answers.Call (Made_number n)) = MakesPair ask
+IsPairLogged _ _ = ⊥
+
+-- a number was taken
+abbrev pub IsTakeAsk : Call_ask → Type 0
+IsTakeAsk (Exchange Made_word old new) = Unit {0}
+IsTakeAsk _ = ⊥
+
+abbrev pub IsNumberTaken : Ask → Answer → Type 0
+IsNumberTaken (asks.Call ask) (answers.Call Exchanged) = IsTakeAsk ask
+IsNumberTaken _ _ = ⊥

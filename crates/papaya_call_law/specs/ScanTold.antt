@@ -1,0 +1,122 @@
+-- What an answer tells a scanner of the words, and of the pairs that it gave or showed.
+use Rattle.std.specs.Prelude.{◌≡◌, ◌⊎◌, ℕ, suc, ◌==◌, cond, Bool, Option, None, Some, List, [], ◌∷◌, ◌++◌, MatchBool}
+use Rattle.papaya_call.specs.declared.ask.Answer.TheVariants.{Exchanged, Found, Yes, Ok}
+use Rattle.papaya_call.specs.declared.ask.At.TheVariants.{Slot}
+use Rattle.papaya_call.specs.declared.copy_ask.CopyAsk.{CopyAsk}
+use Rattle.papaya_call.specs.declared.chain.ask.Answer.{Answer}
+use Rattle.papaya_call.specs.declared.chain.ask.Answer.TheVariants as answers
+use Rattle.papaya_call.specs.declared.chain.resizer.ResizerState.{ResizerState as Stage}
+use Rattle.papaya_words_law.specs.Code.{Coding, code}
+use Rattle.papaya_words_law.specs.Exchange.{Live, Setting, State as Words, Exchange, Bury}
+use Rattle.papaya_call_law.specs.Copier.{told_last}
+use Rattle.papaya_call_law.specs.Resizers.{IsStageTold}
+use Rattle.papaya_call_law.specs.ChainTold.{IsCopyTold, told_of}
+use Rattle.papaya_call_law.specs.ChainTold as copies
+use Rattle.papaya_call.specs.declared.chain.ask.ScanAsk.TheVariants.{Copy}
+use Rattle.papaya_call.specs.declared.chain.scanner.Spot.{Spot}
+use Rattle.papaya_call.specs.declared.chain.scanner.ScannerState.{ScannerState}
+use Rattle.papaya_call.specs.declared.chain.scanner.ScannerState.TheVariants.{Copying, AtRoot, Giving, Showing, Burying, Uncounting}
+use Rattle.papaya_call.specs.Scanner.{asks_in}
+
+-- how many of these pairs have the key
+abbrev pub count_of : {K P : Type 0} → Setting K P → List P → K → ℕ
+count_of g [] k = 0
+count_of g (p ∷ older) k =
+    cond (g.same k (g.key p)) (suc (count_of g older k)) (count_of g older k)
+
+-- what was answered last of the pair, the newest answer being the first
+abbrev pub IsLastAnswer : {P : Type 0} → List (P × Bool) → P → Bool → Type 0
+IsLastAnswer [] p stays = ⊥
+IsLastAnswer (one ∷ older) p stays = ((one.0 ≡ p) × (one.1 ≡ stays))
+    ⊎ ((one.0 ≡ p → ⊥) × IsLastAnswer older p stays)
+
+-- The pairs that a scanner was told of, as a copier is, those that it gave, and those that it
+-- showed, with what was answered, the newest first; and the exchanges since the call began until it
+-- took its table, or until now where it has none.
+pub record LoadedPairs (P : Type 0) : Type 0 where
+  pub copy : copies.LoadedPairs P
+  pub before : List (Exchange P)
+  pub given : List P
+  pub shown : List (P × Bool)
+
+abbrev pub nothing_loaded : {P : Type 0} → LoadedPairs P
+nothing_loaded = record { copy = copies.nothing_loaded; before = []; given = []; shown = [] }
+
+-- the pair that the word last loaded names
+abbrev pub last_of : {P : Type 0} → LoadedPairs P → Option P
+last_of loaded = loaded.copy.call.last
+
+-- The words are s, and the exchanges since the call began `since`.
+module _ {K P : Type 0} (g : Setting K P) (c : Coding K P) (s : Words P)
+    (since : List (Exchange P)) where
+  -- it asked for the copy of all
+  pub record IsCopyAnswer (stage : Stage) (loaded : LoadedPairs P) (answer : Answer)
+      (es : List (Exchange P)) (loaded' : LoadedPairs P) : Type 0 where
+    pub copy : copies.LoadedPairs P
+    pub told : IsStageTold g c s stage loaded.copy answer es copy
+    pub handed : loaded' ≡ record loaded { copy = copy; before = since ++ es }
+
+  -- it loaded a word, or asked for a size
+  pub record IsWordAnswer (state : ScannerState) (before : List (Exchange P)) (loaded : LoadedPairs P)
+      (answer : Answer) (es : List (Exchange P)) (loaded' : LoadedPairs P) : Type 0 where
+    pub ask : CopyAsk
+    pub asks : asks_in state ≡ Some (Copy ask)
+    pub copy : copies.LoadedPairs P
+    pub told : IsCopyTold g c s None 0 loaded.copy ask answer es copy
+    pub handed : loaded' ≡ record loaded { copy = copy; before = before }
+
+  -- the pair last told of was given
+  pub record IsGiven (loaded : LoadedPairs P) (answer : Answer) (es : List (Exchange P))
+      (loaded' : LoadedPairs P) : Type 0 where
+    pub pair : P
+    pub last : last_of loaded ≡ Some pair
+    pub is : answer ≡ answers.Call Ok
+    pub none : es ≡ []
+    pub handed : loaded' ≡ record loaded { given = pair ∷ loaded.given }
+
+  -- it was shown, and the closure answered whether it stays
+  pub record IsShown (loaded : LoadedPairs P) (answer : Answer) (es : List (Exchange P))
+      (loaded' : LoadedPairs P) : Type 0 where
+    pub pair : P
+    pub last : last_of loaded ≡ Some pair
+    pub stays : Bool
+    pub is : answer ≡ answers.Call (Yes stays)
+    pub none : es ≡ []
+    pub handed : loaded' ≡ record loaded { shown = (pair, stays) ∷ loaded.shown }
+
+  -- the pair that stands in the slot was deleted
+  pub record IsBuried (spot : Spot) (loaded : LoadedPairs P) (answer : Answer)
+      (es : List (Exchange P))
+      (loaded' : LoadedPairs P) : Type 0 where
+    pub pair : P
+    pub live : s.slot spot.table spot.slot ≡ Live pair
+    pub is : answer ≡ answers.Call Exchanged
+    pub one : es ≡ Bury spot.table spot.slot pair ∷ []
+    pub handed : loaded' ≡ loaded
+
+  -- or another word was found there
+  pub record IsFoundThere (spot : Spot) (loaded : LoadedPairs P) (answer : Answer)
+      (es : List (Exchange P)) (loaded' : LoadedPairs P) : Type 0 where
+    pub is : answer ≡ answers.Call (Found (code g c (s.slot spot.table spot.slot)))
+    pub none : es ≡ []
+    pub handed : loaded'
+        ≡ record loaded {
+          copy = told_of (told_last s (Slot spot.table spot.slot) (last_of loaded)) loaded.copy;
+        }
+
+  -- The answer to what a scanner asks is true of the words in s, and es has the exchange, if one
+  -- was made.
+  abbrev pub IsScanTold : ScannerState → LoadedPairs P → Answer → List (Exchange P) → LoadedPairs P
+      → Type 0
+  IsScanTold (Copying stage) loaded answer es loaded' = IsCopyAnswer stage loaded answer es loaded'
+  IsScanTold (Giving spot word) loaded answer es loaded' = IsGiven loaded answer es loaded'
+  IsScanTold (Showing spot word) loaded answer es loaded' = IsShown loaded answer es loaded'
+  IsScanTold (Burying spot word) loaded answer es loaded' =
+      MatchBool (code g c (s.slot spot.table spot.slot) == word)
+      (IsBuried spot loaded answer es loaded') (IsFoundThere spot loaded answer es loaded')
+  IsScanTold (Uncounting spot) loaded answer es loaded' = (answer ≡ answers.Call Ok) × (es ≡ [])
+      × (loaded' ≡ loaded)
+  IsScanTold AtRoot loaded answer es loaded' =
+      IsWordAnswer AtRoot (since ++ es) loaded answer es loaded'
+  IsScanTold state loaded answer es loaded' =
+      IsWordAnswer state loaded.before loaded answer es loaded'

@@ -1,5 +1,0 @@
-use Rattle.papaya_chain_law.proofs.Names.{copies_guarantee_hint}
-use Rattle.papaya_chain_law.proofs.relies.copies_guarantee_hint.Goals as goal
-
-pub returns : goal.returns
-returns g c = λ h d hashed begun since may k m loaded r t x n e. copies_guarantee_hint h d hashed begun since may k m loaded r t x n e

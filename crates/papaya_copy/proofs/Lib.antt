@@ -1,2 +1,0 @@
--- the chunk from which on a table is copied
-pub mod Starts

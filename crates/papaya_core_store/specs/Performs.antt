@@ -1,0 +1,227 @@
+-- One ask of one caller's machine is answered.
+use Rattle.std.specs.Prelude.{◌≡◌, ℕ, ◌+◌, ◌<◌, ◌≤◌, ◌==◌, Bool, false, List, [], ◌∷◌, ◌++◌, length, Option, Some, None, slice_get, MatchBool, ◌⊎◌}
+use Rattle.papaya_words.specs.Counter.{added}
+use Rattle.papaya_words.specs.Table.{TableWords, new_table}
+use Rattle.papaya_words.specs.declared.limits.TheConstants.{MAX_TABLES, MAX_LOG_LEN}
+use Rattle.papaya_words.specs.declared.refused.Refused.TheVariants.{Memory, Capacity}
+use Rattle.papaya_call.specs.declared.ask.Ask.{Ask}
+use Rattle.papaya_call.specs.declared.ask.Ask.TheVariants.{Load, Exchange, LoadHint, WriteHint}
+use Rattle.papaya_call.specs.declared.ask.Ask.TheVariants.{SameKey, ShowNone, ShowPair, SizeOf}
+use Rattle.papaya_call.specs.declared.ask.Ask.TheVariants.{MakeKey, MakeValue, MakePair, MakePairOf}
+use Rattle.papaya_call.specs.declared.ask.Ask.TheVariants.{MakeTable, AddToShard, Done as Ask_done}
+use Rattle.papaya_call.specs.declared.ask.Answer.{Answer}
+use Rattle.papaya_call.specs.declared.ask.Answer.TheVariants.{Word as Word_read, Exchanged}
+use Rattle.papaya_call.specs.declared.ask.Answer.TheVariants.{Found as Found_instead, Yes, Op, Size}
+use Rattle.papaya_call.specs.declared.ask.Answer.TheVariants.{Made as Made_number, Ok as Ok_done}
+use Rattle.papaya_call.specs.declared.ask.Answer.TheVariants.{Refused as Was_refused}
+use Rattle.papaya_call.specs.Answers.{Says, op_kind}
+use Rattle.papaya_call.specs.declared.answers.Operation.{Operation}
+use Rattle.papaya_call.specs.declared.answers.Operation.TheVariants as ops
+use Rattle.papaya_call.specs.declared.call.Task.{Task}
+use Rattle.papaya_call.specs.declared.call.Task.TheVariants as tasks
+use Rattle.papaya_core_store.specs.declared.pairs.Part.{Part}
+use Rattle.papaya_core_store.specs.declared.pairs.Part.TheVariants.{Own, Logged}
+use Rattle.papaya_core_store.specs.declared.pairs.Running.{Running}
+use Rattle.papaya_core_store.specs.Pairs.{brought_by, key_from, key_in, pair_with, value_at}
+use Rattle.papaya_core_store.specs.Tables.{Tables, hint_at, note, table_of, word_at, put}
+use Rattle.papaya_core_store.specs.Store.{StoreState, Stored, pair_of}
+
+-- the key of a call under way, and its value, if it has one
+abbrev pub own_key : {K V S A : Type 0} → StoreState K V S → Running K V A → Option K
+own_key s r = key_in s.pairs r.key
+
+abbrev pub own_value : {K V S A : Type 0} → StoreState K V S → Running K V A → Option V
+own_value s r = value_at s.pairs r.value
+
+-- does the call's key compare as equal to the pair's, where both are there
+abbrev pub same_stored : {K V : Type 0} → (K → K → Bool) → K → Option (Stored K V) → Bool
+same_stored eq k None = false
+same_stored eq k (Some p) = eq k p.key
+
+abbrev pub same : {K V : Type 0} → (K → K → Bool) → Option K → Option (Stored K V) → Bool
+same eq None found = false
+same eq (Some k) found = same_stored eq k found
+
+-- the size of a table; where there is none, nothing is told
+abbrev pub size_of : Option TableWords → Answer
+size_of None = Ok_done
+size_of (Some t) = Size (length t.slots) t.limit
+
+-- nothing is made for want of memory, or where as many are made as there may be
+abbrev pub Refuses : (most count : ℕ) → Answer → Type 0
+Refuses most count answer = (answer ≡ Was_refused Memory)
+    ⊎ ((answer ≡ Was_refused Capacity) × (most ≤ count))
+
+-- nothing is made where there is no value, or no pair of the number whose key is wanted; no machine
+-- asks for it then
+abbrev pub HasNoPair : {K V A : Type 0} → Answer → Running K V A → Type 0
+HasNoPair answer r = (answer ≡ Ok_done) × (r.value ≡ None)
+
+abbrev pub HasNoPairOf : {K V S A : Type 0} → ℕ → Answer → StoreState K V S → Running K V A
+    → Type 0
+HasNoPairOf n answer s r = (answer ≡ Ok_done)
+    × ((r.value ≡ None) ⊎ (slice_get s.pairs n ≡ None))
+
+module _ {K V S : Type 0} where
+  -- an exchange writes the new word where the old one stands, and else nothing
+  abbrev pub Exchanges : (found old : ℕ) → Tables → Answer → StoreState K V S → StoreState K V S
+      → Type 0
+  Exchanges found old after answer s s' =
+      MatchBool (found == old)
+      ((answer ≡ Exchanged) × (s' ≡ record s { words = after }))
+      ((answer ≡ Found_instead found) × (s' ≡ s))
+
+  -- a pair of this key and this value went to the end of the log, under this number
+  abbrev pub IsLogged : ℕ → Part K → Part V → StoreState K V S → StoreState K V S → Type 0
+  IsLogged n key value s s' = (n ≡ length s.pairs) × (length s.pairs < MAX_LOG_LEN)
+      × (s' ≡ record s { pairs = s.pairs ++ pair_with key value ∷ [] })
+
+  -- the table goes to the end of the tables
+  abbrev pub MakesTable : Answer → (slots limit chunks : ℕ) → StoreState K V S → StoreState K V S
+      → Type 0
+  MakesTable answer slots limit chunks s s' =
+      let n = length s.words.tables + 1 in
+      (answer ≡ Made_number n) × (length s.words.tables < MAX_TABLES)
+      × (s' ≡ record s {
+        words = record s.words
+            { tables = s.words.tables ++ new_table n slots limit chunks ∷ [] };
+      })
+
+-- the value of an insertion that a closure answered
+abbrev pub value_answered : {V : Type 0} → Operation V ℕ → Option (Part V) → Option (Part V)
+value_answered (ops.Insert v) before = Some (Own v)
+value_answered ops.Remove before = before
+value_answered (ops.Abort t) before = before
+
+module _ {K V S A : Type 0} where
+  -- nothing but the machine's state changes
+  abbrev pub Stays : StoreState K V S → Running K V A → StoreState K V S → Running K V A → Type 0
+  Stays s r s' r' = (s' ≡ s) × (r' ≡ r)
+
+  -- Nothing is made for a key or a value by itself: it goes into the log with the first pair that
+  -- has it, and has no number before.
+  abbrev pub IsPutOff : Answer → StoreState K V S → Running K V A → StoreState K V S → Running K V A
+      → Type 0
+  IsPutOff answer s r s' r' = (answer ≡ Made_number 0) × Stays s r s' r'
+
+  -- a pair of this key and the call's value goes to the end of the log, and the call knows both by
+  -- the numbers of the pairs that brought them
+  abbrev pub LogsPair : (key later : Part K) → Answer → StoreState K V S → Running K V A
+      → StoreState K V S → Running K V A → Type 0
+  LogsPair key later answer s r s' r' =
+      (value : Part V) × (r.value ≡ Some value)
+      × (answer ≡ Made_number (length s.pairs)) × (length s.pairs < MAX_LOG_LEN)
+      × (s' ≡ record s { pairs = s.pairs ++ pair_with key value ∷ [] })
+      × (r' ≡ record r {
+        key = later;
+        value = Some (Logged (brought_by (length s.pairs) value));
+      })
+
+  -- it is the call's own key
+  abbrev pub LogsOwn : Answer → StoreState K V S → Running K V A → StoreState K V S → Running K V A
+      → Type 0
+  LogsOwn answer s r s' r' =
+      LogsPair r.key (Logged (brought_by (length s.pairs) r.key)) answer s r s' r'
+
+  -- or that of the pair of this number: the pair that brought that one is named
+  abbrev pub LogsOf : ℕ → Answer → StoreState K V S → Running K V A → StoreState K V S
+      → Running K V A → Type 0
+  LogsOf n answer s r s' r' = (first : ℕ) × (key_from n (slice_get s.pairs n) ≡ Some first)
+      × LogsPair (Logged first) r.key answer s r s' r'
+
+  -- nothing is answered where there is no closure, or no such pair; no machine asks then
+  abbrev pub ShowsNothing : Answer → StoreState K V S → Running K V A → StoreState K V S
+      → Running K V A → Type 0
+  ShowsNothing answer s r s' r' = (answer ≡ Ok_done) × Stays s r s' r'
+
+  -- the closure of a removal is asked of the pair
+  abbrev pub Judges : Says K V A → ℕ → StoreState K V S → Running K V A → Answer → StoreState K V S
+      → Running K V A → Type 0
+  Judges says n s r answer s' r' =
+      (((r.answers ≡ None) ⊎ (pair_of s n ≡ None)) × ShowsNothing answer s r s' r')
+      ⊎ ((a : A) × (p : Stored K V) × (agrees : Bool) × (a' : A) × (r.answers ≡ Some a)
+      × (pair_of s n ≡ Some p) × says.yes a p.key p.value agrees a'
+      × (answer ≡ Yes agrees) × (s' ≡ s) × (r' ≡ record r { answers = Some a' }))
+
+  -- the closure of a compute is shown the key and the value of a pair, or that there is none, and
+  -- an insertion's value is kept
+  abbrev pub Decides : Says K V A → Option (K × V) → StoreState K V S → Running K V A → Answer
+      → StoreState K V S → Running K V A → Type 0
+  Decides says shown s r answer s' r' =
+      (a : A) × (op : Operation V ℕ) × (a' : A) × (r.answers ≡ Some a) × says.op a shown op a'
+      × (answer ≡ Op (op_kind op)) × (s' ≡ s)
+      × (r' ≡ record r { value = value_answered op r.value; answers = Some a' })
+
+  abbrev pub DecidesNone : Says K V A → StoreState K V S → Running K V A → Answer → StoreState K V S
+      → Running K V A → Type 0
+  DecidesNone says s r answer s' r' = ((r.answers ≡ None) × ShowsNothing answer s r s' r')
+      ⊎ Decides says None s r answer s' r'
+
+  abbrev pub DecidesPair : Says K V A → ℕ → StoreState K V S → Running K V A → Answer
+      → StoreState K V S → Running K V A → Type 0
+  DecidesPair says n s r answer s' r' =
+      (((r.answers ≡ None) ⊎ (pair_of s n ≡ None)) × ShowsNothing answer s r s' r')
+      ⊎ ((p : Stored K V) × (pair_of s n ≡ Some p)
+      × Decides says (Some (p.key, p.value)) s r answer s' r')
+
+  -- which of them depends on the call
+  abbrev pub ShowsPair : Task → Says K V A → ℕ → StoreState K V S → Running K V A → Answer
+      → StoreState K V S → Running K V A → Type 0
+  ShowsPair tasks.RemoveIf says n s r answer s' r' = Judges says n s r answer s' r'
+  ShowsPair tasks.Compute says n s r answer s' r' = DecidesPair says n s r answer s' r'
+  ShowsPair tasks.Get says n s r answer s' r' = ShowsNothing answer s r s' r'
+  ShowsPair (tasks.Insert replace) says n s r answer s' r' = ShowsNothing answer s r s' r'
+
+  -- a growth is refused where the step has no memory
+  abbrev pub MakesOr : Bool → Answer → StoreState K V S → Running K V A → StoreState K V S
+      → Running K V A → Type 0 → Type 0
+  MakesOr refuse answer s r s' r' Makes = MatchBool refuse
+      ((answer ≡ Was_refused Memory) × Stays s r s' r') Makes
+
+  -- just one ask is answered: a load and an exchange by the word or the hint that stands there, a
+  -- size by the table, a showing by the closure's answers
+  abbrev pub Performs : (K → K → Bool) → Says K V A → Bool → Ask → StoreState K V S → Running K V A
+      → Answer → StoreState K V S → Running K V A → Type 0
+  Performs eq says refuse (Load at) s r answer s' r' = (answer ≡ Word_read (word_at s.words at))
+      × Stays s r s' r'
+  Performs eq says refuse (Exchange at old new) s r answer s' r' =
+      Exchanges (word_at s.words at) old (put s.words at new) answer s s' × (r' ≡ r)
+  Performs eq says refuse (LoadHint n i) s r answer s' r' =
+      (answer ≡ Word_read (hint_at s.words n i)) × Stays s r s' r'
+  Performs eq says refuse (WriteHint n i hint) s r answer s' r' =
+      (answer ≡ Ok_done) × (s' ≡ record s { words = note s.words n i hint }) × (r' ≡ r)
+  Performs eq says refuse (SameKey n) s r answer s' r' =
+      (answer ≡ Yes (same eq (own_key s r) (pair_of s n))) × Stays s r s' r'
+  Performs eq says refuse ShowNone s r answer s' r' = DecidesNone says s r answer s' r'
+  Performs eq says refuse (ShowPair n) s r answer s' r' =
+      ShowsPair r.machine.call.task says n s r answer s' r'
+  Performs eq says refuse (SizeOf n) s r answer s' r' =
+      (answer ≡ size_of (table_of s.words.tables n)) × Stays s r s' r'
+  Performs eq says refuse MakeKey s r answer s' r' =
+      MakesOr refuse answer s r s' r' (IsPutOff answer s r s' r')
+  Performs eq says refuse MakeValue s r answer s' r' =
+      MakesOr refuse answer s r s' r' (IsPutOff answer s r s' r')
+  Performs eq says refuse MakePair s r answer s' r' =
+      MakesOr refuse answer s r s' r'
+      ((Refuses MAX_LOG_LEN (length s.pairs) answer × Stays s r s' r')
+      ⊎ (HasNoPair answer r × Stays s r s' r') ⊎ LogsOwn answer s r s' r')
+  Performs eq says refuse (MakePairOf n) s r answer s' r' =
+      MakesOr refuse answer s r s' r'
+      ((Refuses MAX_LOG_LEN (length s.pairs) answer × Stays s r s' r')
+      ⊎ (HasNoPairOf n answer s r × Stays s r s' r') ⊎ LogsOf n answer s r s' r')
+  Performs eq says refuse (MakeTable slots limit chunks) s r answer s' r' =
+      MakesOr refuse answer s r s' r'
+      (((Refuses MAX_TABLES (length s.words.tables) answer × (s' ≡ s))
+      ⊎ MakesTable answer slots limit chunks s s') × (r' ≡ r))
+  Performs eq says refuse (AddToShard by) s r answer s' r' = (answer ≡ Ok_done)
+      × ((number : ℕ) × (s' ≡ record s { count = added s.count number by })) × (r' ≡ r)
+  Performs eq says refuse (Ask_done reply) s r answer s' r' = (answer ≡ Ok_done) × Stays s r s' r'
+
+-- an ask for something to be made
+abbrev pub IsMake : Ask → Type 0
+IsMake MakeKey = Unit {0}
+IsMake MakeValue = Unit {0}
+IsMake MakePair = Unit {0}
+IsMake (MakePairOf n) = Unit {0}
+IsMake (MakeTable slots limit chunks) = Unit {0}
+IsMake _ = ⊥

@@ -1,0 +1,111 @@
+-- What a call under way would do to the class of a key, by what it was handed and by what its
+-- closure answered. It changes the map by nothing else.
+use Rattle.std.specs.Prelude.{◌≡◌, ◌⊎◌, ℕ, Bool, true, false, Option, Some, None}
+use Rattle.papaya_words.specs.Word.{pair_of as pair_in}
+use Rattle.papaya_call.specs.declared.call.Call.{Call}
+use Rattle.papaya_call.specs.declared.call.Task.{Task}
+use Rattle.papaya_call.specs.declared.call.Task.TheVariants.{Insert, RemoveIf, Compute}
+use Rattle.papaya_call.specs.Answers.{Says, op_kind}
+use Rattle.papaya_call.specs.declared.answers.Operation.{Operation}
+use Rattle.papaya_call.specs.declared.answers.Operation.TheVariants as ops
+use Rattle.papaya_call.specs.declared.made.Made.{Made}
+use Rattle.papaya_call.specs.declared.made.Of.{Of}
+use Rattle.papaya_call.specs.declared.chain.scanner.ScannerState.{ScannerState}
+use Rattle.papaya_call.specs.declared.chain.scanner.ScannerState.TheVariants.{Burying}
+use Rattle.papaya_call.specs.declared.chain.scanner.Scan.TheVariants.{Retain}
+use Rattle.papaya_call_law.specs.Says.{Agrees, Inserts, Makes, Removes, StandsOn}
+use Rattle.papaya_core_store.specs.declared.pairs.Running.{Running}
+use Rattle.papaya_core_store.specs.Performs.{own_value}
+use Rattle.papaya_core_store.specs.Store.{StoreState, Stored, pair_of}
+use Rattle.papaya_core_timeline.specs.declared.seat.Work.{Work}
+use Rattle.papaya_core_timeline.specs.declared.seat.Work.TheVariants as works
+use Rattle.papaya_core_timeline.specs.declared.trace.Event.{Event}
+use Rattle.papaya_core_timeline.specs.declared.trace.Event.TheVariants.{Asked, Shown}
+use Rattle.papaya_core_timeline.specs.Begins.{value_of_call}
+use Rattle.papaya_core_timeline.specs.Core.{CoreState, work_of}
+use Rattle.papaya_core_timeline.specs.Given.{GivesIn}
+
+-- a scan is about to take out the pair of this number
+abbrev pub TakesOut : ScannerState → ℕ → Type 0
+TakesOut (Burying spot word) n = pair_in word ≡ n
+TakesOut _ n = ⊥
+
+-- an insertion made this pair, of its own key or of one that it met
+abbrev pub HasMade : Made → ℕ → Type 0
+HasMade made n = (made.own ≡ Some n) ⊎ ((of : Of) × (made.of ≡ Some of) × (of.pair ≡ n))
+
+-- the pair of this number has the value
+abbrev pub HasValue : {K V S : Type 0} → StoreState K V S → ℕ → V → Type 0
+HasValue {K = K} {V = V} store n v = (p : Stored K V) × (pair_of store n ≡ Some p) × (p.value ≡ v)
+
+module _ {K V S A : Type 0} (store : StoreState K V S) where
+  -- An insertion would store the value that it was handed. It has that, and so has each pair that
+  -- it made.
+  abbrev pub WouldStore : Running K V A → V → Type 0
+  WouldStore r v = (own_value store r ≡ Some v)
+      ⊎ ((n : ℕ) × HasMade r.machine.call.made n × HasValue store n v)
+
+  -- A compute would store the value that its closure answered when it was shown this.
+  abbrev pub WouldStoreFor : Running K V A → Option ℕ → V → Type 0
+  WouldStoreFor r shown v = (StandsOn r.machine.call (Inserts shown)
+      × (own_value store r ≡ Some v))
+      ⊎ ((n : ℕ) × StandsOn r.machine.call (Makes shown n) × HasValue store n v)
+
+  abbrev pub IntendsAs : Task → Running K V A → Option ℕ → Operation V ℕ → Type 0
+  IntendsAs (Insert replace) r shown (ops.Insert v) = WouldStore r v
+  IntendsAs RemoveIf r (Some n) ops.Remove = StandsOn r.machine.call (Agrees n true)
+  IntendsAs Compute r shown (ops.Insert v) = WouldStoreFor r shown v
+  IntendsAs Compute r (Some n) ops.Remove = StandsOn r.machine.call (Removes n)
+  IntendsAs _ _ _ _ = ⊥
+
+  -- What is under way would do this where the class of its key has the pair `shown`, or none: store
+  -- a value, or remove the pair. A retain would remove it from whatever class has it.
+  abbrev pub Intends : Work K V A → (shown : Option ℕ) → Operation V ℕ → Type 0
+  Intends (works.Call r) shown op = IntendsAs r.machine.call.task r shown op
+  Intends (works.Scan v) (Some n) ops.Remove = (v.scanner.scan ≡ Retain)
+      × TakesOut v.scanner.state n
+  Intends _ _ _ = ⊥
+
+module _ {K V A : Type 0} where
+  -- the answer by which a pair goes that a closure is asked of: a removal's agrees to that, and a
+  -- retain's says that the pair does not stay
+  abbrev pub word_to_go : Work K V A → Bool
+  word_to_go (works.Scan v) = false
+  word_to_go _ = true
+
+  -- the event tells that its closure was shown this, and answered so
+  abbrev pub IsAnswerIn : Event → Work K V A → Option ℕ → Operation V ℕ → Type 0
+  IsAnswerIn (Shown asked kind) work shown op = (asked ≡ shown) × (op_kind op ≡ kind)
+  IsAnswerIn (Asked n agrees) work shown op = (Some n ≡ shown) × (op ≡ ops.Remove)
+      × (agrees ≡ word_to_go work)
+  IsAnswerIn _ work shown op = ⊥
+
+  -- the answers that its closure has left
+  abbrev pub answers_left : Work K V A → Option A
+  answers_left (works.Call r) = r.answers
+  answers_left (works.Resize resizer) = None
+  answers_left (works.Scan v) = v.answers
+
+-- in this step its closure is shown this, and answers so
+pub record AnswersNow {K V S A : Type 0} (says : Says K V A) (store : StoreState K V S)
+    (event : Event) (work : Work K V A) (shown : Option ℕ) (op : Operation V ℕ) : Type 0 where
+  pub told : IsAnswerIn event work shown op
+  pub answers : A
+  pub had : answers_left work ≡ Some answers
+  pub left : A
+  pub gives : GivesIn says store event (Some op) answers left
+
+-- a call that begins intends to store what it was handed, and nothing else
+abbrev pub IntendsHanded : {K V S A : Type 0} → StoreState K V S → Call K V A → Work K V A → Type 0
+IntendsHanded {V = V} store call work = (shown : Option ℕ) (op : Operation V ℕ)
+    → Intends store work shown op → (v : V) × (op ≡ ops.Insert v) × (value_of_call call ≡ Some v)
+
+-- What is under way after a step was so before it, of any caller. What it intends it intended
+-- before; or it is the caller's own that made the step, and its closure answers so in it.
+abbrev pub KeepsIntents : {K V S A : Type 0} → Says K V A → CoreState K V S A → (caller : ℕ)
+    → CoreState K V S A → Event → Type 0
+KeepsIntents {K = K} {V = V} {A = A} says s caller s' event = (other : ℕ) (later : Work K V A)
+    → work_of s' other ≡ Some later → (work : Work K V A) × (work_of s other ≡ Some work)
+    × ((shown : Option ℕ) (op : Operation V ℕ) → Intends s'.store later shown op
+    → Intends s.store work shown op
+    ⊎ ((other ≡ caller) × AnswersNow says s'.store event work shown op))

@@ -1,0 +1,120 @@
+-- How a call that scans a table stands to the law of exchanges, beside any number of callers.
+use Rattle.std.specs.Prelude.{◌≡◌, ◌⊎◌, ℕ, pos, ◌+ℤ◌, Bool, false, length, Some, None, List, ◌++◌}
+use Rattle.std.specs.Int.{w64, int_wrap}
+use Rattle.papaya_words.specs.declared.refused.Refused.TheVariants.{Memory}
+use Rattle.papaya_call.specs.declared.ask.At.{At}
+use Rattle.papaya_call.specs.declared.ask.Answer.TheVariants.{Refused as Was_refused}
+use Rattle.papaya_call.specs.declared.chain.ask.Answer.{Answer}
+use Rattle.papaya_call.specs.declared.chain.ask.Answer.TheVariants as answers
+use Rattle.papaya_words_law.specs.Allows.{AllAllowed}
+use Rattle.papaya_words_law.specs.Exchange.{Exchange, run, start}
+use Rattle.papaya_words_law.specs.Meaning.{map_left}
+use Rattle.papaya_call_law.specs.Told.{word_of}
+use Rattle.papaya_core_store.specs.Tables.{word_at}
+use Rattle.papaya_core_store.specs.declared.store.Mode.{Mode}
+use Rattle.papaya_core_store.specs.Store.{KeepsPairs, StoreState, Stored}
+use Rattle.papaya_core_timeline.specs.Content.{content, map_in}
+use Rattle.papaya_core_timeline.specs.declared.trace.Event.{Event}
+use Rattle.papaya_core_timeline.specs.declared.trace.Event.TheVariants.{Changed}
+use Rattle.papaya_core_timeline.specs.declared.seat.Seat.{Seat}
+use Rattle.papaya_core_timeline.specs.Counted.{owed_in, owed_scan}
+use Rattle.papaya_core_timeline.specs.Core.{CoreState}
+use Rattle.papaya_core_timeline.specs.Kept.{CallTrace, IsKept, IsScanning, ScanTrace, coding_of, low, numbers_of, setting_of, told_call_traces, told_more}
+use Rattle.papaya_core_timeline.specs.Maps.{IsUpdate, Same}
+use Rattle.papaya_call.specs.declared.chain.scanner.ScannerState.{ScannerState}
+use Rattle.papaya_call.specs.declared.chain.scanner.ScannerState.TheVariants.{Giving}
+use Rattle.papaya_call.specs.declared.chain.scanner.Scan.{Scan}
+use Rattle.papaya_call.specs.declared.chain.scanner.Scan.TheVariants.{Retain, Walk}
+use Rattle.papaya_call.specs.Scanner.{after}
+use Rattle.papaya_call_law.specs.ScanTold.{IsLastAnswer, IsScanTold, LoadedPairs}
+use Rattle.papaya_call_law.specs.Scans.{HasScanned}
+use Rattle.papaya_core_store.specs.declared.scans.Scanning.{Scanning}
+
+-- The sum of the shards, with what it and all calls beside it have yet to add, is the number
+-- of pairs.
+abbrev pub IsCountedBeside : {K V S A : Type 0} → (K → K → Bool) → StoreState K V S
+    → List (Seat K V A) → ScannerState → Type 0
+IsCountedBeside eq store callers state =
+    int_wrap w64 (store.count.sum +ℤ (owed_in callers +ℤ owed_scan state)) ≡ pos
+    (length (content eq store))
+
+-- Each slot was scanned: since a moment of the call, a walk's list has each key that was in the map
+-- all the time once, and nothing that was not there; of the pairs that the map had as the call
+-- began a clear has left none, and a retain just those of which the last answer was that they stay.
+pub record HasScannedIn {K V S A : Type 0} (eq : K → K → Bool) (hash : K → ℕ) (mode : Mode)
+    (store : StoreState K V S) (v : Scanning A) (call_trace : ScanTrace K V) : Type 0 where
+  pub scanned : HasScanned (setting_of eq (low hash) mode store.words.tables)
+      (coding_of (low hash)) (run call_trace.begun start)
+      (map_left (setting_of eq (low hash) mode store.words.tables) call_trace.begun)
+      call_trace.since
+      v.scanner.scan call_trace.loaded
+  pub list : v.given ≡ numbers_of call_trace.loaded.given
+
+-- there was no memory for a pair of its list: it was told nothing
+pub record IsUnheard {K V S A : Type 0} (store : StoreState K V S) (v : Scanning A)
+    (answer : Answer) (store' : StoreState K V S) : Type 0 where
+  pub giving : (spot : _) × (word : ℕ) × (v.scanner.state ≡ Giving spot word)
+  pub refused : answer ≡ answers.Call (Was_refused Memory)
+  pub same : store' ≡ store
+
+-- The answer to what a scanner asked is true of the words; the calls of all callers beside it rest
+-- on what is told of them, and so does the scanner. No pair is gone from the log.
+pub record IsHeard {K V S A : Type 0} (eq : K → K → Bool) (hash : K → ℕ) (s : CoreState K V S A)
+    (caller : ℕ) (es : List (Exchange (Stored K V))) (call_traces : ℕ
+    → CallTrace K V) (v : Scanning A)
+    (call_trace : ScanTrace K V) (answer : Answer) (store' : StoreState K V S)
+    (v' : Scanning A) : Type 0 where
+  pub made : List (Exchange (Stored K V))
+  pub loaded : LoadedPairs (Stored K V)
+  pub told : IsScanTold (setting_of eq (low hash) s.mode s.store.words.tables)
+      (coding_of (low hash)) (run es start) call_trace.since v.scanner.state call_trace.loaded
+      answer made loaded
+  pub kept : IsKept eq hash s.mode store' s.callers (es ++ made)
+      (told_call_traces call_traces caller made (call_traces caller).loaded)
+  pub scanning : IsScanning eq hash s.mode store' (record v' { scanner = after v.scanner answer })
+      (es ++ made) (told_more call_trace made loaded)
+  -- and so does any other that scans a table
+  pub others : (u : Scanning A) (other : ScanTrace K V)
+      → IsScanning eq hash s.mode s.store u es other
+      → IsScanning eq hash s.mode store' u (es ++ made) (told_more other made other.loaded)
+  pub keeps : KeepsPairs s.store store'
+  pub hasher : store'.hasher ≡ s.store.hasher
+  pub pairs : store'.pairs ≡ s.store.pairs
+  -- what was exchanged was allowed, and the map that it leaves is the same in the grown setting
+  pub allowed : AllAllowed (setting_of eq (low hash) s.mode s.store.words.tables) start (es ++ made)
+  pub map_same : (k : K)
+      → map_left (setting_of eq (low hash) s.mode store'.words.tables) (es ++ made) k
+      ≡ map_left (setting_of eq (low hash) s.mode s.store.words.tables) (es ++ made) k
+  -- the words are those that the exchanges leave
+  pub coded : (at : At) → word_of (setting_of eq (low hash) s.mode s.store.words.tables)
+      (coding_of (low hash)) (run (es ++ made) start) at ≡ word_at store'.words at
+  pub sum : int_wrap w64 store'.count.sum
+      ≡ int_wrap w64 (s.store.count.sum +ℤ owed_scan v.scanner.state)
+
+-- A step of another caller leaves the scanner what it relies on.
+pub record StaysBeside {K V S A : Type 0} (eq : K → K → Bool) (hash : K → ℕ)
+    (s' : CoreState K V S A) (es : List (Exchange (Stored K V))) (v : Scanning A)
+    (call_trace : ScanTrace K V) : Type 0 where
+  pub made : List (Exchange (Stored K V))
+  pub call_traces : ℕ → CallTrace K V
+  pub kept : IsKept eq hash s'.mode s'.store s'.callers (es ++ made) call_traces
+  pub scanning : IsScanning eq hash s'.mode s'.store v (es ++ made)
+      (told_more call_trace made call_trace.loaded)
+
+-- A scanner's step leaves the map, or takes one pair out of it: no walk does, and a retain takes
+-- out only a pair that it has shown, of which the last answer was that it does not stay.
+abbrev pub MovesScan : {K V S : Type 0} → (K → K → Bool) → StoreState K V S → StoreState K V S
+    → Scan → List (Stored K V × Bool) → Type 0
+MovesScan {K = K} {V = V} eq store store' scan shown = Same (map_in eq store) (map_in eq store')
+    ⊎ ((p : Stored K V) × IsUpdate eq p.key (Some p) None (map_in eq store) (map_in eq store')
+    × (scan ≡ Walk → ⊥) × (scan ≡ Retain → IsLastAnswer shown p false))
+
+-- What such a step's event tells of the map: a deletion takes this pair out, and what is no change
+-- leaves the map.
+abbrev pub MovesByScan : {K V S : Type 0} → (K → K → Bool) → StoreState K V S → StoreState K V S
+    → Scan → List (Stored K V × Bool) → Event → Type 0
+MovesByScan {K = K} {V = V} eq store store' scan shown (Changed kind old new) = (p : Stored K V)
+    × IsUpdate eq p.key (Some p) None (map_in eq store) (map_in eq store')
+    × (scan ≡ Walk → ⊥) × (scan ≡ Retain → IsLastAnswer shown p false)
+    × (old ≡ Some p.number) × (new ≡ None)
+MovesByScan eq store store' scan shown event = Same (map_in eq store) (map_in eq store')

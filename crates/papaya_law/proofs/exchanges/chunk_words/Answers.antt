@@ -1,5 +1,0 @@
-use Rattle.papaya_law.proofs.OneMap.{covered}
-use Rattle.papaya_law.proofs.exchanges.chunk_words.Goals as goal
-
-pub returns : goal.returns
-returns g c = λ h s m keeps t n was target. covered h s m keeps t n was target

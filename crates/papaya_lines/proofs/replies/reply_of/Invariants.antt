@@ -1,6 +1,0 @@
-use Rattle.std.proofs.Common.{◌≡◌, drop}
-use Rattle.papaya_lines.specs.Told.{reply_among}
-use Rattle.papaya_lines.proofs.replies.reply_of.Given as goal
-
-abbrev pub invariant-loop-entry : goal.invariant-loop-entry
-invariant-loop-entry l = reply_among l.entries ≡ reply_among (drop l.entry-index l.entries)

@@ -1,8 +1,0 @@
-use denote.Param.Always.{always_mut}
-use Rattle.papaya_change.specs.Showings.{Operates}
-use Rattle.papaya_compute.proofs.Running.{IsRunning}
-use Rattle.papaya_map.proofs.computing.compute_slow.Given as goal
-
--- the machine runs, and the closure may be called again
-abbrev pub invariant-loop : goal.invariant-loop
-invariant-loop g l = IsRunning (Operates g.F.FnMut) l.means.initial l.fn.window l.fn.f l.fn.start l.window l.computing l.f × always_mut g.F.FnMut l.f

@@ -1,0 +1,41 @@
+use Rattle.std.proofs.Common.{[], refl, sym, ap, ◌∙◌, None}
+use Rattle.std.proofs.lemmas.List.{append-nil}
+use Rattle.papaya_map_book.specs.declared.rule.entry.Named.TheVariants.{Table}
+use Rattle.papaya_map_book.specs.declared.rule.entry.Event.TheVariants.{Wish}
+use Rattle.papaya_map_book.specs.Hashes.{hash_of}
+use Rattle.papaya_map_book.specs.Parts.{begun_of}
+use Rattle.papaya_map_book.proofs.Brings.{brings_moves, made_since}
+use Rattle.papaya_map_book.proofs.Loads.{key_since}
+use Rattle.papaya_map_book.proofs.Logs.{name_since, prefix_trans}
+use Rattle.papaya_map_book.proofs.Settings.{plans}
+use Rattle.papaya_map_book.proofs.Tellings.{began_seen, tried_told}
+use Rattle.papaya_map_book.proofs.book.Book.bring.Goals as goal
+
+pub compare_exchange-found-requires : goal.compare_exchange-found-requires
+compare_exchange-found-requires g c =
+    let word = c.requires.word in
+    let hash = hash_of g.K.Hash.hash_input g.S.BuildHasher.build_hasher g.S.Hasher.Hasher.write g.S.Hasher.Hasher.finish in
+    let x = c.args.laying.now in let w = c.args.self.now in let v = c.learn.new.self.log in let b = begun_of w.parts in
+    let pre = c.learn.ensures.2 in let learned = c.learn.ensures.3 in (
+      ap (λ w. w.tracked) word,
+      c.learn.ensures.0 ∙ (c.requires.book ∙ sym (ap (λ w. w.book) word)),
+      c.requires.pen.0 ∙ sym (ap (λ w. w.book) word),
+      c.with_table-offer.ensures.0,
+      rw (c.requires.pen.1, c.with_table-offer.ensures.1, c.with_table-offer.ensures.3)
+          (brings_moves g.K.PartialEq.eq hash (plans g.K.PartialEq.eq g.K.Hash.hash_input g.S.BuildHasher.build_hasher g.S.Hasher.Hasher.write
+          g.S.Hasher.Hasher.finish g.met.K.Eq.laws g.met.K.Hash.respects_eq) b v (Wish x.at x.kind None (Table x.table.now)) x.table.now
+          c.args.word.now.key c.args.old c.args.new tt
+          (key_since c.args.sight.now.log v x.at c.args.word.now.key pre c.requires.key)
+          (began_seen g.K.PartialEq.eq hash b w.begun.log v v w.begins learned ([], append-nil v))
+          refl c.requires.some w.begun.book (name_since w.begun.log v w.begun.book learned w.called) c.requires.placed
+          (made_since x.table.now.value c.args.sight.now.log v pre c.requires.made)
+          (λ log since. c.requires.can log (prefix_trans c.args.sight.now.log v log pre since))),
+    )
+
+pub returns-clause-tried : goal.returns-clause-tried
+returns-clause-tried g c =
+    let hash = hash_of g.K.Hash.hash_input g.S.BuildHasher.build_hasher g.S.Hasher.Hasher.write g.S.Hasher.Hasher.finish in
+    let w = c.args.self.now in let y = c.args.laying.now in let x = c.compare_exchange-found in
+    tried_told g.K.PartialEq.eq hash (begun_of w.parts) w.begun.log c.learn.new.self.log x.new.seen.log w.begins c.learn.ensures.3 x.ensures.6
+    c.with_table-offer.result.ask y.at y.kind None (Table y.table.now) c.args.old c.args.new x.result x.new.offer.state c.with_table-offer.ensures.1
+    x.ensures.7.0 c.args.sight.now.log c.learn.ensures.2

@@ -1,0 +1,21 @@
+use Rattle.papaya_map_book.specs.Hashes.{hash_of}
+use Rattle.papaya_map_book.specs.Parts.{begun_of}
+use Rattle.papaya_map_book.proofs.Words.{aborted_there, word_there}
+use Rattle.papaya_map_book.proofs.window.Window.aborted.Goals as goal
+
+pub read-found-requires-clause-word : goal.read-found-requires-clause-word
+read-found-requires-clause-word g c =
+    let w = c.args.self.now.book.now in let v = c.learn.new.self.log in let held = c.learn.ensures.4 in
+    word_there g.K.PartialEq.eq (hash_of g.K.Hash.hash_input g.S.BuildHasher.build_hasher g.S.Hasher.Hasher.write g.S.Hasher.Hasher.finish)
+    (begun_of w.parts) w.begun.log v w.begins c.learn.ensures.3 w.begun.book w.called held.1.begun held.1.lawful c.args.self.now.sight.log
+    c.learn.ensures.2 c.args.number c.args.table.now c.requires.table c.aborted.result.now c.args.table.now.seal c.aborted.ensures
+
+pub read-found-requires-clause-key : goal.read-found-requires-clause-key
+read-found-requires-clause-key g c =
+    let w = c.args.self.now.book.now in let v = c.learn.new.self.log in let held = c.learn.ensures.4 in
+    aborted_there g.K.PartialEq.eq (hash_of g.K.Hash.hash_input g.S.BuildHasher.build_hasher g.S.Hasher.Hasher.write g.S.Hasher.Hasher.finish)
+    (begun_of w.parts) w.begun.log v w.begins c.learn.ensures.3 w.begun.book w.called held.1.begun held.1.lawful c.args.self.now.sight.log
+    c.learn.ensures.2 c.args.number c.args.table.now c.requires.table c.aborted.result.now c.aborted.ensures
+
+pub returns-clause-word : goal.returns-clause-word
+returns-clause-word g c = let r = c.read-found.ensures.read in record { lawful = r.lawful; is = r.is }

@@ -1,0 +1,11 @@
+use Rattle.std.proofs.Common.{◌≡◌}
+use Rattle.papaya_map_book.specs.Windows.{Sees}
+use Rattle.papaya_map_book.proofs.window.Window.make_table_after.Given as goal
+
+-- what was seen goes on, and nothing was given
+abbrev pub invariant-loop : goal.invariant-loop
+invariant-loop g l = record {
+  sees : Sees l.fn.self l.self;
+  own : l.self.own ≡ l.fn.self.own;
+  done : l.given.done ≡ l.fn.given.done;
+}

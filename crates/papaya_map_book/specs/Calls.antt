@@ -1,0 +1,120 @@
+-- What the calls of a book tell, where it was opened with b.
+use Rattle.std.specs.Prelude.{◌≡◌, ◌⊎◌, ℕ, ◌==◌, Bool, MatchBool, MatchOption, Option, None, Some, List, [], ◌∷◌, ◌++◌}
+use mathlib.Core.List.{IsPrefix}
+use denote.Bor.{Bor}
+use Rattle.boxcar.specs.Table.{Where}
+use Rattle.logbook.specs.Pages.{Book}
+use Rattle.papaya_call.specs.declared.ask.At.{At}
+use Rattle.papaya_call.specs.declared.ask.At.TheVariants.{Slot}
+use Rattle.papaya_call.specs.declared.ask.StepKind.{StepKind}
+use Rattle.papaya_words_law.specs.Invariant.{named}
+use Rattle.papaya_map_book.specs.Sheets.{Sheet}
+use Rattle.papaya_map_book.specs.declared.rule.entry.Named.{Named}
+use Rattle.papaya_map_book.specs.declared.rule.entry.Named.TheVariants as names
+use Rattle.papaya_words.specs.Word.{kind_of, pair_of}
+use Rattle.papaya_words.specs.declared.word.Kind.TheVariants as word_kinds
+use Rattle.papaya_map_book.specs.declared.rule.entry.Begun.{Begun}
+use Rattle.papaya_map_book.specs.declared.rule.entry.Step.{Step}
+use Rattle.papaya_map_book.specs.declared.rule.entry.Event.{Event}
+use Rattle.papaya_map_book.specs.declared.rule.entry.Event.TheVariants.{Stepped}
+use Rattle.papaya_map_book.specs.Logs.{Stored, pair_named, state_of, steps_of, table_in, word_names}
+use Rattle.papaya_map_book.specs.Plays.{IsMeant}
+use Rattle.papaya_map_book.specs.Rule.{IsLawfulLog, IsPlaced, word_in}
+
+-- the pair of a token that is lent, if there is one
+abbrev pub pair_seen : {P : Type 0} → Option (Bor P) → Option P
+pair_seen None = None
+pair_seen (Some r) = Some r.now
+
+-- the table of this number has come, and it is this one
+abbrev pub IsTable : {K V S : Type 0} → List (Event K V S) → ℕ → Sheet → Type 0
+IsTable log t sheet = (w : Where Sheet) × (table_in (steps_of log) t ≡ Some w) × (w.value ≡ sheet)
+
+-- the table of this number has come
+abbrev pub HasCome : {K V S : Type 0} → List (Event K V S) → ℕ → Type 0
+HasCome log t = (w : Where Sheet) × (table_in (steps_of log) t ≡ Some w)
+
+-- the table of this number has come, and it is of the book; or there is none, and the number is 0
+abbrev pub IsTableOf : {K V S : Type 0} → Book → ℕ → List (Event K V S) → Option (Bor Sheet)
+    → Type 0
+IsTableOf name found log table = MatchOption table (found ≡ 0)
+    (λ r. IsTable log found r.now × (r.now.book ≡ name))
+
+-- where the word is a pair's, the pair that it names was told, and has its number
+abbrev pub NamesPair : {K V : Type 0} → ℕ → Option (Named K V) → Type 0
+NamesPair {K} {V} found state = (kind_of found ≡ word_kinds.Empty → ⊥)
+    → (kind_of found ≡ word_kinds.Closed → ⊥) → (p : Stored K V) × (state ≡ Some (names.Pair p))
+    × (pair_of found ≡ p.index)
+
+module _ {K V S : Type 0} (eq : K → K → Bool) (hash : S → K → ℕ) (b : Begun K V S) where
+  -- the word that stands at a place after the log, and what it names
+  pub record IsRead (at : At) (found : ℕ) (log : List (Event K V S))
+      (state : Option (Named K V)) : Type 0 where
+    pub lawful : IsLawfulLog eq hash b log
+    pub is : word_in eq hash b log at ≡ found
+    pub state_is : state ≡ Some (word_names (steps_of log) (state_of log) at)
+
+  -- the word that stands at a place after the log
+  pub record IsWord (at : At) (found : ℕ) (log : List (Event K V S)) : Type 0 where
+    pub lawful : IsLawfulLog eq hash b log
+    pub is : word_in eq hash b log at ≡ found
+
+  -- an exchange was made after a log that goes on from what was seen, or another word was found
+  pub record IsTried (at : At) (kind : Option StepKind) (old new : ℕ) (made : Option (Stored K V))
+      (brings : Named K V) (seen : List (Event K V S)) (found : ℕ) (log : List (Event K V S))
+      (state : Option (Named K V)) : Type 0 where
+    pub before : List (Event K V S)
+    pub since : IsPrefix seen before
+    pub lawful : IsLawfulLog eq hash b before
+    pub now : IsLawfulLog eq hash b log
+    pub is : word_in eq hash b before at ≡ found
+    pub state_is : state ≡ Some (word_names (steps_of before) (state_of before) at)
+    pub after : MatchBool (found == old) ((e : Step K V)
+        × IsMeant eq hash at kind new made brings before e × (log ≡ before ++ Stepped e ∷ []))
+        (log ≡ before)
+
+  -- the word of a slot, and the pair that it names, which lies in the logs
+  pub record IsSlot (name : Book) (t x found : ℕ) (log : List (Event K V S))
+      (pair : Option (Stored K V)) : Type 0 where
+    pub lawful : IsLawfulLog eq hash b log
+    pub is : word_in eq hash b log (Slot t x) ≡ found
+    pub names : named ((state_of log).slot t x) ≡ pair
+    pub placed : IsPlaced b (Some name) (pair_named pair)
+
+  -- the word of a slot, and what tells the pair that it names, which lies in the logs
+  pub record IsSlotWord (name : Book) (t x found : ℕ) (log : List (Event K V S))
+      (state : Option (Named K V)) : Type 0 where
+    pub read : IsRead (Slot t x) found log state
+    pub some : NamesPair found state
+    pub placed : IsPlaced b (Some name) (pair_named (named ((state_of log).slot t x)))
+
+  -- the number of the root, and its table
+  pub record IsRoot (name : Book) (found : ℕ) (log : List (Event K V S))
+      (table : Option (Bor Sheet)) : Type 0 where
+    pub lawful : IsLawfulLog eq hash b log
+    pub is : (state_of log).root ≡ found
+    pub names : IsTableOf name found log table
+
+  -- the number of the table after t, and that table
+  pub record IsNext (name : Book) (t found : ℕ) (log : List (Event K V S))
+      (table : Option (Bor Sheet)) : Type 0 where
+    pub lawful : IsLawfulLog eq hash b log
+    pub is : (state_of log).next t ≡ found
+    pub names : IsTableOf name found log table
+
+  -- An exchange of a slot was tried, and this is the pair that the slot named before. It lies in
+  -- the logs.
+  pub record IsSlotTried (name : Book) (t x : ℕ) (kind : Option StepKind) (old new : ℕ)
+      (made : Option (Stored K V)) (brings : Named K V) (seen : List (Event K V S)) (found : ℕ)
+      (log : List (Event K V S)) (pair : Option (Stored K V)) : Type 0 where
+    pub state : Option (Named K V)
+    pub tried : IsTried (Slot t x) kind old new made brings seen found log state
+    pub names : named ((state_of tried.before).slot t x) ≡ pair
+    pub placed : IsPlaced b (Some name) (pair_named pair)
+
+-- the pair of a word, if the word is a pair's
+pub record IsPairOf {K V : Type 0} (found : ℕ) (state : Option (Named K V))
+    (pair : Option (Stored K V)) : Type 0 where
+  pub none : (kind_of found ≡ word_kinds.Empty) ⊎ (kind_of found ≡ word_kinds.Closed) → pair ≡ None
+  pub some : (p : Stored K V) → state ≡ Some (names.Pair p) → (kind_of found ≡ word_kinds.Empty → ⊥)
+      → (kind_of found ≡ word_kinds.Closed → ⊥) → pair ≡ Some p

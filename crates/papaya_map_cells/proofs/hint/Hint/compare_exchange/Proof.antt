@@ -1,0 +1,167 @@
+-- `compare_exchange` is one step, which leaves what was seen of the log beside the new number.
+use Rattle.std.proofs.Common.{ℕ, ◌^◌, Bool, false, List, [], ◌∷◌, sym, refl, subst, w64}
+use mir.Syntax.{a_type, dcons, dnil, named}
+use mir.Val.{Val, vint, vptr}
+use mir.MapTy.{inst_fn}
+use base.Logic.{SProp, wand, emp, id⊢, via, apply∗}
+use base.Fml.{Share, Fml, ftrue, fsep, flft, fhide}
+use types.Kit.{‵, raw, ◌⊛◌, some, given, later, mean, at_ret, ◌$◌, ◌∵◌, !, qed, by, move, keep}
+use types.Kit.{drop, split, fsplit, fsplit3, fjoin, fpick, pick, learn, use1, use2, use3, await}
+use types.Kit.{rewrite, feq_i, flt_i}
+use types.Run.{stop, addr, of_opd, no_more, and_then, first, blocks, exec, Calls-last, returns, enter}
+use types.ByLocal.{alloc_all, pass_all, free_all, look_at, get, through, sets, lands_last, env}
+use contract.Monad.{fact}
+use contract.Running.{tables}
+use contract.Shared.{Lends-one}
+use denote.Exit.{yes}
+use denote.RattleType.{RattleType, owns}
+use denote.Signature.{types_at, plain}
+use denote.Builtin.{RefOf, u64}
+use denote.Ref.{shr_vals, shr_Tells}
+use denote.Plain.{uint_vals, uint_Tells}
+use denote.Memory.{hidden_shr}
+use denote.RawPtr.{block_ptr}
+use denote.Opens.{unhide}
+use denote.Steps.{nothing}
+use denote.Param.{param, bounded}
+use denote.Struct.Tuple.{Tuple}
+use denote.Struct.Lending.{lent_out}
+use denote.Triple.Walked.{Stays, stay_dropped, walk_of, Goes-dropped}
+use Rattle.std.specs.contracts.marker.PhantomData as marker
+use Rattle.atomic_table.proofs.Walks.{proved}
+use Rattle.atomic_table.proofs.Calls.{fm, found, finds, exchanges}
+use Rattle.logbook.specs.Kept.{rules, seen_owns, reached}
+use Rattle.logbook.specs.contracts.tokens.Seen as Seen
+use Rattle.logbook.proofs.Steps as steps
+use Rattle.logbook.proofs.Fields.{Token, ends}
+use Rattle.papaya_map_cells.specs.contracts.hint.Hint as Hint
+use Rattle.papaya_map_cells.specs.contracts.hint.Hint.compare_exchange.{ended, clauses}
+use Rattle.papaya_map_cells.specs.contracts.hint.Hint.compare_exchange.Key.{name as #self}
+use Rattle.papaya_map_cells.specs.Untracked.{Says}
+use Rattle.papaya_map_cells.proofs.Keyed.{after_first}
+use Rattle.papaya_map_cells.proofs.hint.Hint.compare_exchange.Statement.{statement}
+use Rattle.papaya_map_cells.proofs.hint.Hint.compare_exchange.Code as code
+
+pub compare_exchange_spec : {M : Type 1} → statement M
+compare_exchange_spec 𝓤 𝓛 𝓜 𝓡 wired E A P _ _ _ g d h d' _ _ =
+    let 𝓣 = tables 𝓤 𝓛.H 𝓜 𝓡 𝓡.env in
+    let E' : RattleType = param 0 E in
+    let A' : RattleType = param 1 A in
+    let P' : RattleType = param 2 P in
+    let En = ended E A P g d h d' in
+    let inst = bounded (a_type ∷ a_type ∷ a_type ∷ []) (E, (A, (P, tt))) (dcons d (dcons d' dnil)) in
+    let fn = inst_fn inst code.function in
+    let c = clauses E A P g d h d' 𝓛 𝓜.mem 𝓡.returns in
+    let rule = rules g.holds g.shows g.keeps in
+    let cv = E'.coded in
+    let All : RattleType = Tuple (E' ∷ A' ∷ P' ∷ []) in
+    let Book : RattleType = Seen.the_row E' A' P' g in
+    let Mine : RattleType = Hint.the_row E' A' P' g h in
+    let a_hint = RefOf (0 ∷ []) tt (plain (λ _. Mine)) (λ _. tt) in
+    let a_number = plain (λ _. u64) in
+    let a_book = RefOf (1 ∷ []) tt (plain (λ _. Book)) (λ _. tt) in
+    let hs : Stays En.signature.params En.kept = (
+      stay_dropped a_hint yes,
+      (stay_dropped a_number yes, (stay_dropped a_number yes, (stay_dropped a_book yes, tt))),
+    ) in
+    proved 𝓛 En hs c 𝓜 𝓡 (
+      Goes-dropped 𝓛 5 a_hint yes (λ κs x f. refl),
+      (
+        Goes-dropped 𝓛 5 a_number yes (λ κs x f. refl),
+        (
+          Goes-dropped 𝓛 5 a_number yes (λ κs x f. refl),
+          (Goes-dropped 𝓛 5 a_book yes (λ κs x f. refl), tt),
+        ),
+      ),
+    )
+    (#self inst) fn (code.unfolded 𝓤 𝓛.H 𝓜 𝓡 wired (E, (A, (P, tt))) d d')
+    (λ κs. (shr_vals, (uint_vals w64, (uint_vals w64, (shr_vals, tt)))))
+    (λ κs. (
+      shr_Tells (named 0) κs.0 Mine,
+      (
+        uint_Tells w64,
+        (
+          uint_Tells w64,
+          (shr_Tells (named 1) κs.1.0 Book, tt),
+        ),
+      ),
+    ))
+    (λ κs qs bounds a gh are.
+    let me = a.0.now in
+    let at = a.0.ref_ptr in
+    let old = a.1.0 in
+    let new = a.1.1.0 in
+    let seen = a.1.1.1.0.now in
+    let at' = a.1.1.1.0.ref_ptr in
+    let hinted : Bool → ℕ → List E.Denot → Type 0 = λ t. Says h.hinted_beside t me.key in
+    let p : Val = vptr at.0 at.1 in
+    let p' : Val = vptr at'.0 at'.1 in
+    let y : (walk_of 𝓛 En hs c).Ghost = (
+      (
+        κs,
+        qs,
+        bounds,
+        a,
+        (p ∷ [], (vint w64 old ∷ [], (vint w64 new ∷ [], (p' ∷ [], tt)))),
+      ),
+      gh,
+    ) in
+    let Post : Val → SProp 𝓤 = (walk_of 𝓛 En hs c).post y in
+    let rest : Fml = fsep (flft κs.1.0 qs.1.0) (fsep (flft κs.1.1.0 qs.1.1.0)
+    (fsep (flft κs.1.1.1.0 qs.1.1.1.0) (fsep (flft κs.1.1.1.1.0 qs.1.1.1.1.0) ftrue))) in
+    let toks : Fml = fsep (flft κs.0 qs.0) rest in
+    qed 𝓛 ((‵ toks ⊛ ‵ (owns (types_at En.signature.params κs) a y.0.4))
+    ∷ raw (fact 𝓤 _) ∷ raw (fact 𝓤 _) ∷ raw (fact 𝓤 _) ∷ given _ (‵ ftrue) ∷ []) ∵
+    keep ! (4 ∷ 0 ∷ []) $ learn ! (λ asked. drop ! $ split ! $
+    fsplit ! $ move ! (2 ∷ []) $ fsplit ! $ fsplit ! $
+    move ! (2 ∷ []) $ fsplit ! $ move ! (1 ∷ []) $ fsplit ! $ move ! (1 ∷ []) $ fsplit ! $ fsplit ! $
+    keep ! (1 ∷ 6 ∷ 7 ∷ 8 ∷ []) $
+    enter ! 𝓣.C 𝓣.Λ fn (p ∷ vint w64 old ∷ vint w64 new ∷ p' ∷ []) Post $ alloc_all ! (λ l.
+    pass_all ! refl (
+      (tt, tt),
+      (
+        (tt, record { fits = are.1.0.1 }),
+        ((tt, record { fits = are.1.1.0.1 }), ((tt, tt), tt)),
+      ),
+    ) $ let Ev = env fn.locals l in
+    move ! (1 ∷ []) $ unhide ! $ fpick ! (λ t. fsplit3 ! $
+    move ! (1 ∷ []) $ fpick ! (λ past. drop ! $
+    move ! (0 ∷ 3 ∷ []) $
+    use2 𝓛 (later (some (λ (s : Share). ‵ (flft t.0 s)
+    ⊛ raw (wand 𝓤 (𝓛.A.lft t.0 s) (𝓛.H.⇛ (𝓛.A.lft κs.0 qs.0))))))
+    (Lends-one 𝓛 𝓜 𝓡 κs.0 t.0 qs.0) $
+    await ! tt $ pick ! (λ s. split ! $
+    move ! (3 ∷ []) $
+    use1 𝓛 (‵ (hidden_shr (Token All) κs.1.0 (record {}, tt) at'.0 at'.1)
+    ⊛ ‵ (fhide (seen_owns cv.code rule seen.book seen.names seen.log)))
+    (lent_out 𝓛 (Seen.struct E' A' P' g)
+    (Seen.the_codes E.Denot A.Denot P.Denot E'.coded A'.coded P'.coded (marker.the_row All).coded)
+    (Seen.the_heap E' A' P' g) (Seen.the_lent E' A' P' g) κs.1.0 seen at'.0 at'.1) $
+    split ! $ drop ! $ unhide ! $
+    use1 𝓛 (‵ (reached cv.code seen.book.log_name seen.log))
+    (steps.seen_log 𝓛 cv rule seen.book seen.names seen.log) $
+    rewrite ! 0 (λ (z : _). ‵ (reached cv.code z.log_name seen.log)) asked.1 refl $
+    let out : ℕ → Fml = λ n. fsep (flft t.0 s) ftrue in
+    first ! $ blocks ! $ sets ! (addr ! (through ! refl (stop !))) refl (tt, tt) $
+    sets ! (of_opd ! (get ! refl)) refl (tt, tt) $
+    move ! (3 ∷ 1 ∷ 0 ∷ []) $
+    use3 𝓛 (raw (𝓣.C _ (p ∷ vint w64 old ∷ vint w64 new ∷ []) (λ u. mean 𝓛 (found out u))))
+    (via 𝓤 _
+    (steps.hints 𝓛 cv rule me.book seen.names (hinted me.tracked) false me.key at.0 at.1 t.0 s t.1 old new
+    seen.log refl (subst (λ (t : Bool). hinted t new seen.log) (sym asked.0) asked.2))
+    (exchanges 𝓛 𝓜 𝓡 (code.calls-atomic_table::exchange 𝓡.env wired) (block_ptr at.0 at.1) old new
+    are.1.0.1 are.1.1.0.1 out)) $
+    Calls-last ! (fm 𝓛 𝓜 𝓡) (found out)
+    (and_then ! (get ! refl) (and_then ! (get ! refl) (and_then ! (get ! refl) (no_more !))))
+    (λ u. finds ! out (λ n fits. lands_last ! refl (tt, record { fits = fits }) $
+    exec ! 𝓣.C 𝓣.Λ Ev (after_first fn.body) (at_ret Ev Post) $
+    sets ! (of_opd ! (get ! refl)) refl (tt, record { fits = fits }) $
+    fsplit ! $ move ! (0 ∷ 2 ∷ []) $
+    use2 𝓛 (later (‵ (flft κs.0 qs.0))) (apply∗ 𝓤 (𝓛.A.lft t.0 s) (𝓛.H.⇛ (𝓛.A.lft κs.0 qs.0))) $
+    await ! tt $ move ! (1 ∷ []) $ drop ! $
+    flt_i ! n (2 ^ 64) fits $ feq_i ! (List Val) (vint w64 n ∷ []) (vint w64 n ∷ []) refl $ fjoin ! $
+    move ! (1 ∷ 2 ∷ []) $ fjoin ! $ nothing ! $ nothing ! $ fjoin ! $
+    nothing ! $ fjoin ! $ nothing ! $ fjoin ! $ nothing ! $ fjoin ! $
+    returns ! (look_at ! 0 refl) $ free_all ! refl $ keep ! (1 ∷ 0 ∷ 2 ∷ []) $
+    by ! (ends 𝓛 En hs c y (vint w64 n) n (tt, (tt, (tt, (tt, tt)))) (tt, (tt, (tt, (tt, tt))))
+    (id⊢ 𝓤 (emp 𝓤)))))))))))

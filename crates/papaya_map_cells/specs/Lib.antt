@@ -1,0 +1,3 @@
+pub mod Untracked
+pub mod Counted
+pub mod Slots

@@ -1,0 +1,91 @@
+use Rattle.std.proofs.Common.{◌≡◌, ◌==◌, true, false, None, Some, [], append-nil, rules, refl, ◌∙◌, subst}
+use Rattle.std.proofs.lemmas.Bool.{eqb-false, eqb-true}
+use Rattle.papaya_call.specs.declared.ask.Answer.TheVariants.{Found}
+use Rattle.papaya_call.specs.declared.ask.StepKind.TheVariants as kinds
+use Rattle.papaya_call.specs.declared.copy.settle.Settle.TheVariants.{Closing, Shutting}
+use Rattle.papaya_call.specs.declared.chain.ask.Answer.TheVariants.{Call}
+use Rattle.papaya_map_book.specs.Hashes.{hash_of}
+use Rattle.papaya_map_book.specs.Parts.{begun_of}
+use Rattle.papaya_map_book.specs.Rule.{IsLawfulLog}
+use Rattle.papaya_map_change.specs.Window.Settling.{CanLeadAt, stop_at}
+use Rattle.papaya_map_change.proofs.SettlingTurns.{closes, lost, shuts}
+use Rattle.papaya_map_change.proofs.SettlingSeen.{TurnsBy, asked, can_on, leaves_on, left_on, low, placed_on, settled_on}
+use Rattle.papaya_map_change.proofs.copier.Copier.seal_empty.Goals as goal
+
+pub exchange_slot-found-requires-clause-place : goal.exchange_slot-found-requires-clause-place
+exchange_slot-found-requires-clause-place g c =
+    let w = c.args.window.now in let site = c.args.site.now in let h = c.args.self.now in
+    let eq = g.K.PartialEq.eq in let hash = hash_of g.K.Hash.hash_input g.S.BuildHasher.build_hasher g.S.Hasher.Hasher.write g.S.Hasher.Hasher.finish in
+    low w.sight.log w.sight.log ([], append-nil w.sight.log) site.chunk.cursor.from site.chunk.at
+    (asked w site.mode (stop_at w site Closing h) c.requires.can).0 site.table.now c.requires.placed.table
+
+pub exchange_slot-found-requires-clause-can : goal.exchange_slot-found-requires-clause-can
+exchange_slot-found-requires-clause-can g c =
+    let w = c.args.window.now in let site = c.args.site.now in let h = c.args.self.now in
+    let eq = g.K.PartialEq.eq in let hash = hash_of g.K.Hash.hash_input g.S.BuildHasher.build_hasher g.S.Hasher.Hasher.write g.S.Hasher.Hasher.finish in
+    (asked w site.mode (stop_at w site Closing h) c.requires.can).1
+
+pub returns-then-found-ne0-clause-leaves : goal.returns-then-found-ne0-clause-leaves
+returns-then-found-ne0-clause-leaves g c =
+    let w = c.args.window.now in let site = c.args.site.now in let h = c.args.self.now in
+    let eq = g.K.PartialEq.eq in let hash = hash_of g.K.Hash.hash_input g.S.BuildHasher.build_hasher g.S.Hasher.Hasher.write g.S.Hasher.Hasher.finish in
+    let one = c.exchange_slot-found in let w1 = one.new.window in let h1 = one.new.self in
+    let is : (one.result == 0) ≡ false = search rules in
+    left_on w w1 one.ensures.sees.book site Closing w.sight.log h h1 (Call (Found one.result)) one.ensures.sees.log
+    (lost eq hash (begun_of w.book.now.parts) w.book.now.begun.book site.chunk.cursor.from site.chunk.at (Some kinds.Close) 0 5 w.sight.log h
+    w1.sight.log h1 one.result one.ensures.tried one.ensures.rest (eqb-false one.result 0 is)) (c.requires.placed.standing, tt) tt
+
+pub write_hint_at-requires-clause-table : goal.write_hint_at-requires-clause-table
+write_hint_at-requires-clause-table g c =
+    let w = c.args.window.now in let site = c.args.site.now in let h = c.args.self.now in
+    let eq = g.K.PartialEq.eq in let hash = hash_of g.K.Hash.hash_input g.S.BuildHasher.build_hasher g.S.Hasher.Hasher.write g.S.Hasher.Hasher.finish in
+    let one = c.exchange_slot-found in let w1 = one.new.window in let h1 = one.new.self in
+    (placed_on w w1 one.ensures.sees site c.requires.placed).table
+
+pub write_hint_at-requires-clause-place : goal.write_hint_at-requires-clause-place
+write_hint_at-requires-clause-place g c =
+    let w = c.args.window.now in let site = c.args.site.now in let h = c.args.self.now in
+    let eq = g.K.PartialEq.eq in let hash = hash_of g.K.Hash.hash_input g.S.BuildHasher.build_hasher g.S.Hasher.Hasher.write g.S.Hasher.Hasher.finish in
+    let one = c.exchange_slot-found in let w1 = one.new.window in let h1 = one.new.self in
+    let is : (one.result == 0) ≡ true = search rules in
+    let turn : TurnsBy w site.mode (stop_at w site Closing h) (stop_at w1 site Shutting h1) = closes eq hash (begun_of w.book.now.parts)
+    w.book.now.begun.book site.mode site.aim site.chunk c.requires.placed.standing w.sight.log h w1.sight.log h1 one.ensures.sees.log
+    one.ensures.rest one.result one.ensures.tried (eqb-true one.result 0 is) in
+    let can : CanLeadAt w1 site Shutting h1 = can_on w w1 one.ensures.sees.book site.mode (stop_at w site Closing h) (stop_at w1 site Shutting h1)
+    c.requires.can turn in
+    let table = (placed_on w w1 one.ensures.sees site c.requires.placed).table in
+    low w1.sight.log w1.sight.log ([], append-nil w1.sight.log) site.chunk.cursor.from site.chunk.at
+    (asked w1 site.mode (stop_at w1 site Shutting h1) can).0 site.table.now table
+
+pub write_hint_at-requires-clause-hint : goal.write_hint_at-requires-clause-hint
+write_hint_at-requires-clause-hint g c =
+    let w = c.args.window.now in let site = c.args.site.now in let h = c.args.self.now in
+    let eq = g.K.PartialEq.eq in let hash = hash_of g.K.Hash.hash_input g.S.BuildHasher.build_hasher g.S.Hasher.Hasher.write g.S.Hasher.Hasher.finish in
+    let one = c.exchange_slot-found in let w1 = one.new.window in let h1 = one.new.self in
+    let is : (one.result == 0) ≡ true = search rules in
+    let turn : TurnsBy w site.mode (stop_at w site Closing h) (stop_at w1 site Shutting h1) = closes eq hash (begun_of w.book.now.parts)
+    w.book.now.begun.book site.mode site.aim site.chunk c.requires.placed.standing w.sight.log h w1.sight.log h1 one.ensures.sees.log
+    one.ensures.rest one.result one.ensures.tried (eqb-true one.result 0 is) in
+    let can : CanLeadAt w1 site Shutting h1 = can_on w w1 one.ensures.sees.book site.mode (stop_at w site Closing h) (stop_at w1 site Shutting h1)
+    c.requires.can turn in
+    let table = (placed_on w w1 one.ensures.sees site c.requires.placed).table in
+    (asked w1 site.mode (stop_at w1 site Shutting h1) can).1
+
+pub returns-clause-leaves : goal.returns-clause-leaves
+returns-clause-leaves g c =
+    let w = c.args.window.now in let site = c.args.site.now in let h = c.args.self.now in
+    let eq = g.K.PartialEq.eq in let hash = hash_of g.K.Hash.hash_input g.S.BuildHasher.build_hasher g.S.Hasher.Hasher.write g.S.Hasher.Hasher.finish in
+    let one = c.exchange_slot-found in let w1 = one.new.window in let h1 = one.new.self in
+    let is : (one.result == 0) ≡ true = search rules in
+    let turn : TurnsBy w site.mode (stop_at w site Closing h) (stop_at w1 site Shutting h1) = closes eq hash (begun_of w.book.now.parts)
+    w.book.now.begun.book site.mode site.aim site.chunk c.requires.placed.standing w.sight.log h w1.sight.log h1 one.ensures.sees.log
+    one.ensures.rest one.result one.ensures.tried (eqb-true one.result 0 is) in
+    let can : CanLeadAt w1 site Shutting h1 = can_on w w1 one.ensures.sees.book site.mode (stop_at w site Closing h) (stop_at w1 site Shutting h1)
+    c.requires.can turn in
+    let table = (placed_on w w1 one.ensures.sees site c.requires.placed).table in
+    let two = c.write_hint_at in let w2 = two.new.window in
+    let lawful = subst (λ (z : _). IsLawfulLog eq hash (begun_of z.now.parts) w2.sight.log) two.ensures.sees.book two.ensures.lawful in
+    leaves_on w w2 (two.ensures.sees.book ∙ one.ensures.sees.book) site (stop_at w site Closing h) (stop_at w1 site Shutting h1) h1 None turn
+    (settled_on w1 w2 two.ensures.sees.book site (stop_at w1 site Shutting h1) h1
+    (shuts eq hash (begun_of w1.book.now.parts) w1.book.now.begun.book site.mode site.aim site.chunk c.requires.placed.standing w1.sight.log h1
+    w2.sight.log h1 two.ensures.sees.log lawful refl))

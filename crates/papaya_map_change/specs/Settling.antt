@@ -1,0 +1,89 @@
+-- Slots that are copied one after another: the machine, which nothing runs meanwhile, stands in the
+-- proof. What it would be told on the way are answers to its asks.
+use Rattle.std.specs.Prelude.{◌≡◌, ℕ, ◌+◌, Bool, Option, None, Some, List, [], ◌∷◌, nat_lt, if◌then◌else◌}
+use mathlib.Core.List.{IsPrefix}
+use Rattle.logbook.specs.Pages.{Book}
+use Rattle.papaya_words.specs.declared.resize_mode.ResizeMode.{ResizeMode}
+use Rattle.papaya_call.specs.declared.search.Place.{Place}
+use Rattle.papaya_call.specs.declared.copy.copying.Aim.{Aim}
+use Rattle.papaya_call.specs.declared.copy.copying.Copied.TheVariants.{On}
+use Rattle.papaya_call.specs.declared.copy.copying.Copying.{Copying}
+use Rattle.papaya_call.specs.declared.copy.copying.Copying.TheVariants.{Stepping}
+use Rattle.papaya_call.specs.declared.copy.settle.Settle.{Settle}
+use Rattle.papaya_call.specs.declared.copy.step.Chunk.{Chunk}
+use Rattle.papaya_call.specs.declared.copy.step.Step.TheVariants.{Advancing, Settling}
+use Rattle.papaya_call.specs.declared.copy.settle.Settle.TheVariants.{Looking}
+use Rattle.papaya_call.specs.Copying.{IsStandingCopying, copying_ask, copying_follows, copying_kind}
+use Rattle.papaya_call.specs.Step.{next_slot}
+use Rattle.papaya_call.specs.declared.chain.ask.Answer.{Answer}
+use Rattle.papaya_call.specs.ChainMachine.{IsFit, copying_after}
+use Rattle.papaya_map_book.specs.declared.rule.entry.Begun.{Begun}
+use Rattle.papaya_map_book.specs.declared.rule.entry.Event.{Event}
+use Rattle.papaya_map_change.specs.declared.copier.Copier.{Copier}
+use Rattle.papaya_map_change.specs.declared.settling.Halt.{Halt}
+use Rattle.papaya_map_change.specs.Copier.{AnswersTo, CanAnswerTo}
+
+-- where a copy stands, with what is seen and held there
+pub record Stop (K V S H : Type 0) : Type 0 where
+  pub copying : Copying
+  pub log : List (Event K V S)
+  pub loaded : Copier K V S H
+
+-- the copy of the chunk's slot stands here
+abbrev pub at_slot : Aim → Chunk → Settle → Copying
+at_slot aim chunk settle = Stepping aim (Settling chunk settle)
+
+-- the slot is settled: the next one is looked at, or the chunk is copied
+abbrev pub past_slot : Aim → Chunk → Copying
+past_slot aim chunk = if nat_lt (chunk.at + 1) chunk.end
+    then at_slot aim (next_slot chunk) Looking else Stepping aim (Advancing chunk.cursor)
+
+module _ {K V S H : Type 0} (eq : K → K → Bool) (hash : S → K → ℕ) (b : Begun K V S)
+    (name : Book) (mode : ResizeMode) where
+  abbrev pub CanAnswerAt : Stop K V S H → Type 0
+  CanAnswerAt s = CanAnswerTo eq hash b name (copying_ask s.copying) (copying_kind s.copying)
+      (copying_follows s.copying) s.log s.loaded
+
+  abbrev pub AnswersAt : Stop K V S H → List (Event K V S) → Copier K V S H → Answer → Type 0
+  AnswersAt s log h answer = AnswersTo eq hash b name (copying_ask s.copying)
+      (copying_kind s.copying) (copying_follows s.copying) s.log s.loaded log h answer
+
+  -- one ask was answered, which led on
+  pub record IsTurn (s s' : Stop K V S H) : Type 0 where
+    pub since : IsPrefix s.log s'.log
+    pub answer : Answer
+    pub answers : AnswersAt s s'.log s'.loaded answer
+    pub on : (initial number : ℕ) → copying_after s.copying mode initial number answer
+        ≡ On s'.copying
+    pub standing : IsStandingCopying s'.copying
+
+  -- some were, by way of these stops
+  abbrev pub IsPath : List (Stop K V S H) → Stop K V S H → Stop K V S H → Type 0
+  IsPath [] s s' = s' ≡ s
+  IsPath (t ∷ ts) s s' = IsTurn s t × IsPath ts t s'
+
+  abbrev pub Leads : Stop K V S H → Stop K V S H → Type 0
+  Leads s s' = (ts : List (Stop K V S H)) × IsPath ts s s'
+
+  -- wherever answers lead from here, what is asked may be answered
+  abbrev pub CanLead : Stop K V S H → Type 0
+  CanLead s = (s' : Stop K V S H) → Leads s s' → CanAnswerAt s'
+
+  -- answers led on, and the last one is still to be told
+  pub record Ends (s s' : Stop K V S H) (answer : Answer) : Type 0 where
+    pub log : List (Event K V S)
+    pub loaded : Copier K V S H
+    pub leads : Leads s (record { copying = s'.copying; log = log; loaded = loaded })
+    pub since : IsPrefix log s'.log
+    pub answers : AnswersAt (record { copying = s'.copying; log = log; loaded = loaded }) s'.log
+        s'.loaded answer
+    pub standing : IsStandingCopying s'.copying
+    pub fit : IsFit answer
+
+  -- the slot is settled, or its copy was left here
+  abbrev pub LeavesSlot : Aim → Chunk → Stop K V S H → List (Event K V S) → Copier K V S H
+      → Option Halt → Type 0
+  LeavesSlot aim chunk s log h None = Leads s
+      (record { copying = past_slot aim chunk; log = log; loaded = h })
+  LeavesSlot aim chunk s log h (Some halt) = Ends s
+      (record { copying = at_slot aim chunk halt.settle; log = log; loaded = h }) halt.answer

@@ -1,0 +1,78 @@
+-- What the closure of a call was shown, and what it answered; and what was the map's between
+-- two histories.
+use Rattle.std.specs.Prelude.{◌≡◌, Bool, true, MatchOption, Option, None, Some, List, [], ◌∷◌}
+use Rattle.std.specs.Fn.{Called, Mut}
+use mathlib.Core.List.{IsPrefix}
+use denote.Bor.{Bor}
+use Rattle.papaya_call.specs.declared.answers.Operation.{Operation}
+use Rattle.papaya_map_lookup.specs.History.{Change, key_of, replay}
+use Rattle.papaya_map_book.specs.Logs.{Member, Stored}
+
+-- A closure that was f was shown these in turn, the last of them first in the list, answered so
+-- each time, and is g then. `says` tells what one showing may do.
+abbrev pub HasSaid : {F X A : Type 0} → (F → X → A → F → Type 0) → F → List (X × A) → F → Type 0
+HasSaid says f [] g = g ≡ f
+HasSaid {F = F} says f (last ∷ before) g = (h : F) × HasSaid says f before h
+    × says h last.0 last.1 g
+
+-- this holds of each that was shown
+abbrev pub AllShown : {X A : Type 0} → (X → Type 0) → List (X × A) → Type 0
+AllShown P [] = Unit {0}
+AllShown P (last ∷ before) = P last.0 × AllShown P before
+
+-- In a history between the two a matching key had this pair, or none of them had one.
+pub record WasHeld {K V : Type 0} (eq : K → K → Bool) (matches : K → Bool)
+    (old new : List (Change K (Stored K V))) (held : Option (Stored K V)) : Type 0 where
+  pub seen : List (Change K (Stored K V))
+  pub since : IsPrefix old seen
+  pub until : IsPrefix seen new
+  pub is : MatchOption held
+      ((k : K) → matches k ≡ true → replay eq seen k ≡ None)
+      (λ p. (matches (key_of p) ≡ true) × (replay eq seen (key_of p) ≡ Some p))
+
+module _ {K V : Type 0} where
+  -- these are references to the key and the value of the pair
+  abbrev pub AreOf : Bor K × Bor V → Stored K V → Type 0
+  AreOf entry p = (entry.0.now ≡ key_of p) × (entry.1.now ≡ p.value.value)
+
+  -- the same pair: its number, its key and its value
+  abbrev pub IsSamePair : Stored K V → Stored K V → Type 0
+  IsSamePair p q = (p.index ≡ q.index) × (p.value ≡ q.value)
+
+  -- the closure was shown this very pair, and answered so
+  abbrev pub WasSaid : {A : Type 0} → Stored K V → A → List (Stored K V × A) → Type 0
+  WasSaid p answer said = (shown : Stored K V) × IsSamePair shown p × Member (shown, answer) said
+
+-- the closure is shown a pair's key and value, answers this, and is g then
+abbrev pub Judges : {F K V : Type 0} → Mut F (Bor K × (Bor V × Unit {0})) Bool → F → Stored K V
+    → Bool → F → Type 0
+Judges {K = K} {V = V} called f p agrees g = (key : Bor K) × (value : Bor V) × AreOf (key, value) p
+    × Called called f (key, (value, tt)) agrees g
+
+-- these are references to the key and the value of the pair, or both are none
+abbrev pub AreShown : {K V : Type 0} → Option (Bor K × Bor V) → Option (Stored K V) → Type 0
+AreShown None None = Unit {0}
+AreShown (Some entry) (Some p) = AreOf entry p
+AreShown None (Some p) = ⊥
+AreShown (Some entry) None = ⊥
+
+-- the closure is shown a pair, or that there is none, answers this operation, and is g then
+abbrev pub Operates : {F K V T : Type 0} → Mut F (Option (Bor K × Bor V) × Unit {0}) (Operation V T)
+    → F → Option (Stored K V) → Operation V T → F → Type 0
+Operates {K = K} {V = V} called f held operation g = (shown : Option (Bor K × Bor V))
+    × AreShown shown held × Called called f (shown, tt) operation g
+
+-- this was shown last, and answered so
+abbrev pub WasLast : {X A : Type 0} → X → A → List (X × A) → Type 0
+WasLast x a [] = ⊥
+WasLast x a (last ∷ before) = last ≡ (x, a)
+
+-- it was never shown that there is none
+abbrev pub HasNoNone : {P A : Type 0} → List (Option P × A) → Type 0
+HasNoNone [] = Unit {0}
+HasNoNone (last ∷ before) = MatchOption last.0 ⊥ (λ p. HasNoNone before)
+
+-- it was shown at most once
+abbrev pub IsNoneOnce : {P A : Type 0} → List (Option P × A) → Type 0
+IsNoneOnce [] = Unit {0}
+IsNoneOnce (last ∷ before) = MatchOption last.0 (HasNoNone before) (λ p. IsNoneOnce before)

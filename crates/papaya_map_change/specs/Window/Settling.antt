@@ -1,0 +1,105 @@
+-- Slots that are copied one after another, by what is seen of the map.
+use Rattle.std.specs.Prelude.{◌<◌, Option, List}
+use mathlib.Core.List.{IsPrefix}
+use Rattle.papaya_words.specs.declared.resize_mode.ResizeMode.{ResizeMode}
+use Rattle.papaya_call.specs.Search.{IsWithin}
+use Rattle.papaya_call.specs.declared.copy.carry.Carry.TheVariants.{Looking as Looking_at, Placing, Reading}
+use Rattle.papaya_call.specs.declared.copy.copying.Copying.{Copying}
+use Rattle.papaya_call.specs.declared.copy.settle.Settle.{Settle}
+use Rattle.papaya_call.specs.declared.copy.settle.Settle.TheVariants.{Carrying, Looking}
+use Rattle.papaya_call.specs.Step.{IsStandingChunk}
+use Rattle.papaya_call.specs.declared.chain.ask.Answer.{Answer}
+use Rattle.papaya_map_book.specs.declared.keyed.Keyed as keyed
+use Rattle.papaya_map_book.specs.declared.rule.entry.Event.{Event}
+use Rattle.papaya_map_book.specs.declared.window.Window.{Window}
+use Rattle.papaya_map_book.specs.Parts.{begun_of}
+use Rattle.papaya_map_book.specs.Windows.{IsTable}
+use Rattle.papaya_map_change.specs.declared.copier.Copier.{Copier}
+use Rattle.papaya_map_change.specs.declared.settling.Halt.{Halt}
+use Rattle.papaya_map_change.specs.declared.settling.MoveStep.{MoveStep}
+use Rattle.papaya_map_change.specs.declared.settling.MoveStep.TheVariants.{Left, Next}
+use Rattle.papaya_map_change.specs.declared.settling.Moving.{Moving}
+use Rattle.papaya_map_change.specs.declared.settling.Site.{Site}
+use Rattle.papaya_map_change.specs.Seeking.{left_at}
+use Rattle.papaya_map_change.specs.Settling.{Stop, at_slot}
+use Rattle.papaya_map_change.specs.Settling as settling
+
+-- the copy of the slot looks at its word, by what was seen before
+abbrev pub stop_seen : {K V S H : Type 0} → List (Event K V S) → Site K V S H → Copier K V S H
+    → Stop K V S H
+stop_seen seen site h = record {
+  copying = at_slot site.aim site.chunk Looking;
+  log = seen;
+  loaded = h;
+}
+
+-- the carry of the slot's pair looks at its place: the hint, then the word, then it is put there
+abbrev pub looking : {K V S H : Type 0} → Moving K V S H → Settle
+looking m = Carrying m.marked (Looking_at m.hash m.place)
+
+abbrev pub reading : {K V S H : Type 0} → Moving K V S H → Settle
+reading m = Carrying m.marked (Reading m.hash m.place)
+
+abbrev pub placing : {K V S H : Type 0} → Moving K V S H → Settle
+placing m = Carrying m.marked (Placing m.hash m.place)
+
+module _ {K V S H : Type 0} {d : keyed.Ghosts S K H} where
+  abbrev pub CanLead : Window K V S H d → ResizeMode → Stop K V S H → Type 0
+  CanLead w mode s = settling.CanLead d.keys.eq d.keys.hash (begun_of w.book.now.parts)
+      w.book.now.begun.book mode s
+
+  -- the copy stands here, by what is seen
+  abbrev pub stop_in : Window K V S H d → Copying → Copier K V S H → Stop K V S H
+  stop_in w copying h = record { copying = copying; log = w.sight.log; loaded = h }
+
+  -- the copy of the slot does
+  abbrev pub stop_at : Window K V S H d → Site K V S H → Settle → Copier K V S H → Stop K V S H
+  stop_at w site settle h = stop_in w (at_slot site.aim site.chunk settle) h
+
+  -- the table at hand is that of the chunk that is copied
+  pub record IsPlacedAt (w : Window K V S H d) (site : Site K V S H) : Type 0 where
+    pub table : IsTable w site.chunk.cursor.from site.table.now
+    pub standing : IsStandingChunk site.chunk
+
+  -- the place that the pair is tried at is one of the table at hand
+  pub record IsAt (w : Window K V S H d) (m : Moving K V S H) : Type 0 where
+    pub within : IsWithin m.place
+    pub table : IsTable w m.place.table m.to.now
+
+  abbrev pub CanLeadAt : Window K V S H d → Site K V S H → Settle → Copier K V S H → Type 0
+  CanLeadAt w site settle h = CanLead w site.mode (stop_at w site settle h)
+
+  -- it was seen that the copy of the slot stands there, and it may be led on
+  abbrev pub WaitsAt : Window K V S H d → Site K V S H → Copier K V S H → Type 0
+  WaitsAt w site h = (seen : List (Event K V S)) × IsPrefix seen w.sight.log
+      × CanLead w site.mode (stop_seen seen site h)
+
+  -- the slot is settled, or its copy was left
+  abbrev pub LeavesFrom : Stop K V S H → Window K V S H d → Site K V S H → Copier K V S H
+      → Option Halt → Type 0
+  LeavesFrom s w site h halt = settling.LeavesSlot d.keys.eq d.keys.hash
+      (begun_of w.book.now.parts) w.book.now.begun.book site.mode site.aim site.chunk s w.sight.log
+      h halt
+
+  abbrev pub Leaves : Window K V S H d → Site K V S H → Settle → Copier K V S H
+      → Window K V S H d → Copier K V S H → Option Halt → Type 0
+  Leaves w site settle h w' h' halt = LeavesFrom (stop_at w site settle h) w' site h' halt
+
+  abbrev pub Leads : Window K V S H d → ResizeMode → Stop K V S H → Stop K V S H → Type 0
+  Leads w mode s t = settling.Leads d.keys.eq d.keys.hash (begun_of w.book.now.parts)
+      w.book.now.begun.book mode s t
+
+  -- a look at this place leads to a later one, or the slot is settled, or its copy was left
+  abbrev pub LooksOn : Window K V S H d → Site K V S H → Moving K V S H → Copier K V S H
+      → Window K V S H d → Copier K V S H → MoveStep → Type 0
+  LooksOn w site m h w' h' (Next next) = IsAt w' (record m { place = next })
+      × Leads w' site.mode (stop_at w site (looking m) h)
+      (stop_at w' site (looking (record m { place = next })) h') × (left_at next < left_at m.place)
+  LooksOn w site m h w' h' (Left halt) = Leaves w site (looking m) h w' h' halt
+
+  -- answers led to this copy, and the last one is still to be told
+  abbrev pub Ends : Window K V S H d → ResizeMode → Copying → Copier K V S H → Window K V S H d
+      → Copier K V S H → Copying × Answer → Type 0
+  Ends w mode copying h w' h' end = settling.Ends d.keys.eq d.keys.hash
+      (begun_of w.book.now.parts) w.book.now.begun.book mode (stop_in w copying h)
+      (stop_in w' end.0 h') end.1

@@ -1,0 +1,262 @@
+-- What a compute on the shared map holds and relies on, and what it answers.
+use Rattle.std.specs.Prelude.{◌≡◌, ◌⊎◌, ℕ, Bool, MatchOption, Option, None, Some, Result, List, ◌∷◌, option_map}
+use mathlib.Core.List.{IsPrefix}
+use Rattle.logbook.specs.Pages.{Book}
+use Rattle.papaya_words.specs.declared.refused.Refused.{Refused}
+use Rattle.papaya_words.specs.declared.refused.Refused.TheVariants.{Capacity, Limit}
+use Rattle.papaya_call.specs.declared.answers.Operation.{Operation}
+use Rattle.papaya_call.specs.declared.answers.Operation.TheVariants as operation
+use Rattle.papaya_call.specs.declared.ask.Answer.{Answer}
+use Rattle.papaya_call.specs.declared.ask.Answer.TheVariants.{Op}
+use Rattle.papaya_call.specs.declared.ask.Ask.{Ask}
+use Rattle.papaya_call.specs.declared.ask.Ask.TheVariants.{Done, Exchange, Load, LoadHint, MakeKey, MakeTable, MakeValue, SameKey, SizeOf}
+use Rattle.papaya_call.specs.declared.ask.At.TheVariants.{Made as Made_word, Root}
+use Rattle.papaya_call.specs.declared.ask.StepKind.{StepKind}
+use Rattle.papaya_call.specs.declared.ask.StepKind.TheVariants.{Claim}
+use Rattle.papaya_call.specs.declared.ask.OpKind.{OpKind}
+use Rattle.papaya_call.specs.declared.ask.OpKind.TheVariants as kinds
+use Rattle.papaya_call.specs.declared.call.Reply.{Reply}
+use Rattle.papaya_call.specs.declared.call.Reply.TheVariants as reply
+use Rattle.papaya_call.specs.declared.call.Task.TheVariants.{Compute}
+use Rattle.papaya_call.specs.declared.compute.Choice.TheVariants.{Replace as To_replace}
+use Rattle.papaya_call.specs.declared.machine.Machine.{Machine}
+use Rattle.papaya_call.specs.declared.made.Of.{Of}
+use Rattle.papaya_call.specs.Machine.{IsFit}
+use Rattle.papaya_call.specs.declared.chain.ask.Ask.TheVariants.{Call}
+use Rattle.papaya_call.specs.ChainMachine.{ask_of}
+use Rattle.papaya_call_law.specs.Says.{Agrees, HasShownNone, Inserts, IsAnswered, Makes, Removes, Said, ShowsPairs, StandsOn, show}
+use Rattle.papaya_call_law.specs.Told.{IsOneOf}
+use Rattle.papaya_words_keys.specs.declared.results.Compute.{Compute as Computed}
+use Rattle.papaya_map_compute.specs.declared.slow_path.Computing.{Computing}
+use Rattle.papaya_map_book.specs.declared.rule.entry.Begun.{Begun}
+use Rattle.papaya_map_book.specs.declared.rule.entry.Event.{Event}
+use Rattle.papaya_map_lookup.specs.History.{Change, history_of, key_of}
+use Rattle.papaya_map_book.specs.Logs.{Member, Stored, pair_named}
+use Rattle.papaya_map_book.specs.declared.book.pairs.ValuePart.{ValuePart}
+use Rattle.papaya_map_book.specs.declared.book.pairs.ValuePart.TheVariants as values
+use Rattle.papaya_map_book.specs.Limits.{HasNoRoom, IsSpent, tables_of}
+use Rattle.papaya_map_book.specs.Rule.{IsPlaced}
+use Rattle.papaya_map_change.specs.Showings.{AllShown, HasNoNone, IsNoneOnce, WasHeld, WasLast}
+use Rattle.papaya_map_change.specs.Changes.{key_kept}
+use Rattle.papaya_map_change.specs.Writing.{HasKeyAt, IsWriting, answered as answered_writer, held_value}
+use Rattle.papaya_map_compute.specs.ComputeAnswers.{IsOperated, IsRefusedBy}
+use Rattle.papaya_map_compute.specs.Putting.{PutsChosen}
+
+-- what the machine is told of an answer of the closure
+abbrev pub kind_of : {V T : Type 0} → Operation V T → OpKind
+kind_of (operation.Insert v) = kinds.Insert
+kind_of operation.Remove = kinds.Remove
+kind_of (operation.Abort t) = kinds.Abort 0
+
+-- the value of the next pair after it, and what the call is to end with
+abbrev pub value_after : {K V T : Type 0} → Operation V T → Option (ValuePart K V)
+    → Option (ValuePart K V)
+value_after (operation.Insert v) before = Some (values.Own v)
+value_after operation.Remove before = before
+value_after (operation.Abort t) before = before
+
+abbrev pub aborted_after : {V T : Type 0} → Operation V T → Option T → Option T
+aborted_after (operation.Insert v) before = before
+aborted_after operation.Remove before = before
+aborted_after (operation.Abort t) before = Some t
+
+-- the pair of which it was answered that it is to go, or the one of before
+abbrev pub chosen_after : {K V T : Type 0} → Option (Stored K V) → Operation V T
+    → Option (Stored K V) → Option (Stored K V)
+chosen_after None done before = before
+chosen_after (Some p) (operation.Insert v) before = before
+chosen_after (Some p) operation.Remove before = Some p
+chosen_after (Some p) (operation.Abort t) before = before
+
+-- the compute that keeps it
+abbrev pub keeping : {K V S T H : Type 0} → Operation V T → Computing K V S T H
+    → Computing K V S T H
+keeping done x = record x {
+  writer = record x.writer { value = value_after done x.writer.value };
+  aborted = aborted_after done x.aborted;
+}
+
+abbrev pub IsKept : {K V S H T : Type 0} → Operation V T → Answer → Computing K V S T H
+    → Computing K V S T H → Type 0
+IsKept done answer x x' = (answer ≡ Op (kind_of done)) × (x' ≡ keeping done x)
+
+-- the pair that an exchange of this kind puts in: a claim the one that fills, and any other the one
+-- of the choice
+abbrev pub pair_for : {P : Type 0} → Option StepKind → (fill made : Option P) → Option P
+pair_for (Some Claim) fill made = fill
+pair_for _ fill made = made
+
+-- the value of what is shown
+abbrev pub value_in : {K V : Type 0} → Option (Stored K V) → Option V
+value_in held = option_map (λ p. p.value.value) held
+
+-- the number of what is shown
+abbrev pub number_of : {K V : Type 0} → Option (Stored K V) → Option ℕ
+number_of None = None
+number_of (Some p) = Some p.index
+
+-- the closure is to be shown this: that there is none, or the pair last loaded
+abbrev pub IsToShow : {K V S H T : Type 0} → Computing K V S T H → Option (Stored K V) → Type 0
+IsToShow x shown = (ask_of x.writer.call.machine ≡ Call (show (number_of shown)))
+    × MatchOption shown (Unit {0}) (λ p. x.writer.call.copier.last ≡ Some p)
+
+-- what any call asks that inserts, but for its pairs and the slots that it exchanges
+abbrev pub IsWriters : Ask → Type 0
+IsWriters (Load at) = Unit {0}
+IsWriters (LoadHint t x) = Unit {0}
+IsWriters (SizeOf t) = Unit {0}
+IsWriters (SameKey n) = Unit {0}
+IsWriters MakeKey = Unit {0}
+IsWriters MakeValue = Unit {0}
+IsWriters (MakeTable len limit chunks) = Unit {0}
+IsWriters (Exchange Root old new) = Unit {0}
+IsWriters (Exchange Made_word old new) = Unit {0}
+IsWriters _ = ⊥
+
+-- A pair that was made of a value that the closure answered: with the key of the pair that it was
+-- shown, or with the call's own where there was none.
+pub record IsMadeOf {K V T : Type 0} (key : K) (made : List (Stored K V))
+    (said : List (Option (Stored K V) × Operation V T)) (held : Option (Stored K V)) (n : ℕ)
+    (q : Stored K V) : Type 0 where
+  pub number : q.index ≡ n
+  pub made_is : IsOneOf made q
+  pub key_is : key_of q ≡ key_kept held key
+  pub said_is : Member (held, operation.Insert q.value.value) said
+
+module _ {K V S T H : Type 0} (key : K) (made : List (Stored K V))
+    (said : List (Option (Stored K V) × Operation V T)) (x : Computing K V S T H) where
+  -- What the machine stands on, the closure answered; what was made of it, and the pairs that it
+  -- was shown, are at hand.
+  abbrev pub Holds : Said → Type 0
+  Holds (Agrees n agrees) = ⊥
+  Holds (Inserts None) = (x.shown ≡ None) × ((v : V)
+      × (held_value x.writer.value ≡ Some v)
+      × Member (None, operation.Insert v) said)
+  Holds (Inserts (Some n)) = (p : Stored K V) × (x.shown ≡ Some p) × (p.index ≡ n)
+      × ((v : V) × (held_value x.writer.value ≡ Some v) × Member (Some p, operation.Insert v) said)
+  Holds (Makes None n) = (q : Stored K V) × (x.fill ≡ Some q) × IsMadeOf key made said None n q
+  Holds (Makes (Some m) n) = (p : Stored K V) × (q : Stored K V) × (x.chosen ≡ Some p)
+      × (p.index ≡ m) × (x.made ≡ Some q) × IsMadeOf key made said (Some p) n q
+  Holds (Removes n) = (p : Stored K V) × (x.chosen ≡ Some p) × (p.index ≡ n)
+      × Member (Some p, operation.Remove) said
+
+-- Where a pair was made in the place of another, that one was shown last, and the next pair would
+-- have the same value.
+pub record IsNewest {K V S T H : Type 0} (x : Computing K V S T H) : Type 0 where
+  pub shown : x.shown ≡ x.chosen
+  pub made : (q : Stored K V) × (x.made ≡ Some q)
+      × (held_value x.writer.value ≡ Some q.value.value)
+
+module _ {K V S T H : Type 0} (m : Machine) (x : Computing K V S T H) where
+  -- So it is with what is remembered, but while a newer answer waits.
+  abbrev pub HasNewest : Type 0
+  HasNewest = (i n : ℕ) → StandsOn m (Makes (Some i) n) → IsAnswered m.state ⊎ IsNewest x
+
+  -- The pair that is remembered has the key that is in the slot that it was made for.
+  abbrev pub IsOfItsSlot : List (Event K V S) → Type 0
+  IsOfItsSlot log = (old : ℕ) (new : Of) → m.remembered.choice ≡ Some (To_replace old new)
+      → (q : Stored K V) × (x.made ≡ Some q) × HasKeyAt log new.table new.index (key_of q)
+
+-- The pair that would fill has the value that the closure answered where it was shown none.
+abbrev pub IsSpared : {K V T : Type 0} → Option (Stored K V)
+    → List (Option (Stored K V) × Operation V T) → Type 0
+IsSpared {K = K} {V = V} fill heard = (v : V) → Member (None, operation.Insert v) heard
+    → (q : Stored K V) × (fill ≡ Some q) × (q.value.value ≡ v)
+
+-- What a compute has answered whose closure was shown and answered these, the last of them first.
+pub record IsReplied {K V T : Type 0} (eq : K → K → Bool) (key : K)
+    (old new : List (Change K (Stored K V))) (heard : List (Option (Stored K V) × Operation V T))
+    (answer : Result (Computed K V T) Refused) : Type 0 where
+  pub held : AllShown (WasHeld eq (eq key) old new) heard
+  pub none_once : IsNoneOnce heard
+  pub operated : IsOperated eq key old new heard answer
+
+module _ {K V S H T : Type 0} (eq : K → K → Bool) (hash : S → K → ℕ) (b : Begun K V S)
+    (name : Book) where
+  -- A compute whose closure was shown and answered these.
+  pub record IsComputing (key : K) (begun log : List (Event K V S)) (x : Computing K V S T H)
+      (heard : List (Option (Stored K V) × Operation V T)) : Type 0 where
+    pub made : List (Stored K V)
+    pub writing : IsWriting eq hash b name key made begun log x.writer
+    pub task_is : x.writer.call.machine.call.task ≡ Compute
+    pub words : ShowsPairs x.writer.call.machine.call
+    pub puts : PutsChosen x.writer.call.machine.call
+    pub shown_placed : IsPlaced b (Some name) (pair_named x.shown)
+    pub fill_placed : IsPlaced b (Some name) (pair_named x.fill)
+    pub chosen_placed : IsPlaced b (Some name) (pair_named x.chosen)
+    pub held : AllShown (WasHeld eq (eq key) (history_of begun) (history_of log)) heard
+    pub none_once : IsNoneOnce heard
+    pub none_shown : HasNoNone heard ⊎ HasShownNone x.writer.call.machine.call.remembered.fill
+        x.writer.call.machine.call.state
+    pub stood : (stands : Said) → StandsOn x.writer.call.machine.call stands
+        → Holds key made heard x stands
+    pub newest : HasNewest x.writer.call.machine.call x
+    pub of_slot : IsOfItsSlot x.writer.call.machine.call x log
+    pub aborts : (with : ℕ) → ask_of x.writer.call.machine
+        ≡ Call (Done (reply.Aborted with))
+        → (t : T) × (x.aborted ≡ Some t) × WasLast x.shown (operation.Abort t) heard
+        × IsSpared x.fill heard
+    pub refuses : (refused : Refused) → ask_of x.writer.call.machine
+        ≡ Call (Done (reply.Refused refused)) → IsRefusedBy heard refused
+    pub crowded : ask_of x.writer.call.machine ≡ Call (Done (reply.Refused Capacity))
+        → HasNoRoom x.writer.call.machine.call.initial (tables_of log)
+        x.writer.call.copier.given.done
+    pub spent : ask_of x.writer.call.machine ≡ Call (Done (reply.Refused Limit))
+        → IsSpent b.limit log
+
+  -- the compute after its machine was answered
+  abbrev pub answered : Computing K V S T H → Answer → Computing K V S T H
+  answered x answer = record x { writer = answered_writer x.writer answer }
+
+  -- it has replied, or this is an answer to what it asks
+  abbrev pub IsComputingOn : K → List (Event K V S) → List (Event K V S) → Computing K V S T H
+      → List (Option (Stored K V) × Operation V T) → Option Answer → Type 0
+  IsComputingOn key begun log x heard None = IsComputing key begun log x heard
+      × ((done : Reply) × (ask_of x.writer.call.machine ≡ Call (Done done)))
+  IsComputingOn key begun log x heard (Some answer) =
+      IsComputing key begun log (answered x answer) heard × IsFit answer
+
+  -- some compute is under way
+  abbrev pub CanCompute : List (Event K V S) → Computing K V S T H → Type 0
+  CanCompute log x = (key : K) × (begun : List (Event K V S))
+      × (heard : List (Option (Stored K V) × Operation V T)) × IsComputing key begun log x heard
+
+  -- and each that is goes on so, with nothing shown to its closure
+  abbrev pub Computes : List (Event K V S) → Computing K V S T H → List (Event K V S)
+      → Computing K V S T H → Option Answer → Type 0
+  Computes log x log' x' answer = (key : K) (begun : List (Event K V S))
+      (heard : List (Option (Stored K V) × Operation V T)) → IsComputing key begun log x heard
+      → IsComputingOn key begun log' x' heard answer
+
+  -- or with this shown to it, and this answered
+  abbrev pub Hears : List (Event K V S) → Computing K V S T H → Option (Stored K V) → Operation V T
+      → Computing K V S T H → Answer → Type 0
+  Hears log x shown done x' answer = (key : K) (begun : List (Event K V S))
+      (heard : List (Option (Stored K V) × Operation V T)) → IsComputing key begun log x heard
+      → IsComputingOn key begun log x' ((shown, done) ∷ heard) (Some answer)
+
+  -- what is an answer to it may be told to its machine
+  abbrev pub CanTake : List (Event K V S) → Computing K V S T H → Answer → Type 0
+  CanTake log x answer = (key : K) × (begun : List (Event K V S))
+      × (heard : List (Option (Stored K V) × Operation V T))
+      × IsComputingOn key begun log x heard (Some answer)
+
+  -- and then it goes on so
+  abbrev pub Takes : List (Event K V S) → Computing K V S T H → Answer → List (Event K V S)
+      → Computing K V S T H → Type 0
+  Takes log x answer log' x' = (key : K) (begun : List (Event K V S))
+      (heard : List (Option (Stored K V) × Operation V T))
+      → IsComputingOn key begun log x heard (Some answer) → IsComputing key begun log' x' heard
+
+  -- what each compute that is under way answers
+  abbrev pub Replies : List (Event K V S) → Computing K V S T H
+      → Result (Computed K V T) Refused → Type 0
+  Replies log x answer = (key : K) (begun : List (Event K V S))
+      (heard : List (Option (Stored K V) × Operation V T)) → IsComputing key begun log x heard
+      → IsReplied eq key (history_of begun) (history_of log) heard answer
+
+  -- a compute that began after all that was seen of this log
+  abbrev pub IsUnderWay : K → List (Event K V S) → List (Event K V S) → Computing K V S T H
+      → List (Option (Stored K V) × Operation V T) → Type 0
+  IsUnderWay key old log x heard = (begun : List (Event K V S)) × IsPrefix old begun
+      × IsComputing key begun log x heard

@@ -1,0 +1,82 @@
+-- What a lookup relies on, and what a caller has seen and made, by what it sees of the map.
+use Rattle.std.specs.Prelude.{◌≡◌, ℕ, MatchOption, List}
+use mathlib.Core.List.{IsPrefix}
+use denote.Bor.{Bor}
+use Rattle.papaya_call.specs.declared.search.Place.{Place}
+use Rattle.papaya_call.specs.declared.machine.State.{State as Stage}
+use Rattle.papaya_map_book.specs.declared.rule.entry.Event.{Event}
+use Rattle.papaya_map_book.specs.declared.keyed.Keyed as keyed
+use Rattle.papaya_map_book.specs.declared.window.Window.{Window}
+use Rattle.papaya_map_book.specs.Keys.{Query}
+use Rattle.logbook.specs.Pages.{Named as Word}
+use Rattle.papaya_map_book.specs.Logs.{Stored, exchanges_of}
+use Rattle.papaya_map_book.specs.Parts.{begun_of}
+use Rattle.papaya_map_book.specs.Sheets.{Sheet}
+use Rattle.papaya_map_lookup.specs.declared.lookup.Hit.{Hit}
+use Rattle.papaya_map_lookup.specs.declared.lookup.Met.{Met}
+use Rattle.papaya_map_lookup.specs.declared.near.RootHit.{RootHit}
+use Rattle.papaya_map_lookup.specs.declared.lookup.ProbeHit.{ProbeHit}
+use Rattle.papaya_map_lookup.specs.History.{Change, changes_by, history_of, key_of}
+use Rattle.papaya_map_lookup.specs.Lookups as lookups
+
+module _ {K V S H : Type 0} {d : keyed.Ghosts S K H} where
+  -- the history that is seen
+  abbrev pub past : Window K V S H d → List (Change K (Stored K V))
+  past w = history_of w.sight.log
+
+  -- the changes that were made through it
+  abbrev pub own : Window K V S H d → List (Change K (Stored K V))
+  own w = changes_by w.own.done
+
+  -- what a lookup has left to do after a turn
+  abbrev pub left_after : Window K V S H d → ProbeHit (Met K V) (Bor K × Bor V) → ℕ
+  left_after w turn = lookups.left_of (lookups.led_to w.book.now.parts.mode 0 turn)
+
+  abbrev pub IsSlotAt : Window K V S H d → (number place : ℕ) → Word → Type 0
+  IsSlotAt w = lookups.IsSlotAt w.sight.log
+
+  abbrev pub HoldsHintAt : Window K V S H d → (number place : ℕ) → Word → Type 0
+  HoldsHintAt w = lookups.HoldsHintAt w.sight.log
+
+  module _ (query : Query K S) (began : List (Event K V S)) where
+    -- the lookup that began at this log would stand here, with this table
+    abbrev pub IsReadingAt : Window K V S H d → ℕ → Stage → Sheet → Type 0
+    IsReadingAt w hash stage table = lookups.IsReadingAt d.keys.eq d.keys.hash
+        (begun_of w.book.now.parts) query.matches (query.hash w.book.now.parts.hasher)
+        (exchanges_of began) hash w.sight.log stage table
+
+    -- a turn led it on, as is seen by now
+    abbrev pub IsTurned : Window K V S H d → ℕ → Sheet → ProbeHit (Met K V) (Bor K × Bor V) → Type 0
+    IsTurned w hash table turn = lookups.IsTurned d.keys.eq d.keys.hash (begun_of w.book.now.parts)
+        w.book.now.begun.book query.matches (query.hash w.book.now.parts.hasher)
+        (exchanges_of began) hash w.sight.log table turn
+
+    -- where a place leads, a turn led it on, as is seen by now
+    abbrev pub IsNear : Window K V S H d → ℕ → Sheet → Place → RootHit (Met K V) (Bor K × Bor V)
+        → Type 0
+    IsNear w hash table at near = MatchOption (lookups.turn_near at near) (Unit {0})
+        (IsTurned w hash table)
+
+    -- a search that began at this log met this pair, as is seen by now
+    abbrev pub HasHit : Window K V S H d → Hit K V S H → Type 0
+    HasHit w hit = IsPrefix began w.sight.log × (hit.key.now ≡ key_of hit.met.stored)
+        × (hit.value.now ≡ hit.met.stored.value.value) × lookups.HasHit d.keys.eq d.keys.hash
+        (begun_of w.book.now.parts) w.book.now.begun.book query.matches
+        (query.hash w.book.now.parts.hasher) (exchanges_of began) w.sight.log hit.table.now hit.met
+
+  module _ (query : Query K S) where
+    -- some lookup would stand here, with this table
+    abbrev pub Reads : Window K V S H d → ℕ → Stage → Sheet → Type 0
+    Reads w hash stage table = (began : List (Event K V S))
+        × IsReadingAt query began w hash stage table
+
+    -- each one that stood here is led on by a turn, as is seen by now
+    abbrev pub Leads : (w w' : Window K V S H d) → ℕ → Stage → Sheet
+        → ProbeHit (Met K V) (Bor K × Bor V) → Type 0
+    Leads w w' hash stage table turn = (began : List (Event K V S))
+        → IsReadingAt query began w hash stage table → IsTurned query began w' hash table turn
+
+  -- one that began after all that was seen by then has met it
+  abbrev pub Hits : Query K S → (w w' : Window K V S H d) → Hit K V S H → Type 0
+  Hits query w w' hit = (began : List (Event K V S)) × IsPrefix w.sight.log began
+      × HasHit query began w' hit

@@ -1,0 +1,235 @@
+//! The search that most lookups make: a loop over the places of the root alone. It gives up if it
+//! meets a copier's work, a pair whose value another pair brought, or the probe limit. Then the
+//! whole search is made.
+ghost use Rattle.std.specs.Prelude.{◌≡◌, MatchOption, map};
+ghost use Rattle.papaya_words.specs.Word.{may_hold};
+ghost use Rattle.papaya_call.specs.Search.{IsWithin};
+ghost use Rattle.papaya_call.specs.declared.machine.State.TheVariants.{Searching};
+ghost use Rattle.papaya_call.specs.declared.search.Search.TheVariants.{Looking, Reading};
+ghost use Rattle.papaya_map_book.specs.Sheets.{HoldHints, word_named};
+ghost use Rattle.papaya_map_book.specs.Windows.{IsHint, IsLawful, IsSlotWord, Observes};
+ghost use Rattle.papaya_map_lookup.specs.Answers.{IsAnsweredBetween};
+ghost use Rattle.papaya_map_lookup.specs.Drivers.{HoldsHintAt, IsNear, IsReadingAt, IsSlotAt, Reads, past};
+ghost use Rattle.papaya_map_lookup.specs.declared.near.RootHit.TheVariants.{On};
+
+use crate::lookup::{Met, hash};
+use papaya_call::ask::At;
+use papaya_call::search::Place;
+use papaya_map_book::book::gains::named_pair;
+use papaya_map_book::cell::{Cell, HintCell, hint_in};
+use papaya_map_book::keyed::Asked;
+use papaya_map_book::rule::offer::Offer;
+use papaya_map_book::rule::steps::Sought;
+use papaya_map_book::table::Table;
+use papaya_map_book::window::Window;
+use papaya_words::word::{Kind, Word, hint, may_hold};
+use papaya_words_keys::guard::Equivalent;
+use std::hash::{BuildHasher, Hash};
+
+/// Returns the words of a table's slots. A loop over them keeps their address.
+#[inline(always)]
+pub fn slots_of<K: Hash + Eq, V, S: BuildHasher>(table: &Table<K, V, S>) -> &[Cell<K, V, S>]
+    ensures { result.now ≡ map (word_named table.now.book) table.now.slots }
+{
+    table.slots.as_slice()
+}
+
+/// Returns the numbers with the hints of a table's slots, eight in each.
+#[inline(always)]
+fn hints_of<K: Hash + Eq, V, S: BuildHasher>(table: &Table<K, V, S>) -> &[HintCell<K, V, S>]
+    ensures { HoldHints table.now.book table.now.slots result.now }
+{
+    table.hints.as_slice()
+}
+
+/// Loads the hint of a slot atomically, as [`Window::hint`] does.
+#[inline(always)]
+fn hint_of<K: Hash + Eq, V, S: BuildHasher>(
+    window: &mut Window<'_, K, V, S>,
+    hints: &HintCell<K, V, S>,
+    number: u64,
+    place: usize,
+) -> u64
+    requires hints { HoldsHintAt window.old number place hints.now }
+    ensures sees { Observes window.old window.new }
+    ensures hint { IsHint window.old window.new number place result }
+{
+    window.sight.learn(&window.book.begun);
+    let found = hints.load(&mut window.sight);
+    window.sight.learn(&window.book.begun);
+    hint_in(found, place)
+}
+
+/// Loads the word of a slot atomically, as [`Window::slot_word`] does.
+#[inline(always)]
+pub fn word_of<K: Hash + Eq, V, S: BuildHasher>(
+    window: &mut Window<'_, K, V, S>,
+    slot: &Cell<K, V, S>,
+    number: u64,
+    place: usize,
+) -> (u64, Offer<K, V, S>)
+    requires slot { IsSlotAt window.old number place slot.now }
+    ensures sees { Observes window.old window.new }
+    ensures slot { IsSlotWord window.old window.new number place result.0 result.1.state }
+{
+    window.sight.learn(&window.book.begun);
+    let sought = Sought {
+        at: At::Slot(number, place),
+    };
+    window.book.read(slot, &sought, &mut window.sight)
+}
+
+/// The outcome of one place of a search of the root.
+#[derive(Drop)]
+pub(crate) enum RootHit<M, E> {
+    /// The key is not at this place.
+    On,
+    /// This entry has a matching key: where it was met, and its key and its value.
+    Found(M, E),
+    /// No entry has a matching key.
+    Absent,
+    /// A copier was there, or another pair brought the pair's value, so the whole search is needed.
+    Aside,
+}
+
+/// Returns whether the word beside this hint must be loaded, as [`may_hold`] does. Most searches
+/// that find their entry end with the first comparison.
+#[inline(always)]
+fn holds(found: u64, hash: u64) -> bool
+    ensures { result ≡ may_hold found hash }
+{
+    found == u64::from(hint(hash)) || may_hold(found, hash)
+}
+
+/// Loads the word of a slot, and compares the key of the pair that the word names, if it is `Live`.
+#[inline(always)]
+fn read_slot<'a, K: Hash + Eq, V, S: BuildHasher, Q: Equivalent<K>>(
+    window: &mut Window<'a, K, V, S>,
+    key: &Q,
+    slot: &Cell<K, V, S>,
+    at: Place,
+) -> RootHit<Met<K, V>, (&'a K, &'a V)>
+    requires within { IsWithin at }
+    requires slot { IsSlotAt window.old at.table at.probe.i slot.now }
+    ensures sees { Observes window.old window.new }
+    ensures near { (began : _) (hash : _) (table : _)
+        → IsReadingAt (⟦<S as Asked<K, Q>>⟧.query key.now) began window.old hash
+        (Searching (Reading at)) table
+        → IsNear (⟦<S as Asked<K, Q>>⟧.query key.now) began window.new hash table at result }
+{
+    let (word, offer) = word_of(window, slot, at.table, at.probe.i);
+    match Word(word).kind() {
+        Kind::Live => {
+            let book = window.book;
+            let stored = named_pair(word, offer);
+            let pair = book.pair(&stored);
+            let Some(entry) = book.near_entry(pair) else {
+                return RootHit::Aside;
+            };
+            if !key.equivalent(entry.0) {
+                return RootHit::On;
+            }
+            let met = Met {
+                place: at,
+                word,
+                stored,
+            };
+            RootHit::Found(met, entry)
+        }
+        Kind::Empty => RootHit::Absent,
+        Kind::Buried | Kind::Closed => RootHit::On,
+        Kind::Marked | Kind::Copied => RootHit::Aside,
+    }
+}
+
+/// Looks at one slot: loads its hint, and its word if the hint is 0 or the key's.
+#[inline(always)]
+fn look_at_slot<'a, K: Hash + Eq, V, S: BuildHasher, Q: Equivalent<K>>(
+    window: &mut Window<'a, K, V, S>,
+    key: &Q,
+    hash: u64,
+    slot: &Cell<K, V, S>,
+    hints: &HintCell<K, V, S>,
+    at: Place,
+) -> RootHit<Met<K, V>, (&'a K, &'a V)>
+    requires within { IsWithin at }
+    requires slot { IsSlotAt window.old at.table at.probe.i slot.now }
+    requires hints { HoldsHintAt window.old at.table at.probe.i hints.now }
+    ensures sees { Observes window.old window.new }
+    ensures near { (began : _) (table : _)
+        → IsReadingAt (⟦<S as Asked<K, Q>>⟧.query key.now) began window.old hash
+        (Searching (Looking at)) table
+        → IsNear (⟦<S as Asked<K, Q>>⟧.query key.now) began window.new hash table at result }
+{
+    let found = hint_of(window, hints, at.table, at.probe.i);
+    if !holds(found, hash) {
+        return RootHit::On;
+    }
+    read_slot(window, key, slot, at)
+}
+
+/// Searches a table from this place on, until it meets a copier's work or the probe limit.
+#[inline(always)]
+fn search_slots<'a, K: Hash + Eq, V, S: BuildHasher, Q: Equivalent<K>>(
+    window: &mut Window<'a, K, V, S>,
+    key: &Q,
+    hash: u64,
+    table: &Table<K, V, S>,
+    at: Place,
+) -> RootHit<Met<K, V>, (&'a K, &'a V)>
+    requires within { IsWithin at }
+    requires limit { at.limit ≡ table.now.limit }
+    requires reads { Reads (⟦<S as Asked<K, Q>>⟧.query key.now) window.old hash
+        (Searching (Looking at)) table.now }
+    ensures sees { Observes window.old window.new }
+    ensures ends { result ≡ On → ⊥ }
+    ensures near { (began : _) → IsReadingAt (⟦<S as Asked<K, Q>>⟧.query key.now) began window.old
+        hash (Searching (Looking at)) table.now
+        → (last : _) × IsNear (⟦<S as Asked<K, Q>>⟧.query key.now) began window.new hash table.now
+        last result }
+{
+    let slots = slots_of(table);
+    let hints = hints_of(table);
+    let mut place = at;
+    loop {
+        let slot = &slots[place.probe.i];
+        let beside = &hints[place.probe.i / 8];
+        match look_at_slot(window, key, hash, slot, beside, place) {
+            RootHit::On => {}
+            turned => return turned,
+        }
+        if place.probe.len >= table.limit() {
+            return RootHit::Aside;
+        }
+        place.probe.next(place.len - 1);
+    }
+}
+
+/// Returns the result of a lookup, or `None` if the root alone does not decide it.
+#[inline(always)]
+pub(crate) fn search_near<'a, K: Hash + Eq, V, S: BuildHasher, Q: Equivalent<K>>(
+    window: &mut Window<'a, K, V, S>,
+    key: &Q,
+) -> Option<Option<&'a V>>
+    ensures sees { Observes window.old window.new }
+    ensures lawful { IsLawful window.new }
+    ensures answered { MatchOption result (Unit {0}) (IsAnsweredBetween K.eq (Q.matches key.now)
+        (past window.old) (past window.new)) }
+{
+    window.learn();
+    let hash = hash(&window.book.parts.hasher, key);
+    let (number, held) = window.root();
+    let Some(table) = held else {
+        return None;
+    };
+    let (len, limit) = table.size();
+    let first = Place::first(hash, number, len, limit);
+    match search_slots(window, key, hash, table, first) {
+        RootHit::Found(_met, entry) => Some(Some(entry.1)),
+        RootHit::Absent => Some(None),
+        _ => {
+            window.learn();
+            None
+        }
+    }
+}

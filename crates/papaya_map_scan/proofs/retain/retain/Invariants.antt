@@ -1,0 +1,13 @@
+use Rattle.papaya_map_book.specs.Windows.{Sees}
+use Rattle.papaya_map_lookup.specs.Drivers.{own}
+use Rattle.papaya_map_change.specs.Showings.{Judges}
+use Rattle.papaya_map_scan.specs.TableScans.{HasShown}
+use Rattle.papaya_map_scan.proofs.retain.retain.Given as goal
+
+-- what the closure was shown so far, and what was made of its answers
+abbrev pub invariant-loop : goal.invariant-loop
+invariant-loop g l = record {
+  sees : Sees l.fn.window l.window;
+  callable : goal.F-IsAlwaysCallable g l.stays;
+  shown : (said : _) × HasShown l.fn.window.sight.log (Judges g.F.FnMut) (own l.fn.window) l.window l.fn.stays l.stays said;
+}

@@ -1,0 +1,55 @@
+-- How a table comes to be scanned, and what was done of the pairs that stood in its slots then.
+use Rattle.std.specs.Prelude.{◌≡◌, ◌⊎◌, ℕ, ◌<◌, Bool, true, false, List, [], ◌∷◌, ◌++◌}
+use mathlib.Core.List.{IsPrefix}
+use Rattle.papaya_words_law.specs.Exchange.{Word, Bury, Live, Marked}
+use Rattle.papaya_call_law.specs.ScanTold.{IsLastAnswer}
+use Rattle.papaya_map_book.specs.declared.rule.entry.Begun.{Begun}
+use Rattle.papaya_map_book.specs.declared.rule.entry.Event.{Event}
+use Rattle.papaya_map_book.specs.declared.rule.entry.Event.TheVariants.{Stepped}
+use Rattle.papaya_map_book.specs.declared.rule.entry.Step.{Step}
+use Rattle.papaya_map_book.specs.Logs.{Stored, exchange_of, is_blocking, state_of}
+use Rattle.papaya_map_lookup.specs.History.{history_of}
+use Rattle.papaya_map_change.specs.Showings.{IsSamePair}
+use Rattle.papaya_map_scan.specs.Leaving.{WasTakenOut}
+
+-- At this moment between the two logs the table was the root and, without blocking, had no
+-- next table.
+pub record IsTakenAt {K V S : Type 0} (b : Begun K V S) (old log : List (Event K V S)) (t : ℕ)
+    (at : List (Event K V S)) : Type 0 where
+  pub since : IsPrefix old at
+  pub until : IsPrefix at log
+  pub root : (state_of at).root ≡ t
+  pub some : 0 < t
+  pub last : is_blocking b.mode ≡ false → (state_of at).next t ≡ 0
+
+-- at some moment between them it was
+pub record IsTaken {K V S : Type 0} (b : Begun K V S) (old log : List (Event K V S))
+    (t : ℕ) : Type 0 where
+  pub at : List (Event K V S)
+  pub since : IsPrefix old at
+  pub until : IsPrefix at log
+  pub root : (state_of at).root ≡ t
+  pub some : 0 < t
+  pub last : is_blocking b.mode ≡ false → (state_of at).next t ≡ 0
+
+-- with this word the map has this pair
+abbrev pub Holds : {P : Type 0} → Word P → P → Type 0
+Holds w p = (w ≡ Live p) ⊎ (w ≡ Marked p)
+
+module _ {K V S : Type 0} where
+  -- Each pair that the map had in one of the first slots of the table, as it was taken, was taken
+  -- out since, or was shown, with the last answer that it stays.
+  abbrev pub IsScannedUpTo : (at log : List (Event K V S)) → (t upto : ℕ) → List (Stored K V × Bool)
+      → Type 0
+  IsScannedUpTo at log t upto said = (x : ℕ) → x < upto → (p : Stored K V)
+      → Holds ((state_of at).slot t x) p
+      → WasTakenOut (history_of at) (history_of log) p ⊎ IsLastAnswer said p true
+
+  -- the last exchange of the log deleted a pair in this slot, and it is this very pair
+  pub record IsBuried (log : List (Event K V S)) (t x : ℕ) (shown : Stored K V) : Type 0 where
+    pub before : List (Event K V S)
+    pub step : Step K V
+    pub is : log ≡ before ++ Stepped step ∷ []
+    pub pair : Stored K V
+    pub buries : exchange_of step ≡ Bury t x pair
+    pub same : IsSamePair pair shown

@@ -1,6 +1,0 @@
-use Rattle.std.proofs.Common.{◌^◌, arith, refl}
-use Rattle.papaya_plan.proofs.Factors.{brought_back}
-use Rattle.papaya_plan.proofs.plan.key_of.Goals as goal
-
-pub returns-clause-back : goal.returns-clause-back
-returns-clause-back c = brought_back (2 ^ 64) 3787392781 1847824006677864389 c.args.number refl (omega arith)

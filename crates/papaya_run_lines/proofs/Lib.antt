@@ -1,0 +1,14 @@
+pub mod CoreLemmas
+pub mod ProgramLemmas
+pub mod RunLemmas
+pub mod SeqLemmas
+pub mod SharedLemmas
+pub mod WalkLemmas
+pub mod CommandLemmas
+pub mod LineLemmas
+pub mod NumberLemmas
+pub mod PartLemmas
+pub mod ScriptLemmas
+pub mod ToldLemmas
+pub mod TurnLemmas
+pub mod WriteLemmas

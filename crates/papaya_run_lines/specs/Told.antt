@@ -1,0 +1,127 @@
+-- What the lines of a script print of the trace of its run.
+use Rattle.std.specs.Prelude.{◌≡◌, ◌≢◌, ℕ, ◌+◌, ◌==◌, nat_lt, Bool, true, false, ◌||◌, not}
+use Rattle.std.specs.Prelude.{if◌then◌else◌, List, [], ◌∷◌, ◌++◌, filter_map, replicate, reverse}
+use Rattle.std.specs.Prelude.{set, get_or, Option, Some, None, option_map, ◌⊎◌, codes}
+use Rattle.std.specs.Fmt.{decimal}
+use Rattle.papaya_call.specs.declared.call.Reply.{Reply}
+use Rattle.papaya_call.specs.declared.call.Reply.TheVariants.{Done}
+use Rattle.papaya_core_store.specs.Store.{StoreState, pair_of}
+use Rattle.papaya_core_timeline.specs.declared.trace.Entry.{Entry}
+use Rattle.papaya_core_timeline.specs.declared.trace.Event.{Event}
+use Rattle.papaya_core_timeline.specs.declared.trace.Event.TheVariants.{Begun, Gave, Replied}
+use Rattle.papaya_run_shell.specs.Failure.{without_memory}
+use Rattle.papaya_run_shell.specs.declared.failure.Failure.{Failure}
+use Rattle.papaya_run_shell.specs.declared.failure.Failure.TheVariants.{Output}
+use Rattle.papaya_run_lines.specs.Printed.{text_of}
+use Rattle.papaya_run_lines.specs.Replies.{printed_of}
+use Rattle.papaya_run_lines.specs.Walk.{IsByKey}
+use Rattle.papaya_run_lines.specs.declared.printed.Printed.{Printed}
+use Rattle.papaya_run_lines.specs.declared.printed.Printed.TheVariants as printed
+use Rattle.papaya_run_lines.specs.declared.script.Line.{Line}
+use Rattle.papaya_run_lines.specs.declared.script.LinePart.{LinePart}
+use Rattle.papaya_run_lines.specs.declared.script.LinePart.TheVariants as part
+
+-- the entries at the front that are of this turn
+abbrev pub own_of : ℕ → List Entry → List Entry
+own_of turn [] = []
+own_of turn (entry ∷ entries) = if entry.turn == turn then entry ∷ own_of turn entries else []
+
+-- the entries behind those
+abbrev pub behind : ℕ → List Entry → List Entry
+behind turn [] = []
+behind turn (entry ∷ entries) = if entry.turn == turn then behind turn entries else entry ∷ entries
+
+-- the reply that an event is, and else another
+abbrev pub reply_or : Option Reply → Event → Option Reply
+reply_or other (Replied reply) = Some reply
+reply_or other _ = other
+
+-- the first reply among these entries
+abbrev pub reply_among : List Entry → Option Reply
+reply_among [] = None
+reply_among (entry ∷ entries) = reply_or (reply_among entries) entry.event
+
+-- the pairs that a call gave: this event's, if it gave one, after those before; none before
+-- it began
+abbrev pub gave_by : List ℕ → Event → List ℕ
+gave_by before Begun = []
+gave_by before (Gave n) = n ∷ before
+gave_by before _ = before
+
+-- the pairs that the caller's last call gave up to this turn, by these entries, the newest first
+abbrev pub gave_to : (caller turn : ℕ) → List Entry → List ℕ
+gave_to caller turn [] = []
+gave_to caller turn (entry ∷ before) =
+    if nat_lt turn entry.turn || not (entry.caller == caller) then gave_to caller turn before
+    else gave_by (gave_to caller turn before) entry.event
+
+-- does a line of this part begin a call?
+abbrev pub begins_call : LinePart → Bool
+begins_call part.Update = true
+begins_call part.Walk = true
+begins_call part.Call = true
+begins_call part.Step = false
+begins_call part.Finish = false
+
+-- what each caller's last call is, after this line
+abbrev pub with_call : List LinePart → Line → List LinePart
+with_call calls line =
+    if begins_call line.part then set calls line.caller line.part else calls
+
+-- what the last call of this line's caller is
+abbrev pub call_of : List LinePart → Line → LinePart
+call_of calls line = get_or (with_call calls line) line.caller line.part
+
+-- before the first line no caller has begun a call
+abbrev pub no_calls : List LinePart
+no_calls = replicate 64 part.Call
+
+-- the writer failed, or there was no memory for the pairs of a walk
+abbrev pub IsPrintFailure : Failure → Type 0
+IsPrintFailure why = (why ≡ Output) ⊎ (why ≡ without_memory)
+
+-- a line that is printed for a caller
+abbrev pub told_text : ℕ → List ℕ → List ℕ
+told_text caller text = decimal caller ++ codes ": " ++ text ++ 10 ∷ []
+
+abbrev pub reply_text : ℕ → Option Printed → List ℕ
+reply_text caller None = []
+reply_text caller (Some p) = told_text caller (text_of p)
+
+-- what is printed where the turn gave no reply: a `finish` says that its call is still running
+abbrev pub unended_text : ℕ → LinePart → List ℕ
+unended_text caller part.Finish = told_text caller (codes "running")
+unended_text caller _ = []
+
+module _ {S : Type 0} (store : StoreState ℕ ℕ S) where
+  -- the keys and the values of the pairs of these numbers
+  abbrev pub pairs_in : List ℕ → List (ℕ × ℕ)
+  pairs_in = filter_map (λ n. option_map (λ p. (p.key, p.value)) (pair_of store n))
+
+  -- what is printed of the reply of a call of this kind: of a walk that is done, all pairs that it
+  -- gave, by rising key
+  abbrev pub Replies : LinePart → (given : List ℕ) → Reply → Option Printed → Type 0
+  Replies part.Walk given Done text = (pairs : List (ℕ × ℕ)) × IsByKey (pairs_in given) pairs
+      × (text ≡ Some (printed.Walk pairs))
+  Replies part.Update given reply text = text ≡ printed_of store true reply
+  Replies _ given reply text = text ≡ printed_of store false reply
+
+  -- what a line prints, by the reply of its turn
+  abbrev pub IsTold : LinePart → Line → (given : List ℕ) → Option Reply → List ℕ → Type 0
+  IsTold kind line given None text = text ≡ unended_text line.caller line.part
+  IsTold kind line given (Some reply) text = (p : Option Printed)
+      × Replies kind given reply p × (text ≡ reply_text line.caller p)
+
+  -- What the lines print one after the other, of which the first has this turn, and whose
+  -- entries these are. A turn that has no entry was passed over: then its line and those behind
+  -- it print nothing.
+  abbrev pub Tells : (trace : List Entry) → List LinePart → List Line → (turn : ℕ) → List Entry
+      → List ℕ → (passed_over : Option ℕ) → Type 0
+  Tells trace calls [] turn entries text passed = (text ≡ []) × (passed ≡ None)
+  Tells trace calls (line ∷ lines) turn entries text passed =
+      ((own_of turn entries ≡ []) × (text ≡ []) × (passed ≡ Some line.number))
+      ⊎ ((own_of turn entries ≢ []) × (first : List ℕ) × (rest : List ℕ)
+      × IsTold (call_of calls line) line (gave_to line.caller turn (reverse trace))
+      (reply_among (own_of turn entries)) first
+      × Tells trace (with_call calls line) lines (turn + 1) (behind turn entries) rest passed
+      × (text ≡ first ++ rest))

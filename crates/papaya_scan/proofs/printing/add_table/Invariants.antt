@@ -1,6 +1,0 @@
-use Rattle.papaya_book.specs.Windows.{Sees}
-use Rattle.papaya_scan.proofs.printing.add_table.Given as goal
-
--- more is seen
-abbrev pub invariant-loop-place : goal.invariant-loop-place
-invariant-loop-place g l = Sees l.fn.window l.window

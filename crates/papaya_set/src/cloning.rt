@@ -1,0 +1,118 @@
+//! Sets of clones, and comparisons of sets.
+ghost use Rattle.std.specs.Prelude.{◌≡◌, ◌≢◌, ℕ, true, [], IfErr, IfOk, None, OnOk, length};
+ghost use Rattle.papaya_words.specs.Probe.{IsEntriesFor};
+ghost use Rattle.papaya_words.specs.declared.limits.TheConstants.{DEFAULT_CHUNK, DEFAULT_SHARDS};
+ghost use Rattle.papaya_core_timeline.specs.Content.{content};
+ghost use Rattle.papaya_core_timeline.specs.Core.{unlimited};
+ghost use Rattle.papaya_seq.specs.Clones.{HasParts, IsCloneRefusal, IsRebuildRefusal, IsRebuilt};
+ghost use Rattle.papaya_map_change.specs.Writing.{IsMemoryOrCapacity};
+ghost use Rattle.papaya_map.specs.Collected.{AreCopied};
+ghost use Rattle.papaya_map.specs.Fixed.{HasFirstTable, HasSettingsOf, IsFor};
+ghost use Rattle.papaya_map.specs.Limited.{IsPlainRefusal};
+
+use crate::seq;
+use crate::set::HashSet;
+use papaya_words::refused::Refused;
+use papaya_words::resize_mode::ResizeMode;
+use std::alloc::Global;
+use std::hash::{BuildHasher, Hash};
+use std::sync::Wait;
+
+impl<K: Hash + Eq + Clone + Drop, S: BuildHasher + Clone + Drop> seq::HashSet<K, S> {
+    /// Returns a set of clones: the trait `Clone` of 0.2.5. A key's clone must be equal to it. It
+    /// works as [`papaya_seq::seq::HashMap::try_clone`] does for a map.
+    ///
+    /// # Errors
+    /// As [`papaya_seq::seq::HashMap::try_clone`].
+    pub fn try_clone(&self, alloc: Global) -> Result<seq::HashSet<K, S>, Refused>
+        requires { (k l : K) → K.is_clone k l → K.eq k l ≡ true }
+        ensures clones { IfOk result (λ made. IsRebuilt K.eq K.is_clone (λ v w. w ≡ v) S.is_clone
+            self.now made) }
+        ensures parts { IfOk result (λ made. (made.mode
+            ≡ unlimited (ResizeMode.Incremental DEFAULT_CHUNK))
+            × IsEntriesFor (length (content K.eq self.now.store)) made.initial
+            × (made.store.count.shards ≡ 1)) }
+        ensures err { IfErr result (λ e. IsCloneRefusal K.eq K.is_clone (λ v w. w ≡ v)
+            self.now.store e) }
+        ensures below { IfErr result (λ e. e ≢ Refused.Limit) }
+    {
+        match self.map.try_clone(alloc) {
+            Ok(map) => Ok(seq::HashSet { map }),
+            Err(refused) => Err(refused),
+        }
+    }
+
+    /// Rebuilds the set from clones of its keys, and frees everything else that it stored, as
+    /// [`papaya_seq::seq::HashMap::reclaim`] does for a map. A key's clone must be equal to it.
+    /// Only the set's keys count against a limit then, so the call does not reach it.
+    ///
+    /// # Errors
+    /// As that `reclaim`; the set is as it was then.
+    pub fn reclaim(&mut self) -> Result<(), Refused>
+        requires { (k l : K) → K.is_clone k l → K.eq k l ≡ true }
+        ensures clones { OnOk result (IsRebuilt K.eq K.is_clone (λ v w. w ≡ v) S.is_clone self.old
+            self.new) }
+        ensures parts { OnOk result (HasParts self.old self.new) }
+        ensures numbers { OnOk result (self.new.store.words.made
+            ≡ length (content K.eq self.old.store)) }
+        ensures err { IfErr result (λ e. (self.new ≡ self.old)
+            × IsRebuildRefusal K.eq K.is_clone (λ v w. w ≡ v) self.old e) }
+        ensures below { IfErr result (λ e. e ≢ Refused.Limit) }
+    {
+        self.map.reclaim()
+    }
+}
+
+impl<K: Hash + Eq, S: BuildHasher> HashSet<K, S> {
+    /// Returns whether both sets have the same keys: `PartialEq` of 0.2.5. If another thread
+    /// changes one of the sets meanwhile, the result may be either.
+    ///
+    /// # Errors
+    /// As [`HashSetRef::iter`](crate::set::HashSetRef::iter).
+    pub fn eq<R: Wait>(&self, rt: &R, other: &HashSet<K, S>) -> Result<bool, Refused>
+        ensures { IfErr result IsMemoryOrCapacity }
+    {
+        self.map.eq(rt, &other.map)
+    }
+}
+
+impl<K: Hash + Eq + Clone + Drop, S: BuildHasher + Clone + Drop> HashSet<K, S> {
+    /// Returns a set of clones of this one's keys: the trait `Clone` of 0.2.5. A key that is stored
+    /// or removed meanwhile may be copied or not. It works as
+    /// [`papaya_map::map::HashMap::try_clone`] does for a map.
+    ///
+    /// # Errors
+    /// As [`papaya_map::map::HashMap::try_clone`].
+    pub fn try_clone<R: Wait>(&self, rt: &R, alloc: Global) -> Result<HashSet<K, S>, Refused>
+        ensures made { IfOk result (λ set. (keys : ℕ)
+            × IsFor (ResizeMode.Incremental DEFAULT_CHUNK) keys DEFAULT_SHARDS None set) }
+        ensures hasher { IfOk result (λ set. S.is_clone self.now.begun.hasher set.begun.hasher) }
+        ensures copied { IfOk result (λ set. AreCopied K.eq K.is_clone (λ v w. w ≡ v) self.now.book
+            self.now.seen [] set.seen) }
+        ensures refused { IfErr result IsMemoryOrCapacity }
+    {
+        match self.map.try_clone(rt, alloc) {
+            Ok(map) => Ok(HashSet { map }),
+            Err(refused) => Err(refused),
+        }
+    }
+
+    /// Rebuilds the set from clones of its keys, and frees all that it had before, as
+    /// [`papaya_map::map::HashMap::reclaim`] does for a map. Earlier passes and sessions are of no
+    /// use afterwards.
+    ///
+    /// # Errors
+    /// As that `reclaim`; the set is as it was then, and passes and sessions continue.
+    pub fn reclaim<R: Wait>(&mut self, rt: &R) -> Result<(), Refused>
+        ensures ok { IfOk result (λ _. HasSettingsOf self.old self.new) }
+        ensures hasher { IfOk result (λ _. S.is_clone self.old.begun.hasher
+            self.new.begun.hasher) }
+        ensures opened { IfOk result (λ _. HasFirstTable self.new) }
+        ensures copied { IfOk result (λ _. AreCopied K.eq K.is_clone (λ v w. w ≡ v) self.old.book
+            self.old.seen [] self.new.seen) }
+        ensures err { IfErr result (λ refused. IsPlainRefusal self.old.begun.limit refused
+            × (self.new ≡ self.old)) }
+    {
+        self.map.reclaim(rt)
+    }
+}

@@ -1,5 +1,0 @@
-pub mod Calls
-pub mod Counting
-pub mod Made
-pub mod Sent
-pub mod Steps

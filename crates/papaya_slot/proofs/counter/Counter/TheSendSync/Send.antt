@@ -1,9 +1,0 @@
-use denote.Param.Send.{IsSend}
-use Rattle.papaya_slot.proofs.Sent.{held_keyless}
-use Rattle.papaya_slot.specs.contracts.counter.Counter.{the_row}
-
-pub send : IsSend the_row
-send = record {
-  owned = λ d vs. ((λ _. tt), λ n. ((λ vss. (tt, ((tt, tt), tt))), held_keyless d n));
-  leaving = λ k f vs. tt;
-}

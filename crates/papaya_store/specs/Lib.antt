@@ -1,9 +1,0 @@
-pub mod New
-pub mod Pairs
-pub mod Performs
-pub mod Store
-pub mod Tables
-pub mod Copies
-pub mod Asks
--- one ask of a call that scans a table
-pub mod Scans
