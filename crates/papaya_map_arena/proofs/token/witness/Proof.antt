@@ -28,8 +28,8 @@ use Rattle.papaya_map_arena.specs.contracts.token.witness.Key.{name as #self}
 use Rattle.papaya_map_arena.proofs.token.witness.Statement.{statement}
 use Rattle.papaya_map_arena.proofs.token.witness.Code as code
 
-pub tell_spec : {M : Type 1} → statement M
-tell_spec 𝓤 𝓛 𝓜 𝓡 wired T L =
+pub witness_spec : {M : Type 1} → statement M
+witness_spec 𝓤 𝓛 𝓜 𝓡 wired T L =
     let H = 𝓛.H in let 𝓣 = tables 𝓤 H 𝓜 𝓡 𝓡.env in let R : RattleType = param 0 T in let En = ended T in
     let inst = layouts (a_type ∷ []) (T, tt) in let fn = inst_fn inst code.function in let c = clauses T 𝓛 𝓜.mem 𝓡.returns in
     let P' : RattleType = token_row R in
