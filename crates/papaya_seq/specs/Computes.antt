@@ -40,7 +40,7 @@ pub record IsNew {K V S : Type 0} (k : K) (v : V) (s s' : StoreState K V S)
 module _ {K V S T : Type 0} (k : K) where
   -- What a compute does if the class of its key has `held` and its closure returned this operation:
   -- its result, and the pair `next` that the class has afterwards. A pair that replaces another one
-  -- keeps its key.
+  -- has the key of that one.
   abbrev pub Operates : MapState K V S → MapState K V S → Option (Stored K V) → Operation V T
       → Result (Computed (Stored K V) T) Refused → Option (Stored K V) → Type 0
   Operates s s' None (Insert v) (Ok (Inserted q)) next = IsNew k v s.store s'.store q
