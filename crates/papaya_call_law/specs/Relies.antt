@@ -178,7 +178,7 @@ module _ {K P : Type 0} (g : Setting K P) (c : Coding K P) (begun since : List (
   ReliesChoice loaded (Some (To_replace old new)) = ReliesOf loaded (Some new)
   ReliesChoice loaded (Some (To_remove old)) = Unit {0}
 
-  -- the call has made pairs of its class alone, and what it remembers is about them
+  -- the call has made only pairs of its own class, and what it remembers is about them
   pub record ReliesLoaded (loaded : LoadedPairs P) (made : Made) (held : Remembered) : Type 0 where
     pub keys : (q : P) → IsOneOf loaded.made q → g.same k (g.key q) ≡ true
     pub limit : made.limit ≡ g.most

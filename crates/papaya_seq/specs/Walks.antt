@@ -24,7 +24,7 @@ module _ {K V S : Type 0} (store : StoreState K V S) where
   abbrev pub pairs_at : ℕ → List (Stored K V)
   pairs_at t = pairs_in_table (table_of store.words.tables t)
 
-  -- the number of the table that comes so many links after a table
+  -- the number of the table that comes n links after table t
   abbrev pub table_after : ℕ → ℕ → ℕ
   table_after zero t = t
   table_after (suc n) t = table_after n (word_at store.words (Next t))
