@@ -68,7 +68,7 @@ MayBecome Empty Closed old new = (old ≡ 0) × (new ≡ 5)
 MayBecome Live Live old new = Unit {0}
 -- mark
 MayBecome Live Marked old new = NamesSamePair old new
--- delete
+-- bury
 MayBecome Live Buried old new = NamesSamePair old new
 -- finish
 MayBecome Marked Copied old new = NamesSamePair old new
