@@ -33,7 +33,7 @@ abbrev pub IsPairLogged : Ask → Answer → Type 0
 IsPairLogged (asks.Call ask) (answers.Call (Made_number n)) = MakesPair ask
 IsPairLogged _ _ = ⊥
 
--- the ask takes a number; `IsNumberTaken` says that the answer says so
+-- the ask takes a number; `IsNumberTaken` says that the answer is that it was taken
 abbrev pub IsTakeAsk : Call_ask → Type 0
 IsTakeAsk (Exchange Made_word old new) = Unit {0}
 IsTakeAsk _ = ⊥

@@ -31,7 +31,7 @@ table_of (Looking at) = at.table
 table_of (Reading at) = at.table
 table_of (Comparing at word) = at.table
 
--- a gap is in table n; `IsPurposeAt` says so of what a pair is made for
+-- a gap is in table n; `IsPurposeAt` is the same for what a pair is made for
 abbrev pub IsGapAt : ℕ → Gap → Type 0
 IsGapAt n NoRoot = Unit {0}
 IsGapAt n (At place) = place.table ≡ n

@@ -96,8 +96,8 @@ abbrev pub goes_on : {A : Type 0} → Option Reply → A → Option A
 goes_on None r = Some r
 goes_on (Some reply) r = None
 
--- What a step adds to the count goes to the shard that the caller's number picks. `call` says so of
--- a call on one key, and `scan` of a call that scans a table.
+-- What a step adds to the count goes to the shard that the caller's number picks: `call` is for a
+-- call on one key, and `scan` for a call that scans a table.
 pub record AddsToShard {K V S A : Type 0} (s : CoreState K V S A) (caller : ℕ)
     (s' : CoreState K V S A) : Type 0 where
   pub call : (r : Running K V A) (by : ℤ) → call_of s caller ≡ Some r

@@ -162,7 +162,7 @@ last_shown caller [] = None
 last_shown caller (e ∷ before) = if e.caller == caller
     then shown_by e.event (last_shown caller before) else last_shown caller before
 
--- whether a closure is called with None now or was before; `was_shown_none` says so of a caller's
+-- whether a closure is called with None now or was before; `was_shown_none` is that of a caller's
 -- open call after a history
 abbrev pub is_none : Option ℕ → Bool → Bool
 is_none None before = true
@@ -321,8 +321,8 @@ module _ {K V A : Type 0} (eq : K → K → Bool) where
       caller before maps
 
   -- the closure of the call was last called with `shown` and returned an operation of this kind; at
-  -- some moment since the call began, the class of its key had `shown`, and the call replies so for
-  -- that
+  -- some moment since the call began, the class of its key had `shown`, for which the call gives
+  -- this reply
   abbrev pub WasLastShown : Call K V A → Reply → Option ℕ → OpKind → ℕ → History → List (Map K V)
       → Type 0
   WasLastShown call reply shown kind caller before maps =

@@ -64,11 +64,11 @@ IsSaid eq says (RemoveIf k a) s reply s' = IsJudged says a reply s.store
 IsSaid eq says (Compute k a) s reply s' = IsOperated says a s (map_in eq s.store k) s' reply
 IsSaid eq says _ s reply s' = Unit {0}
 
--- When a call may be refused. A lookup never is. An insertion and a compute are refused for one of
--- the causes named, and a compute also if its closure would remove an absent entry. `Reserve` is
--- refused for a cause of its own. A removal, `CopyAll`, a clear and a retain are refused only while
--- pairs are being moved. An iteration is refused only if memory runs out for its list, and leaves
--- the map as it was.
+-- When a call may be refused. A lookup never is. An insertion and a compute are refused for a cause
+-- of `IsWriteCauseAt`, a `TryInsert` for a cause of `IsTryCause`, and a compute also if its closure
+-- would remove an absent entry. `Reserve` is refused for a cause of `IsReserveCause`. A removal,
+-- `CopyAll`, a clear and a retain are refused only while pairs are being moved. An iteration is
+-- refused only if memory runs out for its list, and leaves the map as it was.
 abbrev pub MayRefuse : {K V S A : Type 0} → (K → K → Bool) → MapState K V S → Call K V A
     → words.Refused → MapState K V S → Type 0
 MayRefuse eq s (Get k) refused s' = ⊥

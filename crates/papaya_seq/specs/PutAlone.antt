@@ -29,8 +29,8 @@ module _ {K V S : Type 0} (eq : K → K → Bool) (hash : S → K → ℕ) where
         × IsDoneAlone eq hash {R = Unit {0}} s (Insert (shows item).0 (shows item).1) (Ok tt) at
         × ArePutAlone at items s'
 
-    -- the entries of the items are inserted so, and the insertion of the next item's entry is
-    -- refused
+    -- the entries of the items are inserted in this way, and the insertion of the next item's entry
+    -- is refused
     pub record IsCutAlone (s : MapState K V S) (items : List A) (item : A) (refused : Refused)
         (s' : MapState K V S) : Type 0 where
       pub at : MapState K V S
@@ -38,7 +38,8 @@ module _ {K V S : Type 0} (eq : K → K → Bool) (hash : S → K → ℕ) where
       pub refusal : IsDoneAlone eq hash {R = Unit {0}} at
           (Insert (shows item).0 (shows item).1) (Err refused) s'
 
-    -- the entries of the items of an iterator are inserted so, up to one whose insertion is refused
+    -- the entries of the items of an iterator are inserted in this way, up to one whose insertion
+    -- is refused
     abbrev pub ExtendsAlone : {U T : Type 0} → (U → T → Type 0) → (T → Option A → T → Type 0) → U
         → MapState K V S → Result (Unit {0}) Refused → MapState K V S → Type 0
     ExtendsAlone becomes steps iter s (Ok done) s' = AllCome becomes steps iter
@@ -46,7 +47,7 @@ module _ {K V S : Type 0} (eq : K → K → Bool) (hash : S → K → ℕ) where
     ExtendsAlone becomes steps iter s (Err refused) s' = ComesNext becomes steps iter
         (λ items item. IsCutAlone s items item refused s')
 
-    -- the entries of the items are inserted so, into a new map that has no table yet
+    -- the entries of the items are inserted in this way, into a new map that has no table yet
     pub record IsFilledAlone (items : List A) (s : MapState K V S) : Type 0 where
       pub new : MapState K V S
       pub is_new : IsNew {A = Unit {0}} (Incremental DEFAULT_CHUNK) 0 1 new.store.hasher
@@ -60,23 +61,24 @@ module _ {K V S : Type 0} (eq : K → K → Bool) (hash : S → K → ℕ) where
       × IsDoneAlone eq hash {R = Unit {0}} s (Reserve entries) (Ok tt) s')
 
   module _ (clones_key : K → K → Type 0) (clones_value : V → V → Type 0) where
-    -- clones of these entries are inserted so into the map
+    -- clones of these entries are inserted in this way into the map
     pub record AreClonedAlone (s : MapState K V S) (es : List (K × V)) (s' : MapState K V S)
         : Type 0 where
       pub clones : List (K × V)
       pub each : AllZip (Clones clones_key clones_value) es clones
       pub puts : ArePutAlone (λ c. c) s clones s'
 
-    -- clones of the map's entries are inserted so into a new map, which is made for as many
+    -- clones of the map's entries are inserted in this way into a new map, which is made for as
+    -- many
     pub record IsClonedAlone (s s' : MapState K V S) : Type 0 where
       pub new : MapState K V S
       pub is_new : IsNew {A = Unit {0}} (Incremental DEFAULT_CHUNK) (length (content eq s.store)) 1
           new.store.hasher (core_of new)
       pub cloned : AreClonedAlone new (map entry_of (content eq s.store)) s'
 
-    -- They are inserted so into a new map that has the settings of s but no pair limit. Its first
-    -- table is as long as one for the initial capacity of s, and room was reserved for them.
-    -- Afterwards as many numbers are taken as there are pairs.
+    -- They are inserted in this way into a new map that has the settings of s but no pair limit.
+    -- Its first table is as long as one for the initial capacity of s, and room was reserved for
+    -- them. Afterwards as many numbers are taken as there are pairs.
     pub record IsRebuiltAlone (s s' : MapState K V S) : Type 0 where
       pub asked : ℕ
       pub asks : IsAskedFor s.initial asked
