@@ -39,7 +39,7 @@ module _ {K V S H : Type 0} (book : Book K V S H) where
   abbrev pub Seals : Pen → Sheet → Type 0
   Seals pen sheet = (pen.book ≡ book.begun.book) × (pen.nib ≡ nib may_write sheet.seal 0)
 
--- The pen is of the same book, and is unused if another word was found.
+-- The pen is of the same book, and has the same nib if another word was found.
 abbrev pub IsLeft : (old new : Pen) → (found expected : ℕ) → Type 0
 IsLeft old new found expected = (new.book ≡ old.book)
     × ((found == expected) ≡ false → new.nib ≡ old.nib)

@@ -93,7 +93,7 @@ CanBring eq hash b at kind old new made w seen = (log : List (Event _ _ _)) → 
     × (table_in (steps_of log) (number_of w) ≡ None)
 
 -- The exchange brought in a table and used up the pen of its seal; or another word was found, and
--- the pen is unused.
+-- the pen is as it was.
 abbrev pub Brings : {K V S : Type 0} → (K → K → Bool) → (S → K → ℕ) → Book_step (Event K V S)
     → View (Event K V S) (Named K V) → ℕ → View (Event K V S) (Named K V) → Type 0
 Brings eq hash s v found w = Tried eq hash (place_of s.ask) (kind_of s.ask) s.old s.new
