@@ -19,7 +19,7 @@ pub record Change (K P : Type 0) : Type 0 where
 module _ {K P : Type 0} where
   module _ (key : P → K) where
     -- The changes that an exchange makes: a claim, a replacement or a deletion makes one change,
-    -- any other exchange makes none.
+    -- and any other exchange makes none.
     abbrev pub change_of : Exchange P → List (Change K P)
     change_of (law.Claim t x p) = record { class = key p; taken = None; put = Some p } ∷ []
     change_of (law.Replace t x p q) = record { class = key p; taken = Some p; put = Some q } ∷ []
