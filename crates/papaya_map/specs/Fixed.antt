@@ -41,8 +41,8 @@ IsFor mode capacity shards limit map = (map.begun.mode ≡ mode) × IsEntriesFor
     × IsNextPowerOfTwo shards map.shards × (0 < capacity → HasTableFrom map.initial map.opened)
     × (map.begun.limit ≡ limit)
 
--- If the initial capacity is over one slot, `pairs` is not 0, and a table for `pairs` entries has
--- at least `initial` slots.
+-- If the initial capacity is over one slot, then `pairs` is not 0 and a table for `pairs` entries
+-- has at least `initial` slots.
 abbrev pub IsForInitial : (initial pairs : ℕ) → Type 0
 IsForInitial initial pairs = 1 < initial → (0 < pairs)
     × ((entries : ℕ) → IsEntriesFor pairs entries → initial ≤ entries)

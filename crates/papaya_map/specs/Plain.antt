@@ -47,8 +47,7 @@ of_its_history {K} {V} {S} code rule map eq tells = fex (List ℕ × List (Event
 abbrev pub unpinned : {K V S : Type 0} → Fixed K V S → Pinned K V S
 unpinned map = record { map = map; seen = map.seen }
 
--- The result is `true` if a key that matches had an entry in some history between the two, and
--- `false` if none had one there.
+-- In some history between the two, the result is whether a key that matches had an entry.
 abbrev pub IsContained : {K V : Type 0} → (K → K → Bool) → (K → Bool)
     → (old new : List (Change K (Stored K V))) → Bool → Type 0
 IsContained {V = V} eq matches old new has = (found : Option (Bor V)) × (has ≡ is_some found)
