@@ -43,8 +43,8 @@ module _ {K V : Type 0} where
       × (change : Change K (Stored K V)) × (made ≡ earlier ++ change ∷ []) × Drops change last.0
       × AreDropped before earlier)
 
-  -- The closure, which was `first`, was called with the entries in `said`, and is now `left`. The
-  -- map had each of these entries in some history between the two. The changes since `made` are
+  -- The closure, which was `first`, was called with the entries in `said`, and is now `left`. Each
+  -- of these entries was in the map in some history between the two. The changes since `made` are
   -- those that were made because of the closure's answers.
   pub record HasShown {F : Type 0} (eq : K → K → Bool)
       (old new made made' : List (Change K (Stored K V)))
@@ -71,9 +71,9 @@ module _ {K V : Type 0} where
       pub made_is : made' ≡ made ++ changes
       pub dropped : AllDrop changes
 
-  -- `retain` took out only entries for which the closure's last answer was not to keep them. If it
-  -- was not refused, it left, of the entries that the map had after the history `old`, only those
-  -- for which the last answer was to keep them.
+  -- `retain` took out only entries that it was not to keep, by the closure's latest answer at that
+  -- point. If it was not refused, it left, of the entries that the map had after the history `old`,
+  -- only those for which the last answer was to keep them.
   pub record HasKept {F A : Type 0} (eq : K → K → Bool)
       (old new made made' : List (Change K (Stored K V)))
       (judges : F → Stored K V → Bool → F → Type 0) (first : F)
