@@ -11,13 +11,13 @@ use Rattle.papaya_map_lookup.specs.History.{Change, key_of}
 use Rattle.papaya_map.specs.Plain as map
 
 module _ {K : Type 0} (eq : K → K → Bool) where
-  -- The result is whether a key that matches was in the set in some history between the two.
+  -- In some history between the two, the result is whether a key that matches was in the set.
   abbrev pub IsContainedBetween : (K → Bool) → (old new : List (Change K (Stored K (Unit {0}))))
       → Bool → Type 0
   IsContainedBetween = map.IsContained eq
 
-  -- The result is a reference to the stored key that matches in some history between the two, or
-  -- `None` if no key matches there.
+  -- In some history between the two, the result refers to the stored key that matches, or is `None`
+  -- if no key matches.
   abbrev pub IsKeyFoundBetween : (K → Bool) → (old new : List (Change K (Stored K (Unit {0}))))
       → Option (Bor K) → Type 0
   IsKeyFoundBetween matches old new answer = (found : Option (Bor K × Bor (Unit {0})))
