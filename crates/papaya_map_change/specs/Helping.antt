@@ -141,7 +141,7 @@ module _ {K V S : Type 0} (eq : K → K → Bool) (hash : S → K → ℕ) (b : 
 
   -- An exchange was tried for a copy, at a log that extends `seen`: it succeeded and is the next
   -- step, or it found another word. A table that it brought in was the one held. `pair` is the pair
-  -- that the word named that was found.
+  -- that the found word named, if any.
   pub record IsTriedFor (at : At) (kind : Option StepKind) (old new : ℕ)
       (kept : Option (Stored K V)) (fresh : Option (Where Sheet × Pen))
       (seen : List (Event K V S)) (found : ℕ) (log : List (Event K V S))

@@ -42,8 +42,8 @@ module _ {K V : Type 0} (eq : K → K → Bool) (matches : K → Bool)
   IsJudged said (Ok (Err entry)) = (p : Stored K V) × Member (p, false) said × AreOf entry p
   IsJudged said (Err refused) = IsMemoryOrCapacity refused
 
-  -- The result of a removal whose closure was `first`. The map had each entry with which the
-  -- closure was called in some history between the two.
+  -- The result of a removal whose closure was `first`. Each entry with which the closure was called
+  -- was in the map in some history between the two.
   pub record IsRemovalBy {F : Type 0} (judges : F → Stored K V → Bool → F → Type 0) (first : F)
       (answer : Result (Result (Option (Bor K × Bor V)) (Bor K × Bor V)) Refused) : Type 0 where
     pub said : List (Stored K V × Bool)
@@ -53,7 +53,7 @@ module _ {K V : Type 0} (eq : K → K → Bool) (matches : K → Bool)
     pub answered : IsJudged said answer
 
   -- A removal has called its closure, which was `first`, with the entries in `said`, and it is now
-  -- `left`. The map had each of these entries in some history between the two.
+  -- `left`. Each of these entries was in the map in some history between the two.
   pub record HasShown {F : Type 0} (judges : F → Stored K V → Bool → F → Type 0)
       (first left : F) : Type 0 where
     pub said : List (Stored K V × Bool)

@@ -1,5 +1,5 @@
 -- The search of an insertion's or a compute's fast path. The machines of these calls, which nothing
--- runs, are there in the proof alone.
+-- runs, exist in the proof alone.
 use Rattle.std.specs.Prelude.{◌≡◌, ℕ, ◌+◌, ◌-◌, Bool, true, false, Option, None, Some, List, []}
 use denote.Bor.{Bor}
 use Rattle.logbook.specs.Pages.{Book}

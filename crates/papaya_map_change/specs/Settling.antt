@@ -1,5 +1,5 @@
--- Slots that are copied one after another. The copy's machine, which nothing runs meanwhile, is
--- there in the proof alone: what it would receive on the way are answers to its asks.
+-- Slots that are copied one after another. The copy's machine, which nothing runs meanwhile, exists
+-- in the proof alone: what it would receive on the way are answers to its asks.
 use Rattle.std.specs.Prelude.{◌≡◌, ℕ, ◌+◌, Bool, Option, None, Some, List, [], ◌∷◌, nat_lt, if◌then◌else◌}
 use mathlib.Core.List.{IsPrefix}
 use Rattle.logbook.specs.Pages.{Book}

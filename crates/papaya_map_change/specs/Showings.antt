@@ -1,4 +1,4 @@
--- With what the closure of a call was called, and what it returned; and what the map had in some
+-- The calls of a call's closure with their results, and the entries that the map had in some
 -- history between two.
 use Rattle.std.specs.Prelude.{◌≡◌, Bool, true, MatchOption, Option, None, Some, List, [], ◌∷◌}
 use Rattle.std.specs.Fn.{Called, Mut}
@@ -9,8 +9,8 @@ use Rattle.papaya_map_lookup.specs.History.{Change, key_of, replay}
 use Rattle.papaya_map_book.specs.Logs.{Member, Stored}
 
 -- A closure that was `f` was called with these in turn, of which the last comes first in the list.
--- Each call returned what stands beside, and the closure is `g` afterwards. `says` states what one
--- call may do.
+-- Each call returned the result beside its argument, and the closure is `g` afterwards. `says`
+-- states what one call may do.
 abbrev pub HasSaid : {F X A : Type 0} → (F → X → A → F → Type 0) → F → List (X × A) → F → Type 0
 HasSaid says f [] g = g ≡ f
 HasSaid {F = F} says f (last ∷ before) g = (h : F) × HasSaid says f before h
