@@ -150,8 +150,8 @@ pub record IsNewest {K V S T H : Type 0} (x : Computing K V S T H) : Type 0 wher
       × (held_value x.writer.value ≡ Some q.value.value)
 
 module _ {K V S T H : Type 0} (m : Machine) (x : Computing K V S T H) where
-  -- If the machine relies on a pair that was made to replace another, this is so, unless a pair is
-  -- being made of the closure's last result or the call is over.
+  -- If the machine relies on a pair that was made to replace another, then `IsNewest` holds, unless
+  -- a pair is being made of the closure's last result or the call is over.
   abbrev pub HasNewest : Type 0
   HasNewest = (i n : ℕ) → StandsOn m (Makes (Some i) n) → IsAnswered m.state ⊎ IsNewest x
 

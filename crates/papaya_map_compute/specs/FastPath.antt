@@ -108,7 +108,7 @@ module _ {K V S H : Type 0} {d : keyed.Ghosts S K H} where
     pub placed : IsIn w (Pair pair)
 
 module _ {K V S T H : Type 0} {d : keyed.Ghosts S K H} where
-  -- A machine of this key whose closure had the calls in `heard` can start here.
+  -- A machine of this key whose closure had the calls in `heard` can start from `start`.
   abbrev pub CanStart : Window K V S H d → K → Start K V
       → List (Option (Stored K V) × Operation V T) → Type 0
   CanStart w key (Anew own) heard = (own ≡ key) × (heard ≡ [])
@@ -127,7 +127,8 @@ module _ {K V S T H : Type 0} {d : keyed.Ghosts S K H} where
   HasHeard w key begun start heard = CanStart w key start heard × IsPrefix begun w.sight.log
       × AllShown (WasHeld d.keys.eq (d.keys.eq key) (history_of begun) (past w)) heard
 
-  -- From this start the machine goes on as `x`, for each key, log and calls for which it can start.
+  -- From this start the machine goes on as `x`, for each key, log and calls with which it can
+  -- start.
   abbrev pub GoesFrom : (w : Window K V S H d) → Start K V → (w' : Window K V S H d)
       → Computing K V S T H → Type 0
   GoesFrom w start w' x = (key : K) (begun : List (Event K V S))
@@ -149,7 +150,7 @@ module _ {K V S T H : Type 0} {d : keyed.Ghosts S K H} where
       → IsFoundAt w key begun table turn
       → IsReplied d.keys.eq key (history_of begun) (past w') ((met_by turn, done) ∷ []) answer
 
-  -- If the closure was called so and the call is not over, its machine starts here.
+  -- If the closure was called so and the call is not over, its machine starts from `start`.
   abbrev pub GoesOnce : (w w' : Window K V S H d) → K → Sheet → ProbeHit (Met K V) → Operation V T
       → Start K V → Type 0
   GoesOnce w w' key table turn done start = (begun : List (Event K V S))
@@ -162,8 +163,8 @@ module _ {K V S T H : Type 0} {d : keyed.Ghosts S K H} where
   DoesAtOnce w w' key table turn done first = ComesTo changes
       (RepliesOnce w w' key table turn done) (GoesOnce w w' key table turn done) w w' first
 
-  -- A compute of this key that began at the log of `w` starts here. Its closure was `first` at that
-  -- point, and is now `left`.
+  -- A compute of this key that began at the log of `w` starts from `start`. Its closure was `first`
+  -- when it began, and is now `left`.
   abbrev pub IsOnItsWay : {F : Type 0} → (w w' : Window K V S H d) → K
       → (F → Option (Stored K V) → Operation V T → F → Type 0) → (first left : F)
       → Start K V → Type 0

@@ -31,7 +31,7 @@ resumed_at hash mode initial limit held = record {
 
 module _ {K V S T H : Type 0} {d : keyed.Ghosts S K H} where
   -- A compute is under way whose closure was called once, with `held`, and returned `done`. It may
-  -- have begun at any log since which the map had `held`.
+  -- have begun at any observed log since which, at some point, the map had `held` for the key.
   abbrev pub IsResumed : Window K V S H d → K → Option (Stored K V) → Operation V T
       → Computing K V S T H → Type 0
   IsResumed w key held done x = (begun : List (Event K V S)) → IsPrefix begun w.sight.log
