@@ -209,7 +209,7 @@ module _ {K V S : Type 0} where
     chunks = at_put (setting_of eq hash mode most log).chunks (number_of w) (length w.value.done);
   }
 
-  -- The name of the book, as the log first records it.
+  -- The name of the book that an event records, and (in `name_in`) the first one of a log.
   abbrev pub name_of : Event K V S → Option Book
   name_of (Called b) = Some b
   name_of _ = None
@@ -235,6 +235,6 @@ module _ {K V S : Type 0} where
   abbrev pub owner : ℕ → List (Event K V S) → Option ℕ
   owner k log = slice_get (seals_of log) (k - 3)
 
--- Words name pairs by their numbers.
+-- The coding in which words name pairs by their numbers.
 abbrev pub coding_of : {K V : Type 0} → (K → ℕ) → Coding K (Stored K V)
 coding_of hash = record { number = λ p. p.index; hash = hash }

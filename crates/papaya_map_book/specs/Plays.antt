@@ -34,7 +34,7 @@ loaded_of made = record { last = None; made = made_list made }
 abbrev pub IsPutting : Option StepKind → Type 0
 IsPutting kind = (kind ≡ Some kinds.Claim) ⊎ (kind ≡ Some kinds.Replace)
 
--- Words name pairs by their numbers.
+-- The coding in which words name pairs by their numbers.
 abbrev pub Numbered : {K V : Type 0} → Coding K (Stored K V)
 Numbered = coding_of (λ k. 0)
 

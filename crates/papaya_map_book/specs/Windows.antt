@@ -33,8 +33,8 @@ module _ {K V S H : Type 0} {d : keyed.Ghosts S K H} where
     pub log : IsPrefix old.sight.log new.sight.log
     pub own : new.own ≡ old.own
 
-  -- If `exchanged`, one exchange of a slot was made through this window, the last one of the log
-  -- that has been observed; if not, none was.
+  -- If `exchanged`, one more exchange of a slot was made through this window, which is the last
+  -- exchange of the observed log; if not, none was made.
   abbrev pub Does : Bool → (old new : Window K V S H d) → Type 0
   Does exchanged old new = new.own.done ≡ old.own.done ++ last_if exchanged (steps_of new.sight.log)
 
