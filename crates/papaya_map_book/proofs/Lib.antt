@@ -1,4 +1,4 @@
--- tokens of boxcar logs
+-- Tokens of `boxcar` arenas.
 pub mod Made
 -- offers that hand tokens to the book
 pub mod Offers
