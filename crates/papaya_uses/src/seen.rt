@@ -44,8 +44,8 @@ impl<'a> Finder<'a> {
         }
     }
 
-    /// Records that an item was met, and returns whether it is new: true for just one of the
-    /// threads that meet it.
+    /// Records that an item was met, and returns whether it is new. As long as no thread forgets
+    /// the item, at most one call returns true for it.
     pub fn meet<R: Wait>(&mut self, rt: &R, item: u64) -> Result<bool, Refused>
         ensures map { self.new.map ≡ self.old.map }
         ensures seen { IsPrefix self.old.history self.new.history }
