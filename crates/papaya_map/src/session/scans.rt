@@ -27,6 +27,7 @@ impl<'a, K: Hash + Eq, V, S: BuildHasher> Session<'a, K, V, S> {
     /// it, whether the call fails or not.
     ///
     /// # Errors
+    ///
     /// If the call meets a copy under way, it copies what is left to copy, and may need a table.
     /// Then it fails with `Refused::Memory` if an allocation fails, and with `Refused::Capacity` if
     /// there is no room, as at an insertion. Removed entries stay removed.
@@ -60,13 +61,14 @@ impl<'a, K: Hash + Eq, V, S: BuildHasher> Session<'a, K, V, S> {
         retained
     }
 
-    /// Removes all entries that the map has: `clear` of 0.2.5. If it succeeds, each entry that the
-    /// map had after what the session had observed was removed since, by this call or another. An
-    /// entry that is stored meanwhile may stay. The session makes one change for each entry that
-    /// this call removed, and no other.
+    /// Removes all entries that are in the map as the call begins: `clear` of 0.2.5. If it
+    /// succeeds, each entry that the map had after what the session had observed was removed since,
+    /// by this call or another. An entry that is stored meanwhile may stay. The session makes one
+    /// change for each entry that this call removed, and no other.
     ///
     /// # Errors
-    /// `Refused::Memory` or `Capacity`, as [`Session::retain`].
+    ///
+    /// Fails with `Refused::Memory` or `Refused::Capacity`, as [`Session::retain`] does.
     pub fn clear<R: Wait>(&mut self, rt: &R) -> Result<(), Refused>
         ensures map { self.new.map ≡ self.old.map }
         ensures seen { IsPrefix self.old.history self.new.history }
@@ -95,7 +97,9 @@ impl<'a, K: Hash + Eq, V, S: BuildHasher> Session<'a, K, V, S> {
     /// copies what is left to copy.
     ///
     /// # Errors
-    /// `Refused::Memory` or `Capacity`, as [`Session::retain`], if that copy needs a table.
+    ///
+    /// Fails with `Refused::Memory` or `Refused::Capacity`, as [`Session::retain`] does, if that
+    /// copy needs a table.
     pub fn iter<R: Wait>(&mut self, rt: &R) -> Result<Iter<'a, K, V, S>, Refused>
         ensures map { self.new.map ≡ self.old.map }
         ensures seen { IsPrefix self.old.history self.new.history }
@@ -114,7 +118,8 @@ impl<'a, K: Hash + Eq, V, S: BuildHasher> Session<'a, K, V, S> {
     /// Returns an iterator over the keys: `keys` of 0.2.5.
     ///
     /// # Errors
-    /// As [`Session::iter`].
+    ///
+    /// Fails with `Refused::Memory` or `Refused::Capacity`, as [`Session::iter`] does.
     pub fn keys<R: Wait>(&mut self, rt: &R) -> Result<Keys<'a, K, V, S>, Refused>
         ensures map { self.new.map ≡ self.old.map }
         ensures seen { IsPrefix self.old.history self.new.history }
@@ -133,7 +138,8 @@ impl<'a, K: Hash + Eq, V, S: BuildHasher> Session<'a, K, V, S> {
     /// Returns an iterator over the values: `values` of 0.2.5.
     ///
     /// # Errors
-    /// As [`Session::iter`].
+    ///
+    /// Fails with `Refused::Memory` or `Refused::Capacity`, as [`Session::iter`] does.
     pub fn values<R: Wait>(&mut self, rt: &R) -> Result<Values<'a, K, V, S>, Refused>
         ensures map { self.new.map ≡ self.old.map }
         ensures seen { IsPrefix self.old.history self.new.history }

@@ -23,7 +23,9 @@ impl<'a, K: Hash + Eq + Drop, V: Drop, S: BuildHasher> Session<'a, K, V, S> {
     /// The session makes one change if a value was replaced, and otherwise none.
     ///
     /// # Errors
-    /// `Refused::Memory`, `Capacity` or `Limit`, as [`Session::insert`].
+    ///
+    /// Fails with `Refused::Memory`, `Refused::Capacity` or `Refused::Limit`, as
+    /// [`Session::insert`] does.
     pub fn update<R: Wait, F: Fn(&V) -> V>(
         &mut self,
         rt: &R,
@@ -88,7 +90,9 @@ impl<'a, K: Hash + Eq + Drop, V: Drop, S: BuildHasher> Session<'a, K, V, S> {
     /// The session makes one change, or none if the call fails. Otherwise as [`Session::update`].
     ///
     /// # Errors
-    /// As [`Session::insert`].
+    ///
+    /// Fails with `Refused::Memory`, `Refused::Capacity` or `Refused::Limit`, as
+    /// [`Session::insert`] does.
     #[inline(always)]
     pub fn update_or_insert<R: Wait, F: Fn(&V) -> V>(
         &mut self,
@@ -115,7 +119,9 @@ impl<'a, K: Hash + Eq + Drop, V: Drop, S: BuildHasher> Session<'a, K, V, S> {
     /// `update_or_insert_with` of 0.2.5. It is called once at most.
     ///
     /// # Errors
-    /// As [`Session::insert`].
+    ///
+    /// Fails with `Refused::Memory`, `Refused::Capacity` or `Refused::Limit`, as
+    /// [`Session::insert`] does.
     pub fn update_or_insert_with<R: Wait, U: Fn(&V) -> V, F: FnOnce() -> V + Drop>(
         &mut self,
         rt: &R,
