@@ -223,7 +223,9 @@ impl<K: Hash + Eq + Drop, S: BuildHasher + Drop> HashSetBuilder<K, S> {
     /// Builds the set: `build` of 0.2.5.
     ///
     /// # Errors
-    /// As [`HashSet::with_parts`].
+    ///
+    /// Fails with `Refused::ZeroChunk`, `Refused::Capacity` or `Refused::Memory`, as
+    /// [`HashSet::with_parts`] does.
     pub fn build<R: Wait>(self, rt: &R, alloc: Global) -> Result<HashSet<K, S>, Refused>
         ensures ok { IfOk result (λ set. IsAllowed self.mode self.capacity self.shards) }
         ensures made { IfOk result (IsFor self.mode self.capacity self.shards self.limit) }
@@ -254,7 +256,9 @@ impl<K: Hash + Eq + Drop, S: BuildHasher + Drop> HashSetBuilder<K, S> {
     /// set.
     ///
     /// # Errors
-    /// As [`seq::HashSet::with_parts`].
+    ///
+    /// Fails with `Refused::ZeroChunk`, `Refused::Capacity` or `Refused::Memory`, as
+    /// [`seq::HashSet::with_parts`] does.
     pub fn build_seq(self, alloc: Global) -> Result<seq::HashSet<K, S>, Refused>
         ensures ok { IfOk result (λ set. IsAllowed self.mode self.capacity self.shards
             × IsNewLimited {A = Unit {0}} self.mode self.capacity self.shards self.hasher self.limit
