@@ -5,7 +5,8 @@ ghost use Rattle.papaya_words.specs.Refusals.{number_of};
 use std::error::Error;
 use std::fmt;
 
-/// Why a call was refused. A call ends at its first refusal.
+/// Why a call failed: the error of all calls. A call ends at its first refusal. A refused call on a
+/// key has changed no entry, and has dropped what was passed in.
 ///
 /// In 0.2.5 these are panics, or an abort if memory runs out.
 #[derive(Clone, Copy, Debug, PartialEq, Eq)]
@@ -34,7 +35,7 @@ pub enum Refused {
 
 impl Refused {
     /// Returns the number by which programs report the refusal: 1 to 9, in the order above. If
-    /// several apply at one point of a call, the first of 3, 5, 2, 9 and 1 is reported.
+    /// several reasons apply at one point of a call, it fails with the first of 3, 5, 2, 9 and 1.
     pub fn number(&self) -> u8
         ensures { result ≡ number_of self.now }
     {
