@@ -37,9 +37,10 @@ use std::marker::Model;
 /// ([`HashMap::guard`]).
 ///
 /// A replaced or removed entry stays in memory until [`HashMap::reclaim`], or until the map is
-/// dropped: 24 bytes for two `u64`s. In the examples of its calls, `map` is an empty `HashMap<u64,
-/// u64>` that no other thread changes, `rt` is the runtime, and `alloc` is the allocator,
-/// `rt.alloc()`.
+/// dropped: 24 bytes for two `u64`s.
+///
+/// In the examples of its calls, `map` is an empty `HashMap<u64, u64>` that no other thread changes.
+/// `rt` is the runtime that `main` gets, and `alloc` is the allocator, `rt.alloc()`.
 ///
 /// Contracts see what is fixed when the map is made: its book, hasher, resize mode and arenas, the
 /// initial capacity that sizes its first table, and its number of shards. They also see the tables

@@ -67,8 +67,9 @@ fn resized(done: Result<(), Refused>) -> Reply
 /// atomics, and results borrow the map.
 ///
 /// A replaced or removed entry stays in the arena until [`HashMap::reclaim`], or until the map is
-/// dropped: 24 bytes for two `u64`s. In the examples of its calls, `map` is an empty `HashMap<u64,
-/// u64>`.
+/// dropped: 24 bytes for two `u64`s.
+///
+/// In the examples of its calls, `map` is an empty `HashMap<u64, u64>`.
 ///
 /// Contracts see its words and its arena, which represent the finite map that `map_in` computes.
 #[derive(Drop)]
