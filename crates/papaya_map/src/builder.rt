@@ -82,7 +82,7 @@ impl<K: Hash + Eq, V> HashMap<K, V, BuildHasherDefault<FoldHasher>> {
 }
 
 impl<K, V, S: Drop> HashMapBuilder<K, V, S> {
-    /// Sets the hasher, which is [`FoldHasher`] by default: `hasher` of 0.2.5.
+    /// Sets the hasher, by default a `FoldHasher` with a fixed seed: `hasher` of 0.2.5.
     pub fn hasher<T>(self, hasher: T) -> HashMapBuilder<K, V, T>
         ensures { result ≡ record {
           hasher = hasher;
@@ -146,7 +146,8 @@ impl<K, V, S> HashMapBuilder<K, V, S> {
         self.collector(Collector::new(number))
     }
 
-    /// Sets the number of entries that the first table has room for: `capacity` of 0.2.5.
+    /// Sets the number of entries that the first table has room for, by default 0: `capacity` of
+    /// 0.2.5. With 0 the first change allocates a table of 32 slots.
     pub fn capacity(self, capacity: usize) -> HashMapBuilder<K, V, S>
         ensures { result ≡ record {
           hasher = self.hasher;
@@ -160,7 +161,7 @@ impl<K, V, S> HashMapBuilder<K, V, S> {
         HashMapBuilder { capacity, ..self }
     }
 
-    /// Sets how the map resizes: `resize_mode` of 0.2.5.
+    /// Sets how the map resizes, by default `Incremental(64)`: `resize_mode` of 0.2.5.
     pub fn resize_mode(self, mode: ResizeMode) -> HashMapBuilder<K, V, S>
         ensures { result ≡ record {
           hasher = self.hasher;
@@ -174,8 +175,8 @@ impl<K, V, S> HashMapBuilder<K, V, S> {
         HashMapBuilder { mode, ..self }
     }
 
-    /// Sets the number of shards of the count, which is rounded up to a power of two. 0.2.5 derives
-    /// it from the number of processors.
+    /// Sets the number of shards of the count, by default 16. It is rounded up to a power of two.
+    /// 0.2.5 derives it from the number of processors.
     pub fn shards(self, shards: usize) -> HashMapBuilder<K, V, S>
         ensures { result ≡ record {
           hasher = self.hasher;

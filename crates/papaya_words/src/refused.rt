@@ -11,25 +11,25 @@ use std::fmt;
 /// In 0.2.5 these are panics, or an abort if memory runs out.
 #[derive(Clone, Copy, Debug, PartialEq, Eq)]
 pub enum Refused {
-    /// The allocator returned an error during this call. A map that threads share also fails so
-    /// once it has stored 2^42 pairs since it was made or last reclaimed.
+    /// An allocation failed. A map that threads share also fails with this once it has stored 2^42
+    /// entries since it was made or last reclaimed.
     Memory,
     /// A size would exceed a limit of [`crate::limits`], or does not fit in 64 bits.
     Capacity,
     /// The guard belongs to another collector than the map's.
     WrongGuard,
-    /// A `compute` closure that was called without an entry returned a removal.
+    /// The closure of a `compute` returned `Operation::Remove`, and the key has no entry.
     RemoveNothing,
-    /// A map was to be made with chunks of no slots.
+    /// A map was to be made with chunks of no slots: `ResizeMode::Incremental(0)`.
     ZeroChunk,
     /// The JSON value is not an object where a map is read, or not an array where a set is read.
     Shape,
-    /// Two keys of a map gave the same JSON text.
+    /// Two keys of a map have the same JSON text.
     KeyClash,
-    /// The caller's JSON function returned `None` for an item.
+    /// A function that the caller passed in for JSON returned `None` for an item.
     Item,
-    /// The map has stored as many pairs as it was built for. Call its `reclaim`, which keeps only
-    /// those that are in the map, or build it with a larger limit.
+    /// The map has stored as many entries as its `pair_limit` allows. Call its `reclaim`, which
+    /// keeps only those that are in the map, or build it with a larger limit.
     Limit,
 }
 
