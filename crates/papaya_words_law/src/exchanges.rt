@@ -51,7 +51,7 @@ pub fn claim_or_copy<K, P>()
         → (t x : ℕ) (p : P) → MayClaim g s t x p → MayPlace g s t x p → ⊥ }
 {}
 
-/// Tables that are made later do not affect what was kept and allowed before them.
+/// States that tables that are made later do not affect what was kept and allowed before them.
 pub fn tables_come_later<K, P>()
     ensures keeps { (g g' : Setting K P) (s : State P) (m : K → Option P)
         → Agrees (IsOn s.first s.next) g g' → IsKeeping g s m → IsKeeping g' s m }
@@ -91,7 +91,7 @@ pub fn tables_of_a_log<K, P>()
         → AllAllowed (setting_in h (es ++ e ∷ [])) start (exchanges (es ++ e ∷ [])) }
 {}
 
-/// Facts that a caller observed at an earlier point in time still serve.
+/// States that facts that a caller observed at an earlier point in time still serve.
 pub fn facts_last<K, P>()
     ensures later { (g : Setting K P) → IsLawful g → (fs : List (Exchange P)) (s : State P)
         → AllAllowed g s fs → IsLater g s (run fs s) }
@@ -109,7 +109,7 @@ pub fn keys_stay<K, P>()
         → IsOfKey g (s.slot t x) k → IsOfKey g (s'.slot t x) k }
 {}
 
-/// Numbers for pairs are taken one after another, and no more than the limit allows.
+/// States that numbers for pairs are taken one after another, and no more than the limit allows.
 pub fn numbers<K, P>()
     ensures { (g : Setting K P) (n : ℕ) → g.most ≡ Some n → (s : State P) (es : List (Exchange P))
         → AllAllowed g s es → s.made ≤ n → (run es s).made ≤ n }
@@ -259,8 +259,8 @@ pub fn hints<K, P>()
         → IsHintOf g c w shut_hint }
 {}
 
-/// Keys that are searched by their hash have a lawful plan, and a lawful plan gives lawful
-/// settings.
+/// States that keys that are searched by their hash have a lawful plan, and a lawful plan gives
+/// lawful settings.
 pub fn plans_by_hash<K, P>()
     ensures plan { (blocking : Bool) (chunk_of : ℕ → ℕ) (most : Option ℕ) (key : P → K)
         (same : K → K → Bool) (hash : K → ℕ) → ((k : K) → same k k ≡ true)
@@ -273,11 +273,11 @@ pub fn plans_by_hash<K, P>()
         → IsLawful (planned h size places chunks) }
 {}
 
-/// Lookups by a borrowed form of a key, on every backend: by a `&str` if the keys are `String`s.
-/// Such a form is not a key of the map's type: it matches the keys of one class, or none. The laws
-/// speak of a setting's keys. They serve such a lookup in the setting that has the form as one
-/// further key, over the same exchanges of the same pairs. The map's own keys are forms of
-/// themselves.
+/// States what holds of lookups by a borrowed form of a key, on every backend: by a `&str` if the
+/// keys are `String`s. Such a form is not a key of the map's type: it matches the keys of one
+/// class, or none. The laws speak of a setting's keys. They serve such a lookup in the setting that
+/// has the form as one further key, over the same exchanges of the same pairs. The map's own keys
+/// are forms of themselves.
 pub fn further_keys<K, P>()
     ensures itself { (g : Setting K P) (c : Coding K P) → IsHashed g c → (k : K)
         → IsLawfulKey g c (g.same k) (c.hash k) }
