@@ -27,7 +27,7 @@ use papaya_call::chain::machine::Machine;
 use papaya_call::copy_ask::CopyAsk;
 use papaya_words::refused::Refused;
 
-/// States that a call that begins relies on the exchanges as they are.
+/// States that a call relies on the exchanges as they are when it begins.
 pub fn begins<K, P>()
     ensures { (g : Setting K P) (c : Coding K P)
         → (begun : List (Exchange P)) (k : K) (task : Task) (mode : ResizeMode)

@@ -29,7 +29,7 @@ use papaya_call::ask::{Answer, Ask, At, OpKind, StepKind};
 use papaya_call::call::{Reply, Task};
 use papaya_call::machine::Machine;
 
-/// States that a call that begins relies on the exchanges as they are.
+/// States that a call relies on the exchanges as they are when it begins.
 pub fn begins<K, P>()
     ensures { (g : Setting K P) (c : Coding K P)
         → (begun : List (Exchange P)) (k : K) (task : Task) (mode : ResizeMode) (initial : ℕ)

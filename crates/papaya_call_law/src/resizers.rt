@@ -26,7 +26,7 @@ use papaya_call::chain::ask::Answer;
 use papaya_call::chain::resizer::{Resize, Resizer};
 use papaya_call::copy_ask::CopyAsk;
 
-/// States that a resizer that begins relies on nothing. The facts on which it relies later stay
+/// States that a resizer relies on nothing when it begins. The facts on which it relies later stay
 /// true, whatever others exchange and whichever tables are made.
 pub fn resizers_rely<K, P>()
     ensures begins { (g : Setting K P) (c : Coding K P) (s : State P) (loaded : LoadedPairs P)

@@ -28,8 +28,8 @@ use papaya_call::ask::At;
 use papaya_call::chain::ask::{Answer, ScanAsk};
 use papaya_call::chain::scanner::{Scan, Scanner};
 
-/// States that a scanner that begins relies on the words as they are. The facts on which it relies
-/// stay true, whatever others exchange and whichever tables are made.
+/// States that a scanner relies on the words as they are when it begins. The facts on which it
+/// relies stay true, whatever others exchange and whichever tables are made.
 pub fn scanners_rely<K, P>()
     ensures begins { (g : Setting K P) (c : Coding K P) (s : State P) (m : K → Option P)
         (scan : Scan) (mode : ResizeMode) (initial number : ℕ) → IsModeOf mode g.blocking

@@ -15,9 +15,9 @@ ghost use Rattle.papaya_json.specs.Undoing.{UndoesItems, UndoesTexts, UndoesValu
 use serde_json::Value;
 use std::hash::Hash;
 
-/// States that a map that is read from the JSON of a map is equal to it if the reading functions
-/// undo the writing ones. `text` and `member` are those of [`crate::to_value::map_to_value`], `key`
-/// and `value` those of [`crate::from_value::map_from_value`].
+/// States that a map read from the JSON of a map is equal to it if the reading functions undo the
+/// writing ones. `text` and `member` are those of [`crate::to_value::map_to_value`], `key` and
+/// `value` those of [`crate::from_value::map_from_value`].
 ///
 /// [`papaya_seq::seq::HashMap::len`] states that no two keys of a map are equal.
 pub fn maps_read_back<K: Hash + Eq, V, S, Z, T, W, R, U>(text: &T, member: &W, key: &R, value: &U)
@@ -36,8 +36,8 @@ where
         → AreEqual K.eq same s.store t.store }
 {}
 
-/// States that a set that is read from the JSON of a set has the same keys if the reading function
-/// `key` undoes the writing one.
+/// States that a set read from the JSON of a set has the same keys if the reading function `key`
+/// undoes the writing one.
 pub fn sets_read_back<K: Hash + Eq, S, Z, T, R>(item: &T, key: &R)
 where
     T: Fn(&K) -> Option<Value>,

@@ -8,8 +8,8 @@ ghost use Rattle.papaya_seq.specs.Map.{Inserts, Removes, value_of};
 
 use std::hash::Hash;
 
-/// States that a key that was inserted has its value, and a key whose entry was removed has none.
-/// Keys that are not equal to it have what they had.
+/// States that an inserted key has its value, and a key whose entry was removed has none. Keys that
+/// are not equal to it have what they had.
 ///
 /// [`crate::seq::HashMap::get`] returns what the finite map has. So a lookup after an insertion of
 /// its key finds the inserted value.

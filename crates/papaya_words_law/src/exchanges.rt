@@ -51,7 +51,7 @@ pub fn claim_or_copy<K, P>()
         → (t x : ℕ) (p : P) → MayClaim g s t x p → MayPlace g s t x p → ⊥ }
 {}
 
-/// States that tables that are made later do not affect what was kept and allowed before them.
+/// States that later tables do not affect what was kept and allowed before them.
 pub fn tables_come_later<K, P>()
     ensures keeps { (g g' : Setting K P) (s : State P) (m : K → Option P)
         → Agrees (IsOn s.first s.next) g g' → IsKeeping g s m → IsKeeping g' s m }
@@ -91,7 +91,7 @@ pub fn tables_of_a_log<K, P>()
         → AllAllowed (setting_in h (es ++ e ∷ [])) start (exchanges (es ++ e ∷ [])) }
 {}
 
-/// States that facts that a caller observed at an earlier point in time still serve.
+/// States that a caller may still use facts that it observed at an earlier point in time.
 pub fn facts_last<K, P>()
     ensures later { (g : Setting K P) → IsLawful g → (fs : List (Exchange P)) (s : State P)
         → AllAllowed g s fs → IsLater g s (run fs s) }
@@ -259,8 +259,8 @@ pub fn hints<K, P>()
         → IsHintOf g c w shut_hint }
 {}
 
-/// States that keys that are searched by their hash have a lawful plan, and a lawful plan gives
-/// lawful settings.
+/// States that searching keys by their hash is a lawful plan, and a lawful plan gives lawful
+/// settings.
 pub fn plans_by_hash<K, P>()
     ensures plan { (blocking : Bool) (chunk_of : ℕ → ℕ) (most : Option ℕ) (key : P → K)
         (same : K → K → Bool) (hash : K → ℕ) → ((k : K) → same k k ≡ true)
