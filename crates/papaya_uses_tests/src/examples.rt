@@ -138,20 +138,14 @@ fn update_or_insert(rt: &impl Wait, map: &Numbers) -> Found {
     Ok((Some(*first), Some(*second)))
 }
 
-fn compute(rt: &impl Wait, map: &Numbers) -> Result<bool, Refused> {
+fn compute(rt: &impl Wait, map: &Numbers) -> Found {
     map.pin().insert(rt, 1, 10)?;
     let computed = map.pin().compute(rt, 1, |entry| match entry {
         Some((_, left)) if *left > 1 => Operation::Insert(left.saturating_sub(1)),
         Some(_) => Operation::Remove,
-        None => Operation::Abort("no entry"),
+        None => Operation::Abort(()),
     })?; // Compute::Updated { old: (&1, &10), new: (&1, &9) }
-    Ok(
-        computed
-            == Compute::Updated {
-                old: (&1, &10),
-                new: (&1, &9),
-            },
-    )
+    Ok(replaced(&computed))
 }
 
 fn remove(rt: &impl Wait, map: &Numbers) -> Found {
@@ -239,6 +233,14 @@ fn seq_get(map: &mut seq::HashMap<u64, u64>) -> Found {
     Ok((value.copied(), absent.copied()))
 }
 
+/// Returns the old value and the new one of an entry that a compute has replaced.
+fn replaced(computed: &Compute<'_, u64, u64, ()>) -> (Option<u64>, Option<u64>) {
+    match computed {
+        Compute::Updated { old, new } => (Some(*old.1), Some(*new.1)),
+        _ => (None, None),
+    }
+}
+
 /// Removes all entries, so that an example begins with an empty map.
 fn emptied<'m>(rt: &impl Wait, map: &'m Numbers) -> Result<&'m Numbers, Refused> {
     map.pin().clear(rt)?;
@@ -277,7 +279,7 @@ fn stores(rt: &(impl Abort + Wait), map: &Numbers) -> Result<(), Refused> {
         update_or_insert(rt, emptied(rt, map)?),
         Ok((Some(1), Some(2))),
     );
-    is(rt, compute(rt, map), Ok(true));
+    is(rt, compute(rt, map), Ok((Some(10), Some(9))));
     Ok(())
 }
 

@@ -93,7 +93,7 @@ impl<'a, K: Hash + Eq + Drop, V: Drop, S: BuildHasher> HashMapRef<'a, K, V, S> {
     /// let computed = map.pin().compute(rt, 1, |entry| match entry {
     ///     Some((_, left)) if *left > 1 => Operation::Insert(left.saturating_sub(1)),
     ///     Some(_) => Operation::Remove,
-    ///     None => Operation::Abort("no entry"),
+    ///     None => Operation::Abort(()),
     /// })?; // Compute::Updated { old: (&1, &10), new: (&1, &9) }
     /// ```
     pub fn compute<R: Wait, T: Drop, F: FnMut(Option<(&'a K, &'a V)>) -> Operation<V, T>>(
