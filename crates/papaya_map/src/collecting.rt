@@ -30,9 +30,10 @@ impl<K: Hash + Eq + Drop, V: Drop, S: BuildHasher> HashMap<K, V, S> {
     ///
     /// # Errors
     ///
-    /// Fails with `Refused::Memory`, `Refused::Capacity` or `Refused::Limit` if the insertion of an
-    /// entry does, as [`HashMapRef::insert_as`](crate::map::HashMapRef::insert_as). The entries
-    /// before that one are then stored, and those after it are not taken from the iterator.
+    /// Fails with `Refused::Memory`, `Refused::Capacity` or `Refused::Limit`, as
+    /// [`HashMapRef::insert_as`](crate::map::HashMapRef::insert_as) does for one of the entries.
+    /// The entries before that one have then been stored, and those after it are not taken from the
+    /// iterator.
     pub fn extend<R: Wait, U: IntoIterator<Item = (K, V)>>(
         &self,
         rt: &R,

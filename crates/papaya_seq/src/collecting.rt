@@ -46,9 +46,9 @@ impl<K: Hash + Eq + Drop, V: Drop, S: BuildHasher> HashMap<K, V, S> {
     ///
     /// # Errors
     ///
-    /// Fails with `Refused::Memory`, `Refused::Capacity` or `Refused::Limit` if the insertion of an
-    /// entry does, as [`HashMap::insert`]. The entries before that one are then in the map, and
-    /// those after it are not taken from the iterator.
+    /// Fails with `Refused::Memory`, `Refused::Capacity` or `Refused::Limit`, as
+    /// [`HashMap::insert`] does for one of the entries. The entries before that one are then in the
+    /// map, and those after it are not taken from the iterator.
     pub fn extend<U: IntoIterator<Item = (K, V)>>(&mut self, iter: U) -> Result<(), Refused>
     where
         U::IntoIter: Drop,

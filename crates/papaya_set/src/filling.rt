@@ -25,9 +25,9 @@ impl<K: Hash + Eq + Drop, S: BuildHasher> HashSet<K, S> {
     ///
     /// # Errors
     ///
-    /// Fails with `Refused::Memory`, `Refused::Capacity` or `Refused::Limit` if the insertion of a
-    /// key does, as [`HashSetRef::insert`](crate::set::HashSetRef::insert). The keys before that
-    /// one are then in the set, and those after it are not taken from the iterator.
+    /// Fails with `Refused::Memory`, `Refused::Capacity` or `Refused::Limit`, as
+    /// [`HashSetRef::insert`](crate::set::HashSetRef::insert) does for one of the keys. The keys
+    /// before that one are then in the set, and those after it are not taken from the iterator.
     pub fn extend<R: Wait, U: IntoIterator<Item = K>>(&self, rt: &R, iter: U) -> Result<(), Refused>
     where
         U::IntoIter: Drop,

@@ -307,9 +307,9 @@ impl<'a, K: Hash + Eq + Drop, S: BuildHasher> HashSetRef<'a, K, S> {
     ///
     /// # Errors
     ///
-    /// Fails with `Refused::Memory` if an allocation fails. `Refused::Capacity` if an arena is full
-    /// or a next table would be too long. `Refused::Limit` if the set has a limit on keys, and as
-    /// many are stored or about to be. The call changes nothing then.
+    /// Fails with `Refused::Memory` if an allocation fails, with `Refused::Capacity` if an arena is
+    /// full or a next table would be too long, and with `Refused::Limit` if the set has a limit on
+    /// keys, and as many are stored or about to be. The call then changes nothing.
     ///
     /// # Examples
     ///

@@ -15,14 +15,15 @@ use std::hash::{BuildHasher, Hash};
 use std::sync::Wait;
 
 impl<'a, K: Hash + Eq, V, S: BuildHasher> Session<'a, K, V, S> {
-    /// Removes the entries for which the closure returns `false`: `retain` of 0.2.5. Each entry
-    /// that it is called with was in the map, in a history that begins with what the session had
-    /// observed. The closure is called for a key's entry again if another call replaced it
-    /// meanwhile, or if everything is copied.
+    /// Removes the entries for which the closure returns `false`: `retain` of 0.2.5. The closure is
+    /// called with entries that were in the map, in a history that begins with what the session had
+    /// observed. It may be called with the entry of a key again if another thread replaces that
+    /// entry meanwhile, or if the call meets a copy to a next table: then it finishes the copy, and
+    /// begins again.
     ///
-    /// Take an entry that the map had after what the session had observed. If the call succeeds, it
-    /// was removed since, by this call or another, or the closure last returned `true` for it. The
-    /// closure may be called for an entry that is stored meanwhile, or not. The session makes one
+    /// If the call succeeds, each entry that the map had after what the session had observed was
+    /// removed since, by this call or another, or the closure last returned `true` for it. The
+    /// closure may be called with an entry that is stored meanwhile, or not. The session makes one
     /// change for each entry that this call removed, right after the closure returned `false` for
     /// it, whether the call fails or not.
     ///
