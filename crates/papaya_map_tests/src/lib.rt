@@ -54,8 +54,6 @@ mod session_calls;
 #[cfg(test)]
 mod session_entries;
 #[cfg(test)]
-mod session_sizes;
-#[cfg(test)]
 mod shared;
 #[cfg(test)]
 mod sizes;

@@ -1,10 +1,13 @@
-//! Tests of the callers in `papaya_uses`, and of the names that `papaya` exports.
+//! Tests of the callers in `papaya_uses`, of the names that `papaya` exports, and of the examples
+//! in the documentation.
 //! It uses `papaya` and `papaya_uses`.
 //! No crate builds on it.
 #![tactic(auto)]
 
 #[cfg(test)]
 mod caches;
+#[cfg(test)]
+mod examples;
 #[cfg(test)]
 mod expect;
 #[cfg(test)]
