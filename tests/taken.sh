@@ -60,6 +60,18 @@ same 'a check of the third begins with these' 'rt: chose --jobs N for papaya_mor
 fn papaya_more::one: proved
 logic=proved' "$(check papaya_more)"
 
+# What the gate has proved here goes along too, as long as nothing changes here.
+rm -rf "$from"/crates/*/out
+same 'the gate proves all three' 0 "$(cd "$from" && rt ci >&2 && echo 0)"
+same 'what it has proved goes along' "$alone" "$(take)"
+same 'a check of the third proves it alone' 'rt: chose --jobs N for papaya_more
+fn papaya_more::one: proved
+logic=proved' "$(check papaya_more)"
+touch "$from/crates/papaya_low/src/lib.rt"
+same 'a file that is newer keeps them back' 'take: 0 of them are proved' "$(take | grep -o 'take: 0 of them are proved')"
+touch "$from"/crates/*/out/rlib/*.rlib/format
+same 'they go along again' "$alone" "$(take)"
+
 # A change there is proved, over and below what was brought.
 sed -i 's/    1$/    0 + 1/' "$to/crates/papaya_low/src/lib.rt"
 same 'a change of a library there' 'rt: chose --jobs N for papaya_low
