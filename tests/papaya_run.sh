@@ -163,7 +163,7 @@ kill -TERM "$script"
 status=0
 wait "$script" || status=$?
 same 'a stopped build has status 130' 130 "$status"
-same 'a stopped build says so' 'papaya-run: stopped; what was proved so far is kept' \
+same 'a stopped build says so' 'papaya-run: stopped; no program was built' \
     "$(tail -1 "$folder/errors")"
 same 'a stopped build leaves no program' 'none' \
     "$([[ -e "$made/crates/papaya_run/out/papaya_run" ]] && echo some || echo none)"

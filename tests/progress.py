@@ -56,6 +56,11 @@ def refused(room, what):
     return len(re.findall(r"^\w+: \S+: refused", text_of(f"{room}/{what}"), re.M))
 
 
+def unproved(room):
+    """How many crates of tests are compiled so far without a proof."""
+    return len([it for it in glob.glob(f"{room}/programs/*_tests") if os.path.isfile(it)])
+
+
 def done(room, every, with_tests):
     """How much of each kind is done, and the crates that are begun."""
     proved = set(re.findall(r"^rt: (\w+)(?: proved$| is kept:)", text_of(f"{room}/proofs"), re.M))
@@ -65,6 +70,7 @@ def done(room, every, with_tests):
     parts = [f"{len(proved)} of {len(every)} crates proved, the tests of {len(tested)} of {len(with_tests)}"]
     for what, files in [("edits", "crates/*/must-fail-together"), ("twins", "tests/twins")]:
         parts.append(f"{refused(room, what)} of {len(glob.glob(f'{TOP}/{files}/*.edit'))} {what} refused")
+    parts.append(f"{unproved(room)} of {len(glob.glob(f'{TOP}/tests/crates/*/'))} crates of unproved tests compiled")
     begun = [it for it in every if it not in proved and os.path.isdir(out[it])]
     begun += [f"{it} (its tests)" for it in with_tests if it in proved and it not in tested]
     return parts, begun

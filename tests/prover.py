@@ -62,19 +62,19 @@ def kit():
     return os.path.dirname(said.split()[-1])
 
 
-def libraries():
-    """What each crate names, from crates.txt."""
-    lines = [line.partition(":") for line in open(f"{TOP}/crates.txt", encoding="utf-8") if not line.startswith("#")]
+def libraries(file):
+    """What each crate names, from crates.txt or a file of the same form."""
+    lines = [line.partition(":") for line in open(f"{TOP}/{file}", encoding="utf-8") if not line.startswith("#")]
     return {name.split()[0]: named.split() for name, _, named in lines if name.strip()}
 
 
-KIT, NAMED, BEGUN = kit(), libraries(), time.time()
+KIT, NAMED, BEGUN = kit(), libraries("crates.txt"), time.time()
 
 
-def below(crate):
+def below(crate, named=None):
     """The crates of this repository on which a crate stands, each after those that it stands on."""
     found = []
-    for name in NAMED[crate]:
+    for name in (named or NAMED)[crate]:
         found += [it for it in [*below(name), name] if it not in found] if name in NAMED else []
     return found
 

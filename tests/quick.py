@@ -1,52 +1,33 @@
 """Runs the tests without any proof, on programs that are compiled for this run alone (unproved.py).
 
-    bash tests/quick.sh
+    bash tests/quick.sh [CRATE..]
 
 The parts: each crate of tests, each program on its files stdin and stdout, the runs of papaya-run, the tests with
-requests for memory refused to them, the programs of examples/, and what the scripts say themselves. Nothing is
-proved, and no wrong body is tried: that is the gate, .ci/run. The last line is `N passed, M failed`.
+requests for memory refused to them, the programs of examples/, and what the scripts say themselves. With names: these
+crates of tests and programs alone. Nothing is proved, and no wrong body is tried: that is the gate, .ci/run. The last
+line is `N passed, M failed`.
 """
 
 import os
-import re
 import resource
 import subprocess
 import sys
-import tempfile
 import threading
 import time
 from concurrent.futures import ThreadPoolExecutor
 
-from prover import KIT, NAMED, TOP, Bad, lanes
-from unproved import compiled, is_program
+from prover import NAMED, TOP, Bad, lanes
+from run_tests import MOST_SECONDS, count, make, ran, run
+from unproved import EVERY, compiled, files_of, is_program
 
-# The memory that one crate takes to compile, in kB, and the seconds that one test may take on a loaded machine.
-EACH, MOST_SECONDS = 1_500_000, 600
-
-TALLY = re.compile(r"(\d+) passed[,;] (\d+) failed")
-
-
-def has_tests(crate):
-    """Has the crate a test in Rust?"""
-    places = [f"{at}/{name}" for at, _, names in os.walk(f"{TOP}/crates/{crate}/src") for name in names]
-    return any("#[test]" in open(it, encoding="utf-8").read() for it in places)
-
-
-def ran(*words, **how):
-    """How many passed and failed by the last tally that a command prints, and what it printed."""
-    how = {"stdin": subprocess.DEVNULL, "cwd": TOP, **how}
-    found = subprocess.run(words, stdout=subprocess.PIPE, stderr=subprocess.STDOUT, text=True, errors="replace", **how)
-    tallies = TALLY.findall(found.stdout)
-    passed, failed = map(int, tallies[-1]) if tallies else (0, 0)
-    # (one that ended badly, or that counted nothing, has failed)
-    return passed, max(failed, int(found.returncode != 0 or not passed)), found.stdout
+# The memory that one crate takes to compile, in kB.
+EACH = 1_500_000
 
 
 def run_tests(room, crate):
     """Compiles and runs the tests of a crate."""
-    words = [f"{KIT}/bin/rattle-test", "--seconds", str(MOST_SECONDS), compiled(crate, room)]
-    with tempfile.TemporaryDirectory(dir=room) as empty:
-        return ran(*words, cwd=empty)
+    make(crate, room)
+    return run(crate, room)
 
 
 def run_program(room, crate):
@@ -97,13 +78,18 @@ class Parts:
 
 def size(crate):
     """How many bytes the sources of a crate have."""
-    return sum(os.path.getsize(f"{at}/{name}") for at, _, names in os.walk(f"{TOP}/crates/{crate}/src") for name in names)
+    return sum(map(os.path.getsize, files_of(crate)))
+
+
+def crates_alone(room, names):
+    """The parts of these crates: first the longest crates of tests, which take longest."""
+    parts = [(it, run_tests, room, it) for it in sorted(filter(count, names), key=lambda it: -size(it))]
+    return parts + [(it, run_program, room, it) for it in filter(is_program, names)]
 
 
 def side_by_side(room):
-    """The parts that go on beside each other: first the longest crates of tests, which take longest."""
-    parts = [(it, run_tests, room, it) for it in sorted(filter(has_tests, NAMED), key=lambda it: -size(it))]
-    parts += [(it, run_program, room, it) for it in filter(is_program, NAMED)]
+    """The parts that go on beside each other."""
+    parts = crates_alone(room, EVERY)
     for name in ("papaya_run.sh", "readme_code.sh", "take.sh", "kit.sh"):
         parts.append((name, ran, "bash", f"{TOP}/tests/{name}"))
     parts.append(("sentences.py", ran, "python3", "-B", f"{TOP}/tests/sentences.py"))
@@ -125,8 +111,12 @@ def do_all(told, parts, at_once):
             it.result()
 
 
-def main(room):
-    first, last, at_once = side_by_side(room), one_by_one(room), lanes(EACH)
+def main(room, *names):
+    if lost := [it for it in names if it not in EVERY]:
+        print(f"quick: there is no crate {' '.join(lost)}", file=sys.stderr)
+        return 2
+    first = crates_alone(room, names) if names else side_by_side(room)
+    last, at_once = [] if names else one_by_one(room), lanes(EACH)
     parts = Parts(len(first) + len(last))
     threading.Thread(target=parts.watch, daemon=True).start()
     parts.say(f"nothing is proved in this run, and {at_once} parts go on at once")
@@ -139,4 +129,4 @@ def main(room):
 
 
 if __name__ == "__main__":
-    sys.exit(main(sys.argv[1]))
+    sys.exit(main(*sys.argv[1:]))

@@ -2,7 +2,8 @@
 
     python3 tests/refused.py [--programs FOLDER] [CRATE..]
 
-What runs is the program of the tests that `rt test` has proved and built, or else that of the folder. Tests of the first kind run once for
+What runs is the program of the tests that stands in the folder (tests/run_tests.py), or else the one that `rt ci` or `rt test` has
+proved and built. Tests of the first kind run once for
 each request that they make, with just that one refused. Those of the second kind run once, and tell what is to
 be refused, while a call of theirs runs: a request for a number of bytes that no test needs is a word (crate
 papaya_testing). By such a word a test also tells which request is to be answered late, when other threads are done.
@@ -197,7 +198,8 @@ def refuse_told(tests):
 
 def program_of(crate, programs):
     """The program of a crate's tests."""
-    return f"{programs}/{crate}" if programs else f"{TOP}/crates/{crate}/out/{crate}_tests"
+    compiled = f"{programs}/{crate}"
+    return compiled if programs and os.path.exists(compiled) else f"{TOP}/crates/{crate}/out/{crate}_tests"
 
 
 def main(words):

@@ -1,5 +1,5 @@
 #!/usr/bin/env bash
-# The libraries that `rt ci` has proved go along with tools/take: the first `rt check` of a user's crate proves that one
+# The libraries that tools/prove has proved go along with tools/take: the first `rt check` of a user's crate proves that one
 # alone. A repository of three crates with a function each stands for this one, so the proofs take a minute or two.
 set -euo pipefail
 top="$(cd "$(dirname "${BASH_SOURCE[0]}")/.." && pwd)"
@@ -48,17 +48,29 @@ check() {
     (cd "$to/crates/$1" && rt check) 2>&1 | grep -E '^(fn |logic=|rt: chose )' | sed 's/ functions=.*//; s/--jobs [0-9]*/--jobs N/'
 }
 
-same 'rt ci proves two of the three' 0 "$(cd "$from" && rt ci papaya >&2 && echo 0)"
-alone='take: rt ci has proved them on this machine, so a first rt check there proves your own crates alone'
+same 'two of the three are proved' 0 "$("$from/tools/prove" --here papaya >&2 && echo 0)"
+alone='take: they are proved on this machine, so a first rt check there proves your own crates alone'
 same 'what it has proved goes along' "$alone" "$(take)"
 same 'a first check proves the crate alone' 'rt: chose --jobs N for shop
 fn shop::one: proved
 logic=proved' "$(check shop)"
-same 'of three crates two are proved' 'take: rt ci has proved 2 of them on this machine, and a first rt check there proves the others, one by one: far over an hour for all;' \
+same 'of three crates two are proved' 'take: 2 of them are proved on this machine, and a first rt check there proves the others, one by one: far over an hour for all;' \
     "$(take papaya_more | head -1)"
 same 'a check of the third begins with these' 'rt: chose --jobs N for papaya_more
 fn papaya_more::one: proved
 logic=proved' "$(check papaya_more)"
+
+# What the gate has proved here goes along too, as long as nothing changes here.
+rm -rf "$from"/crates/*/out
+same 'the gate proves all three' 0 "$(cd "$from" && rt ci >&2 && echo 0)"
+same 'what it has proved goes along' "$alone" "$(take)"
+same 'a check of the third proves it alone' 'rt: chose --jobs N for papaya_more
+fn papaya_more::one: proved
+logic=proved' "$(check papaya_more)"
+touch "$from/crates/papaya_low/src/lib.rt"
+same 'a file that is newer keeps them back' 'take: 0 of them are proved' "$(take | grep -o 'take: 0 of them are proved')"
+touch "$from"/crates/*/out/rlib/*.rlib/format
+same 'they go along again' "$alone" "$(take)"
 
 # A change there is proved, over and below what was brought.
 sed -i 's/    1$/    0 + 1/' "$to/crates/papaya_low/src/lib.rt"

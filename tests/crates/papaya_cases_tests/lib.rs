@@ -1,6 +1,6 @@
 //! Tests that port those of 0.2.5, for both maps and both sets.
 //! It uses `papaya_seq`, `papaya_map` and `papaya_set`.
-//! No crate builds on it.
+//! They are compiled and run, and not proved. No crate builds on it.
 #![tactic(auto)]
 
 #[cfg(test)]

@@ -1,5 +1,5 @@
-// A refused allocation makes nothing, and the same call then succeeds. If the tests run with a
-// failing allocation, as by `rt try --test --fail-alloc N`, a call here meets it.
+// A refused allocation makes nothing, and the same call then succeeds. If `tests/refused.py` refuses a
+// request for memory, a call here meets it.
 use crate::expect::is;
 use crate::json::numbers::{Numbers, digits, number};
 use crate::json::reads::numbers_of;

@@ -1,5 +1,5 @@
-// The numbers of pushes, and the values at them. If the tests run with a failing allocation, as by
-// `rt try --test --fail-alloc N`, a push here meets it.
+// The numbers of pushes, and the values at them. If `tests/refused.py` refuses a request for
+// memory, a push here meets it.
 ghost use Rattle.std.specs.Prelude.{◌≡◌, IfSome};
 ghost use Rattle.boxcar.specs.Table.{Shows};
 

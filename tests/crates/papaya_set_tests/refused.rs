@@ -1,5 +1,5 @@
-// A refused allocation leaves the set as it was. If the tests run with a failing allocation, as by
-// `rt try --test --fail-alloc N`, a call here meets it.
+// A refused allocation leaves the set as it was. If `tests/refused.py` refuses a request for
+// memory, a call here meets it.
 use crate::expect::is_at;
 use papaya_set::seq::HashSet;
 use papaya_testing::times::{TOGETHER, Times};

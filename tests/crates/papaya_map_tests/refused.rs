@@ -1,5 +1,5 @@
-// A refused allocation leaves the map as it was. If the tests run with a failing allocation, as by
-// `rt try --test --fail-alloc N`, a call here meets it.
+// A refused allocation leaves the map as it was. If `tests/refused.py` refuses a request for
+// memory, a call here meets it.
 use crate::answers::Answer;
 use crate::numbers::Numbers;
 use crate::shared::{Making, Turn, runs};

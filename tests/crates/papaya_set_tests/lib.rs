@@ -1,6 +1,6 @@
 //! Tests of sets, and of maps and sets that are reclaimed while threads go on.
 //! It uses `papaya_set`, `papaya_reclaiming` and the helpers of `papaya_testing`.
-//! No crate builds on it.
+//! They are compiled and run, and not proved. No crate builds on it.
 #![tactic(auto)]
 
 #[cfg(test)]

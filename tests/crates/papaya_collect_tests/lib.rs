@@ -1,6 +1,6 @@
 //! Tests of calls that take or return collections, and of JSON.
 //! It uses `papaya_json`, both maps and both sets.
-//! No crate builds on it.
+//! They are compiled and run, and not proved. No crate builds on it.
 #![tactic(auto)]
 
 #[cfg(test)]
