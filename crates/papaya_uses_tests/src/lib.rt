@@ -1,4 +1,5 @@
-//! Tests of the callers in `papaya_uses`, and of the names that `papaya` exports.
+//! Tests of the callers in `papaya_uses`, of the names that `papaya` exports, and of public calls
+//! at numbers.
 //! It uses `papaya` and `papaya_uses`.
 //! No crate builds on it.
 #![tactic(auto)]
@@ -6,11 +7,17 @@
 #[cfg(test)]
 mod caches;
 #[cfg(test)]
+mod collections;
+#[cfg(test)]
 mod expect;
 #[cfg(test)]
 mod named;
 #[cfg(test)]
+mod plain;
+#[cfg(test)]
 mod servers;
+#[cfg(test)]
+mod sessions;
 #[cfg(test)]
 mod texts;
 #[cfg(test)]
