@@ -1,8 +1,9 @@
 #!/usr/bin/env bash
 # The documents quote the sources word for word: the Rust code of README.md stands in papaya_uses, where it is
-# proved, that of docs/GUIDE.md in any crate, the definitions of docs/GUIDE.md and docs/DEFINITIONS.md in specs/,
-# and the calls of docs/SIGNATURES.md in the sources. README and CHANGELOG name the release and the kit of VERSION.
-# Links between documents find their headings (links.py).
+# proved, that of docs/GUIDE.md in any crate or its tests, the definitions of docs/GUIDE.md and docs/DEFINITIONS.md in specs/,
+# and the calls of docs/SIGNATURES.md in the sources. Examples in the comments of calls stand in papaya_uses_tests,
+# which runs them (quoted_examples.py). README and CHANGELOG name the release and the kit of VERSION. Links between
+# documents find their headings (links.py).
 set -euo pipefail
 cd "$(dirname "${BASH_SOURCE[0]}")/.."
 
@@ -44,12 +45,14 @@ stands() {
 }
 
 quoted README.md rust crates/papaya_uses/src/*.rt
-mapfile -t sources < <(find crates/*/src -name '*.rt')
+mapfile -t sources < <(find crates/*/src tests/crates -name '*.r[ts]')
 quoted docs/GUIDE.md rust "${sources[@]}"
 quoted docs/GUIDE.md antt crates/papaya_uses/specs/*.antt
 quoted docs/DEFINITIONS.md text crates/papaya_*/specs/*.antt
 
 stands 'docs/SIGNATURES.md and docs/CONTRACTS.md' "$(tools/signatures --check)" 'signatures: 2 passed, 0 failed'
+stands 'examples in comments' "$(python3 -B tests/quoted_examples.py 2>&1 | sed 's/[0-9]* passed/all passed/')" \
+    'quoted_examples.py: all passed, 0 failed'
 stands 'links between documents' "$(python3 -B tests/links.py 2>&1 | sed 's/[0-9]* passed/all passed/')" \
     'links.py: all passed, 0 failed'
 version="$(sed -n 's/^version //p' VERSION)"

@@ -1,4 +1,4 @@
--- What a caller's contracts and proofs cite, in one place:
+-- Re-exports the definitions that callers' contracts and proofs cite, as
 -- `use Rattle.papaya.specs.Threads.{IsPut}`.
 pub mod Seq
 pub mod Threads

@@ -1,4 +1,5 @@
--- What the contracts of the map for one caller speak of: the finite map that a store means.
+-- Re-exports the definitions that the contracts of the map for one caller cite. They are about the
+-- finite map that a store means.
 pub use Rattle.papaya_words_law.specs.Content.{lookup}
 pub use Rattle.papaya_core_store.specs.Store.{StoreState, Stored}
 pub use Rattle.papaya_core_timeline.specs.Content.{content, map_in}

@@ -1,5 +1,6 @@
--- What the contracts of the map that threads share speak of: its history, and what a call answers
--- and does. The first seven lines are enough for `get`, `insert` and plain calls.
+-- Re-exports the definitions that the contracts of the shared map cite. They are about the map's
+-- history, and about what a call returns and changes. The first seven lines are enough for `get`,
+-- `insert` and plain calls.
 pub use Rattle.papaya_map_book.specs.Logs.{Member, Stored}
 pub use Rattle.papaya_map_lookup.specs.History.{AllLegalChanges, Change, IsLegalHistory, Makes, changed, key_of, replay, replay_from}
 pub use Rattle.papaya_map_lookup.specs.Answers.{IsAnsweredBetween, IsPairAnsweredBetween}

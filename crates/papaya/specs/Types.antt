@@ -1,4 +1,4 @@
--- The types that a caller's proofs name, and their variants.
+-- Re-exports the types that callers' proofs name, and the variants of these types.
 pub use Rattle.papaya_words.specs.declared.refused.Refused.{Refused}
 pub use Rattle.papaya_words.specs.declared.refused.Refused.TheVariants.{Memory, Capacity, WrongGuard, RemoveNothing, ZeroChunk, Shape, KeyClash, Item, Limit}
 pub use Rattle.papaya_words.specs.declared.resize_mode.ResizeMode.{ResizeMode}

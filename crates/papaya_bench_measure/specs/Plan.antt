@@ -1,9 +1,9 @@
--- What a workload does to a map.
+-- The effect of a workload on a map.
 use Rattle.std.specs.Prelude.{Bool, true, false}
 use Rattle.papaya_bench_measure.specs.declared.plan.Workload.{Workload}
 use Rattle.papaya_bench_measure.specs.declared.plan.Workload.TheVariants as workload
 
--- a round takes away what a further round needs: absent keys, or free slots
+-- Whether a round uses up what the next round needs: absent keys or free slots.
 abbrev pub uses_up : Workload → Bool
 uses_up workload.GetHit = false
 uses_up workload.GetMiss = false

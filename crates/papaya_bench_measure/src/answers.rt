@@ -15,7 +15,11 @@ pub fn weight(answer: Option<&u64>) -> u64
     }
 }
 
-/// Fails unless the other sums are equal to the first.
+/// Checks that the other sums are equal to the first.
+///
+/// # Errors
+///
+/// Fails with `Failure::Disagreement` if one of them is not.
 pub fn compare(first: u64, others: &[u64]) -> Result<(), Failure>
     ensures { MatchResult result (λ _. All (λ sum. sum ≡ first) others.now)
         (λ failure. (failure ≡ Failure.Disagreement) × ¬ (All (λ sum. sum ≡ first) others.now)) }

@@ -1,4 +1,4 @@
-//! The workloads of `papaya-bench` on each map: plans, comparisons of results, and times.
+//! The library of `papaya-bench`: plans of workloads, comparisons of the maps' results, and times.
 //! It uses `papaya_seq`, `papaya_map`, `papaya_set` and `papaya_reclaiming`.
 //! `papaya_bench` is the program, and `papaya_run_tests` tests it.
 #![tactic(auto)]

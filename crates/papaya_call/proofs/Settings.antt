@@ -1,4 +1,4 @@
--- An answer leaves how the map grows, and its initial capacity.
+-- An answer changes neither how the map grows nor its initial capacity.
 use Rattle.std.proofs.Common.{◌≡◌, refl}
 use Rattle.papaya_call.specs.declared.ask.Answer.{Answer}
 use Rattle.papaya_call.specs.declared.ask.Answer.TheVariants.{Word, Exchanged, Found, Yes, Op, Size, Made, Ok, Refused}

@@ -1,4 +1,4 @@
--- The chunk from which on a table is copied.
+-- The chunk at which the copy of a table begins.
 use Rattle.std.proofs.Common.{ℕ, ◌*◌, ◌%◌, ◌<◌, ◌≤◌, ◌^◌, arith}
 use Rattle.std.proofs.Math.Nat.{le-mul_of_pos_right, mod-lt}
 use Rattle.std.proofs.Math.Pow.{pow_mono}

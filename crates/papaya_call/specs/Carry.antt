@@ -1,5 +1,5 @@
--- A copier puts the pair of a marked word into a table: what it asks, and where each answer
--- leads it.
+-- The carry of the pair of a marked word into another table: its asks, and the state after each
+-- answer.
 use Rattle.std.specs.Prelude.{ℕ, ◌==◌, nat_lt, Bool, true, false, if◌then◌else◌, Option, Some, None}
 use Rattle.papaya_words.specs.Word.{kind_of, pair_of, hint_of, may_hold, live_word}
 use Rattle.papaya_words.specs.declared.refused.Refused.{Refused}
@@ -24,7 +24,7 @@ use Rattle.papaya_call.specs.Link as links
 use Rattle.papaya_call.specs.Link.{IsStandingLink, link_ask, link_kind, follows}
 use Rattle.papaya_call.specs.Search.{IsWithin, first_place, next_place}
 
--- it stands within its table
+-- the carry is within its table
 abbrev pub IsStandingCarry : Carry → Type 0
 IsStandingCarry (Looking hash at) = IsWithin at
 IsStandingCarry (Reading hash at) = IsWithin at
@@ -38,7 +38,7 @@ abbrev pub IsStandingCarried : Carried → Type 0
 IsStandingCarried (On carry) = IsStandingCarry carry
 IsStandingCarried _ = Unit {0}
 
--- what it asks, for the pair of this marked word
+-- its ask, while it carries the pair of the word `marked`
 abbrev pub carry_ask : Carry → (marked : ℕ) → CopyAsk
 carry_ask (Hashing table) marked = HashOf (pair_of marked)
 carry_ask (Sizing hash table) marked = SizeOf table
@@ -52,33 +52,34 @@ carry_ask (Passing hash table) marked = Load (Next table)
 carry_ask (Linking hash link) marked = link_ask link
 carry_ask (Aborting table) marked = Exchange (Aborted table) 0 1
 
--- the kind of the exchange that it asks for
+-- the kind of the exchange that it asks for, if it asks for one
 abbrev pub carry_kind : Carry → Option StepKind
 carry_kind (Placing hash at) = Some kinds.Place
 carry_kind (Linking hash link) = link_kind link
 carry_kind (Aborting table) = Some kinds.Abort
 carry_kind _ = None
 
--- the table that one in the making is to follow, 0 where none is made
+-- the table after which a table is being made, 0 if none is
 abbrev pub carry_follows : Carry → ℕ
 carry_follows (Linking hash link) = follows link
 carry_follows _ = 0
 
--- no place is left: without blocking the next table is looked up, else this one is given up
+-- the state if no place is left: without blocking the next table is looked up, and with blocking
+-- this table is aborted
 abbrev pub fills : (hash table : ℕ) → ResizeMode → Carry
 fills hash table (Incremental chunk) = Passing hash table
 fills hash table Blocking = Aborting table
 
--- the pair's key is not at this place
+-- the state if the pair's key is not at this place
 abbrev pub goes_on : (hash : ℕ) → Place → ResizeMode → Carried
 goes_on hash at mode = if nat_lt at.probe.len at.limit then On (Looking hash (next_place at))
     else On (fills hash at.table mode)
 
--- the hint of a place: where it says nothing, or is the key's, the word is loaded
+-- the state after the hint of a place: the word is loaded if the hint says nothing or is the key's
 abbrev pub hinted : (hash : ℕ) → Place → ResizeMode → (hint : ℕ) → Carried
 hinted hash at mode hint = if may_hold hint hash then On (Reading hash at) else goes_on hash at mode
 
--- what a word of this kind tells: one of the pair's key is met whatever its kind, Buried too
+-- the state after a word of this kind: each pair is compared, even that of a Buried word
 abbrev pub look_at : Kind → (hash : ℕ) → Place → ResizeMode → ℕ → Carried
 look_at word_kinds.Empty hash at mode word = On (Placing hash at)
 look_at word_kinds.Closed hash at mode word = goes_on hash at mode
@@ -88,18 +89,18 @@ look_at _ hash at mode word = On (Comparing hash at word)
 abbrev pub look : (hash : ℕ) → Place → ResizeMode → ℕ → Carried
 look hash at mode word = look_at (kind_of word) hash at mode word
 
--- the next table has this number; where there is none it is made
+-- the state after the number of the next table was loaded: if it is 0, a next table is made
 abbrev pub passed : (hash table next : ℕ) → Carry
 passed hash table next = if next == 0 then Linking hash (Link_sizing table table true)
     else Sizing hash next
 
--- the making of the next table leads here
+-- the state after a step of the making of the next table
 abbrev pub carried_on : (hash : ℕ) → Linked → Carried
 carried_on hash (Link_on link) = On (Linking hash link)
 carried_on hash (Table table) = On (Sizing hash table)
 carried_on hash (Link_refused refused) = Was_refused refused
 
--- where an answer leads; one that was not asked for leads nowhere
+-- the state after an answer; an answer that was not asked for changes nothing
 abbrev pub at_hash : Carry → ℕ → Carry
 at_hash (Hashing table) hash = Sizing hash table
 at_hash carry hash = carry

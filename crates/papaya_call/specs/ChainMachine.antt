@@ -1,4 +1,4 @@
--- A call over a chain of tables: what it asks, and where each answer leads it.
+-- A call over a chain of tables: its asks, and the state after each answer.
 use Rattle.std.specs.Prelude.{ℕ, ◌==◌, Bool, true, false, if◌then◌else◌, Option}
 use Rattle.std.specs.Int.{IsPowerOfTwo}
 use Rattle.papaya_words.specs.Mode.{IsChunked}
@@ -46,7 +46,7 @@ use Rattle.papaya_call.specs.declared.chain.machine.Machine.{Machine}
 use Rattle.papaya_call.specs.declared.chain.machine.Phase.{Phase}
 use Rattle.papaya_call.specs.declared.chain.machine.Phase.TheVariants.{Calling, Linking, Copying as Copying_root}
 
--- a call that begins
+-- the machine of a call that begins
 abbrev pub started : Task → (hash : ℕ) → ResizeMode → (initial number : ℕ) → (limit : Option ℕ)
     → Machine
 started task hash mode initial number limit = record {
@@ -56,7 +56,7 @@ started task hash mode initial number limit = record {
   phase = Calling;
 }
 
--- what is asked
+-- its ask
 abbrev pub asks_in : Call_machine → Phase → Ask
 asks_in call Calling = asks.Call (calls.ask_of call)
 asks_in call (Linking link) = asks.Copy (link_ask link)
@@ -65,7 +65,7 @@ asks_in call (Copying_root copying) = asks.Copy (copying_ask copying)
 abbrev pub ask_of : Machine → Ask
 ask_of m = asks_in m.call m.phase
 
--- the kind of the exchange that is asked for
+-- the kind of the exchange that it asks for, if it asks for one
 abbrev pub kind_in : Call_machine → Phase → Option StepKind
 kind_in call Calling = calls.kind_of_ask call
 kind_in call (Linking link) = link_kind link
@@ -74,7 +74,7 @@ kind_in call (Copying_root copying) = copying_kind copying
 abbrev pub kind_of_ask : Machine → Option StepKind
 kind_of_ask m = kind_in m.call m.phase
 
--- the table that one in the making is to follow; 0 for a first table, or where none is made
+-- the table after which a table is being made, 0 for a first table or if none is
 abbrev pub follows_in : Phase → ℕ
 follows_in Calling = 0
 follows_in (Linking link) = follows link
@@ -83,38 +83,39 @@ follows_in (Copying_root copying) = copying_follows copying
 abbrev pub follows_of : Machine → ℕ
 follows_of m = follows_in m.phase
 
--- the call goes on for itself
+-- the machine after an answer to its call
 abbrev pub stepped : Machine → Call_answer → Machine
 stepped m answer = record m { call = calls.after m.call answer }
 
--- the call looks for its key in this table
+-- the machine whose call begins to search this table
 abbrev pub enters : Machine → (table : ℕ) → Machine
 enters m table = record m {
   call = record m.call { state = Searching (Sizing table) };
   phase = Calling;
 }
 
--- the call is told of the root, as one that begins
+-- the machine whose call begins again, with this root
 abbrev pub begins_anew : Machine → (root : ℕ) → Machine
 begins_anew m root = record m {
   call = calls.after (record m.call { state = At_root }) (Word_read root);
   phase = Calling;
 }
 
--- a table could not be made, and the call ends with that
+-- the machine whose call ends, refused because a table could not be made
 abbrev pub refuses : Machine → Refused → Machine
 refuses m refused = record m {
   call = record m.call { state = Ended (Reply_refused refused) };
   phase = Calling;
 }
 
--- what a call in this state copies for, before it goes on in the next table: the slot in which it
+-- what a call in this state copies for before it goes on in the next table: the slot in which it
 -- met its key's pair, or no slot of its own
 abbrev pub aim_for : State → (next : ℕ) → Aim
 aim_for (Growing (Pair_at t x)) next = aims.Settle (record { from = t; index = x; to = next })
 aim_for _ next = aims.Search next
 
--- a call copies one chunk, and each slot in which it met its key's pair
+-- the machine of a call that goes on: it copies one chunk first, and then each slot in which it met
+-- its key's pair
 abbrev pub goes_on : Machine → (helped : Bool) → Aim → (next : ℕ) → Machine
 goes_on m false aim next = record m {
   helped = true;
@@ -126,8 +127,8 @@ goes_on m true _ next = enters m next
 abbrev pub onward : Machine → (next : ℕ) → Machine
 onward m next = goes_on m m.helped (aim_for m.call.state next) next
 
--- the next table is needed, and has this number, or there is none; with blocking all of this table
--- is copied first, to whichever table takes it
+-- the machine if the table `next` after its table is needed: without blocking that table is made if
+-- there is none; with blocking all of this table is copied first, to whichever table takes it
 abbrev pub grows_as : Machine → ResizeMode → Need → (next : ℕ) → Machine
 grows_as m Blocking need next = record m {
   phase = Copying_root (Stepping (aims.All (needed need)) AtRoot);
@@ -139,7 +140,8 @@ grows_as m (Incremental chunk) need next = if next == 0
 abbrev pub grows : Machine → Need → (next : ℕ) → Machine
 grows m need next = grows_as m m.call.mode need next
 
--- a call that looks for its key goes on in the next table; one that may change the map helps first
+-- the machine of a call that leaves a table: a lookup goes on in the next one, and a call that may
+-- change the map helps with the copy first
 abbrev pub leaves : Machine → Task → (next : ℕ) → Machine
 leaves m Get next = stepped m (Word_read next)
 leaves m _ next = if next == 0 then stepped m (Word_read next) else onward m next
@@ -149,12 +151,12 @@ told_next m (Leaving t) next = leaves m m.call.task next
 told_next m (Growing need) next = grows m need next
 told_next m _ next = stepped m (Word_read next)
 
--- the call was answered
+-- the machine after an answer to its call, if it is not set aside
 abbrev pub called : Machine → Call_answer → Machine
 called m (Word_read word) = told_next m m.call.state word
 called m answer = stepped m answer
 
--- the making of a table, after an answer
+-- the making of a table after an answer
 abbrev pub link_called : Link → Call_answer → Linked
 link_called link (Size slots limit) = linked_to.On (making.at_size link slots)
 link_called link (Made_number n) = linked_to.On (making.at_made link n)
@@ -168,7 +170,7 @@ link_after link mode initial (answers.Call answer) = link_called link answer
 link_after link mode initial (answers.Hash hash) = linked_to.On link
 link_after link mode initial (answers.Count count) = making.at_count link mode count initial
 
--- the copy of the root, after an answer
+-- the copy of the root after an answer
 abbrev pub copying_called : Copying → ResizeMode → (number : ℕ) → Call_answer → Copied
 copying_called copying mode number (Word_read word) = copyings.at_word copying mode word
 copying_called copying mode number Exchanged = copyings.at_exchanged copying mode
@@ -189,13 +191,13 @@ copying_after copying mode initial number (answers.Hash hash) =
 copying_after copying mode initial number (answers.Count count) =
     copyings.at_count copying mode count initial
 
--- the making of the next table leads here
+-- the machine after a step of the making of the next table
 abbrev pub after_linked : Machine → Linked → Machine
 after_linked m (linked_to.On link) = record m { phase = Linking link }
 after_linked m (linked_to.Table table) = onward m table
 after_linked m (linked_to.Refused refused) = refuses m refused
 
--- the copy of the root leads here
+-- the machine after a step of the copy of the root
 abbrev pub after_copied : Machine → Copied → Machine
 after_copied m (copied_to.On copying) = record m { phase = Copying_root copying }
 after_copied m (copied_to.Search table) = enters m table
@@ -219,7 +221,7 @@ after_in m answer (Copying_root copying) =
 abbrev pub after : Machine → Answer → Machine
 after m answer = after_in m answer m.phase
 
--- what is made or copied stands within its tables
+-- what is made or copied is within its tables
 abbrev pub IsStandingPhase : Phase → Type 0
 IsStandingPhase Calling = Unit {0}
 IsStandingPhase (Linking link) = IsStandingLink link
@@ -236,7 +238,7 @@ abbrev pub IsFit : Answer → Type 0
 IsFit (answers.Call answer) = calls.IsFit answer
 IsFit _ = Unit {0}
 
--- a table that is asked for has a size of tables
+-- if the ask is to make a table, it has a size that tables may have
 abbrev pub IsFitAsk : Ask → Type 0
 IsFitAsk (asks.Call ask) = calls.IsFitAsk ask
 IsFitAsk (asks.Copy ask) = IsFitCopyAsk ask

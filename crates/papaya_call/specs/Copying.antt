@@ -1,4 +1,4 @@
--- The copy of the root, for what a call wants of it: what it asks, and where each answer leads it.
+-- The copy of the root on behalf of a call: its asks, and the state after each answer.
 use Rattle.std.specs.Prelude.{ℕ, ◌==◌, ◌||◌, Bool, if◌then◌else◌, Option}
 use Rattle.papaya_words.specs.declared.refused.Refused.{Refused}
 use Rattle.papaya_words.specs.declared.resize_mode.ResizeMode.{ResizeMode}
@@ -24,7 +24,7 @@ use Rattle.papaya_call.specs.Settle.{IsStandingSettle, settle_ask, settle_follow
 use Rattle.papaya_call.specs.Step as steps
 use Rattle.papaya_call.specs.Step.{IsStandingStep, step_ask, step_follows, step_kind}
 
--- it stands within its chunk
+-- the copy is within its chunk
 abbrev pub IsStandingCopying : Copying → Type 0
 IsStandingCopying (Stepping aim step) = IsStandingStep step
 IsStandingCopying (Lone slot settle) = IsStandingSettle settle
@@ -33,50 +33,51 @@ abbrev pub IsStandingCopied : Copied → Type 0
 IsStandingCopied (On copying) = IsStandingCopying copying
 IsStandingCopied _ = Unit {0}
 
--- what it asks
+-- its ask
 abbrev pub copying_ask : Copying → CopyAsk
 copying_ask (Stepping aim step) = step_ask step
 copying_ask (Lone slot settle) = settle_ask settle slot
 
--- the kind of the exchange that it asks for
+-- the kind of the exchange that it asks for, if it asks for one
 abbrev pub copying_kind : Copying → Option StepKind
 copying_kind (Stepping aim step) = step_kind step
 copying_kind (Lone slot settle) = settle_kind settle
 
--- the table that one in the making is to follow, 0 where none is made
+-- the table after which a table is being made, 0 if none is
 abbrev pub copying_follows : Copying → ℕ
 copying_follows (Stepping aim step) = step_follows step
 copying_follows (Lone slot settle) = settle_follows settle
 
--- what was to be copied is copied
+-- the state once what was to be copied is copied
 abbrev pub over : Aim → Copied
 over (aims.Search table) = Search table
 over (aims.Settle slot) = On (Lone slot Looking)
 over aims.Chunk = Chunk
 over (aims.All met) = On (Stepping (aims.All met) AtRoot)
 
--- a chunk was copied, and this one was not yet: who copies all copies it too
+-- the state if a chunk was copied and `chunk` was not yet: only a copy of all goes on with that one
 abbrev pub further : Aim → Chunk_of → Copied
 further (aims.All met) chunk = On (Stepping (aims.All met) (Settling chunk Looking))
 further aim chunk = over aim
 
--- the root has no next table
+-- the state if the root has no next table
 abbrev pub last : Aim → ℕ → Copied
 last (aims.All met) table = Root table
 last aim table = over aim
 
--- all of this root is to be copied; with blocking, where another one was met before, that one is
+-- the state if all of this root is to be copied; with blocking, a copy that began at another root
+-- is over
 abbrev pub all_of : (met : ℕ) → ResizeMode → (root : ℕ) → Copied
 all_of met (Incremental chunk) root = On (Stepping (aims.All met) (Aiming root root))
 all_of met Blocking root = if met == 0 || met == root
     then On (Stepping (aims.All root) (Aiming root root)) else Root root
 
--- the root is this table, or there is none
+-- the state after the root was loaded, which is 0 if there is none
 abbrev pub at_root : Aim → ResizeMode → ℕ → Copied
 at_root (aims.All met) mode root = if root == 0 then Root 0 else all_of met mode root
 at_root aim mode root = if root == 0 then over aim else On (Stepping aim (Aiming root root))
 
--- the copy of a chunk leads here
+-- the state after a step of the copy of a chunk
 abbrev pub leads : Aim → ResizeMode → Stepped → Copied
 leads aim mode (Step_on step) = On (Stepping aim step)
 leads aim mode (Step_root root) = at_root aim mode root
@@ -85,14 +86,14 @@ leads aim mode (Further chunk) = further aim chunk
 leads aim mode Over = over aim
 leads aim mode (Step_refused refused) = Was_refused refused
 
--- the copy of the one slot leads here
+-- the state after a step of the copy of the one slot
 abbrev pub lone : SlotToCopy → Settled → Copied
 lone slot (Settle_on settle) = On (Lone slot settle)
 lone slot Was_settled = Search slot.to
 lone slot (Unfit table) = Search slot.to
 lone slot (Settle_refused refused) = Was_refused refused
 
--- where an answer leads; one that was not asked for leads nowhere
+-- the state after an answer; an answer that was not asked for changes nothing
 abbrev pub at_hash : Copying → ℕ → Copying
 at_hash (Stepping aim step) hash = Stepping aim (steps.at_hash step hash)
 at_hash (Lone slot settle) hash = Lone slot (settles.at_hash settle hash)

@@ -1,4 +1,4 @@
--- The making of the table after another: what it asks, and where each answer leads it.
+-- The making of the table after another one: its asks, and the state after each answer.
 use Rattle.std.specs.Prelude.{ℕ, ◌≤◌, ◌^◌, ◌==◌, Bool, nat_le, max, if◌then◌else◌, Option, Some, None}
 use Rattle.std.specs.Int.{IsPowerOfTwo}
 use Rattle.papaya_words.specs.Chunks.{chunk_count, chunk_len}
@@ -17,12 +17,12 @@ use Rattle.papaya_call.specs.declared.copy.link.Linked.{Linked}
 use Rattle.papaya_call.specs.declared.copy.link.Linked.TheVariants.{On, Table, Refused as Was_refused}
 use Rattle.papaya_call.specs.Search.{IsSize}
 
--- a table that is asked for has a size of tables
+-- if the ask is to make a table, it has a size that tables may have
 abbrev pub IsFitCopyAsk : CopyAsk → Type 0
 IsFitCopyAsk (MakeTable slots limit chunks) = IsSize slots limit
 IsFitCopyAsk _ = Unit {0}
 
--- the sizes that it goes by are sizes of tables
+-- the lengths in this state are lengths that tables may have
 abbrev pub IsStandingLink : Link → Type 0
 IsStandingLink (Measuring after copied unfit len) = IsPowerOfTwo len × (len ≤ 2 ^ 32)
 IsStandingLink (Counting after unfit len copied) = IsPowerOfTwo len × (len ≤ 2 ^ 32)
@@ -33,7 +33,7 @@ abbrev pub IsStandingLinked : Linked → Type 0
 IsStandingLinked (On link) = IsStandingLink link
 IsStandingLinked _ = Unit {0}
 
--- what it asks
+-- its ask
 abbrev pub link_ask : Link → CopyAsk
 link_ask (Sizing after copied unfit) = SizeOf after
 link_ask (Measuring after copied unfit len) = SizeOf copied
@@ -41,7 +41,7 @@ link_ask (Counting after unfit len copied) = Count
 link_ask (Making after len limit chunks) = MakeTable len limit chunks
 link_ask (Linking after table chunks) = Exchange (Next after) 0 table
 
--- the kind of the exchange that it asks for
+-- the kind of the exchange that it asks for, if it asks for one
 abbrev pub link_kind : Link → Option StepKind
 link_kind (Linking after table chunks) = Some kinds.Link
 link_kind _ = None
@@ -54,14 +54,15 @@ follows (Counting after unfit len copied) = after
 follows (Making after len limit chunks) = after
 follows (Linking after table chunks) = after
 
--- where an answer leads; one that was not asked for leads nowhere
+-- the state after an answer; an answer that was not asked for changes nothing
 abbrev pub at_size : Link → (slots : ℕ) → Link
 at_size (Sizing after copied unfit) slots = if copied == after
     then Counting after unfit slots slots else Measuring after copied unfit slots
 at_size (Measuring after copied unfit len) slots = Counting after unfit len slots
 at_size link slots = link
 
--- the table to be made, after one of `before` slots, to which a table of so many chunks is copied
+-- the state that makes a table of `asked` slots, or the least length, after one of `before` slots;
+-- it has words for `chunks` chunks of the table that is copied to it
 abbrev pub making : (after before : ℕ) (unfit : Bool) (chunks asked : ℕ) → Link
 making after before unfit chunks asked = Making after (max asked 8)
     (limit_after (max asked 8) before unfit) chunks
@@ -87,7 +88,7 @@ abbrev pub at_exchanged : Link → Linked
 at_exchanged (Linking after table chunks) = Table table
 at_exchanged link = On link
 
--- another table was put in before
+-- the state after another caller has linked a table first
 abbrev pub at_found : Link → ℕ → Linked
 at_found (Linking after table chunks) word = Table word
 at_found link word = On link

@@ -1,4 +1,4 @@
--- The machine of a call: what it asks, and where each answer leads it.
+-- The machine of a call: its asks, and the state after each answer.
 use Rattle.std.specs.Prelude.{ℕ, ◌<◌, ◌^◌, ◌==◌, Bool, true, false, if◌then◌else◌, Option, Some, None}
 use Rattle.std.specs.Prelude.{pos, negsuc}
 use Rattle.papaya_words.specs.Word.{kind_of, pair_of}
@@ -54,7 +54,7 @@ use Rattle.papaya_call.specs.Remove.{removal_ask, show_ask}
 use Rattle.papaya_call.specs.Made.{IsMade, answered, grown, nothing_made, number_kind, pair_ask, taken, told}
 use Rattle.papaya_call.specs.Write.{claimed_by, note_ask, put_ask, serves, write_ask, write_grown, write_kind}
 
--- a call that begins
+-- the machine of a call that begins
 abbrev pub started : Task → (hash : ℕ) → ResizeMode → (initial : ℕ) → (limit : Option ℕ)
     → Machine
 started task hash mode initial limit = record {
@@ -72,7 +72,7 @@ abbrev pub needed : Need → ℕ
 needed (Room table) = table
 needed (Pair_at table x) = table
 
--- what a machine asks
+-- the ask of a machine
 abbrev pub asks : Made → ℕ → State → Ask
 asks made hash AtRoot = Load Root
 asks made hash Making = MakeTable FIRST_TABLE_LEN FIRST_TABLE_LIMIT 0
@@ -94,7 +94,7 @@ asks made hash (Ended reply) = Done reply
 abbrev pub ask_of : Machine → Ask
 ask_of m = asks m.made m.hash m.state
 
--- the kind of the exchange that it asks for
+-- the kind of the exchange that it asks for, if it asks for one
 abbrev pub served_kind : Option ℕ → Made → Write → Option StepKind
 served_kind None made write = number_kind made.number
 served_kind (Some n) made write = Some (write_kind write)
@@ -110,12 +110,12 @@ kind_asked made _ = None
 abbrev pub kind_of_ask : Machine → Option StepKind
 kind_of_ask m = kind_asked m.made m.state
 
--- the key is absent, and a pair of it would stand there
+-- the state if the key is absent, and a pair of it would go to `gap`
 abbrev pub absent : Task → Option ℕ → Gap → State
 absent Compute fill gap = lacks fill gap
 absent _ fill gap = Ended Absent
 
--- the root is this table, or there is none
+-- the state after the root was loaded, which is 0 if there is none
 abbrev pub at_root : Task → Option ℕ → ℕ → State
 at_root Get fill word = if word == 0 then absent Get fill NoRoot else Searching (Sizing word)
 at_root RemoveIf fill word = if word == 0 then absent RemoveIf fill NoRoot
@@ -124,37 +124,38 @@ at_root Compute fill word = if word == 0 then absent Compute fill NoRoot
     else Searching (Sizing word)
 at_root (Insert replace) fill word = if word == 0 then Making else Searching (Sizing word)
 
--- the next table has this number, or there is none
+-- the state after the number of the next table was loaded, which is 0 if there is none
 abbrev pub left : Task → Option ℕ → (table word : ℕ) → State
 left task fill table word = if word == 0 then absent task fill (After table)
     else Searching (Sizing word)
 
--- a call that looks for its key goes past a table
+-- the state if the search for the key goes past a table
 abbrev pub passes : Task → ResizeMode → Option ℕ → ℕ → State
 passes task (Incremental chunk) fill table = Leaving table
 passes task Blocking fill table = absent task fill (After table)
 
--- a pair with a matching key that is marked can't be changed here: it is copied, and is needed in
--- the next table
+-- the state at a pair with a matching key that is not Live: it can't be changed here, so it is
+-- copied, and is needed in the next table
 abbrev pub copied_from : Place → State
 copied_from at = Growing (Pair_at at.table at.probe.i)
 
--- a pair with a matching key is replaced where its word is Live
+-- the state of a replacing insertion at a pair with a matching key: a Live word is replaced
 abbrev pub replaces : Kind → Place → ℕ → State
 replaces Live at word = Writing (record { place = at; old = word })
 replaces _ at word = copied_from at
 
--- an insertion that replaces nothing has its answer there
+-- the state of an insertion that replaces nothing at such a pair: it ends there
 abbrev pub occupies : Kind → Place → ℕ → State
 occupies Live at word = Ended (Occupied (pair_of word))
 occupies _ at word = copied_from at
 
--- and is shown to the closure of a removal there
+-- the state of a removal at such a pair: its closure is called with it
 abbrev pub removes : Kind → Place → ℕ → State
 removes Live at word = Showing (record { place = at; word = word })
 removes _ at word = copied_from at
 
--- and to the closure of a compute, or acted on as it answered before
+-- the state of a compute at such a pair: its closure is called with it, or a remembered result is
+-- used
 abbrev pub computes : Kind → Remembered → Place → ℕ → State
 computes Live held at word = meets held.choice at word
 computes _ held at word = copied_from at
@@ -166,7 +167,7 @@ found (Insert true) held at word = replaces (kind_of word) at word
 found RemoveIf held at word = removes (kind_of word) at word
 found Compute held at word = computes (kind_of word) held at word
 
--- what a search saw leads here
+-- the state after a step of the search
 abbrev pub goes_as : Task → ResizeMode → Remembered → ProbeStep → State
 goes_as task mode held (On search) = Searching search
 goes_as task mode held (Here at word) = found task held at word
@@ -182,7 +183,7 @@ goes_as (Insert replace) mode held (Over table) = Growing (Room table)
 abbrev pub goes : Machine → ProbeStep → State
 goes m seen = goes_as m.task m.mode m.remembered seen
 
--- the pair of this number was written: it was claimed, or took the place of another
+-- the state after pair n was written: it was claimed, or replaced another pair
 abbrev pub written : Write → ℕ → State
 written write n = if write.old == 0 then Counting (claimed_by write n)
     else Ended (Replaced (pair_of write.old) n)
@@ -191,7 +192,7 @@ abbrev pub exchanged : Option ℕ → Write → State
 exchanged None write = Writing write
 exchanged (Some n) write = written write n
 
--- so many numbers were taken for pairs, and none is left where that is the limit
+-- the state after the count of taken numbers was loaded: the call is refused if no number is left
 abbrev pub numbered : Option Made → State → State
 numbered None state = Ended (Reply_refused Limit)
 numbered (Some made) state = state
@@ -206,7 +207,7 @@ state_told m count = record m {
   state = numbered (told m.made count) m.state;
 }
 
--- an insertion that has no pair for its place is told so
+-- the state of an insertion after the same load, if it has no pair for its place yet
 abbrev pub write_told : Option ℕ → Made → Write → ℕ → State
 write_told None made write count = numbered (told made count) (Writing write)
 write_told (Some n) made write count = Writing write
@@ -215,13 +216,14 @@ abbrev pub write_made : Option ℕ → Made → ℕ → Made
 write_made None made count = number_told (told made count) made
 write_made (Some n) made count = made
 
--- the number was taken, or the pair was written
+-- what an insertion has made after an exchange: it has taken a number if it had no pair for its
+-- place
 abbrev pub write_taken : Option ℕ → Made → Made
 write_taken None made = taken made
 write_taken (Some n) made = made
 
--- a deletion found this word in the place of its own; for a removal the key was absent where
--- another call deleted its pair
+-- the state after the exchange of a removal found this word in place of its own; for `RemoveIf` the
+-- key is absent if another call has removed the pair
 abbrev pub beaten_by : Kind → Machine → Place → ℕ → State
 beaten_by Buried m at word = Ended Absent
 beaten_by _ m at word = goes m (look at word)
@@ -233,7 +235,7 @@ beaten_as _ m at word = beaten_by (kind_of word) m at word
 abbrev pub beaten : Machine → Removal → ℕ → State
 beaten m removal word = beaten_as m.task m removal.place word
 
--- the closure of a removal agrees to the removal of the pair, or it doesn't
+-- the state after the closure of a removal returned whether the pair is to be removed
 abbrev pub agreed : Removal → Bool → State
 agreed removal true = Burying removal
 agreed removal false = Ended (Kept (pair_of removal.word))
@@ -242,7 +244,8 @@ abbrev pub judged : Task → Removal → Bool → State
 judged RemoveIf removal agrees = agreed removal agrees
 judged _ removal agrees = Showing removal
 
--- the closure of a compute answered so
+-- the state after the closure of a compute was called with a pair and returned an operation of this
+-- kind
 abbrev pub decided : Task → Removal → OpKind → State
 decided Compute removal kind = chosen removal kind
 decided _ removal kind = Showing removal
@@ -251,7 +254,7 @@ abbrev pub decided_held : Task → Remembered → Removal → OpKind → Remembe
 decided_held Compute held removal kind = with_choice held removal kind
 decided_held _ held removal kind = held
 
--- where an answer leads; one that was not asked for leads nowhere
+-- the state after an answer; an answer that was not asked for changes nothing
 abbrev pub at_word : Machine → ℕ → State → State
 at_word m word AtRoot = at_root m.task m.remembered.fill word
 at_word m word (Searching search) = goes m (search_loaded search m.hash word)
@@ -268,8 +271,8 @@ at_exchanged made (Putting put) = written put.write put.pair
 at_exchanged made (Burying removal) = Uncounting (pair_of removal.word)
 at_exchanged made state = state
 
--- a lost exchange of a slot goes on with the word that was found there, and one of the count of
--- numbers with what that is now
+-- the state of a write whose exchange failed: that of a slot goes on with the word that it found,
+-- and that of the count of numbers with the count that it found
 abbrev pub write_lost : Option ℕ → Machine → Write → ℕ → State
 write_lost None m write word = numbered (told m.made word) (Writing write)
 write_lost (Some n) m write word = goes m (look write.place word)
@@ -297,7 +300,7 @@ at_ok (Noting claimed) = Ended (Inserted claimed.pair)
 at_ok (Uncounting pair) = Ended (Removed pair)
 at_ok state = state
 
--- only what was to be made can be refused
+-- the state of a write that is refused: this is possible only while its pair is being made
 abbrev pub refuses : Option ℕ → Refused → Write → State
 refuses None refused write = Ended (Reply_refused refused)
 refuses (Some n) refused write = Writing write
@@ -308,7 +311,7 @@ at_refused made refused (Writing write) = refuses (serves made write) refused wr
 at_refused made refused (Pairing purpose) = Ended (Reply_refused refused)
 at_refused made refused state = state
 
--- what is known of the numbers that are taken
+-- what a call has made after an answer about the count of numbers
 abbrev pub made_at_word : Made → ℕ → State → Made
 made_at_word made count (Writing write) = write_made (serves made write) made count
 made_at_word made count (Pairing purpose) = number_told (told made count) made
@@ -319,7 +322,7 @@ made_at_exchanged made (Writing write) = write_taken (serves made write) made
 made_at_exchanged made (Pairing purpose) = taken made
 made_at_exchanged made _ = made
 
--- what a compute made
+-- what a compute has made after one more thing was made
 abbrev pub made_to_pair : Grown → Made
 made_to_pair (More made) = made
 made_to_pair (Pair made) = made
@@ -329,7 +332,8 @@ made_in made n (Writing write) = write_grown (serves made write) made write n
 made_in made n (Pairing purpose) = made_to_pair (grown made (in_place_of purpose))
 made_in made n _ = made
 
--- a pair that was made for a compute leads on, and is remembered
+-- the state of a compute after one more thing was made; the pair goes to its place, and is
+-- remembered
 abbrev pub paired : Grown → Purpose → ℕ → State
 paired (More made) purpose n = Pairing purpose
 paired (Pair made) purpose n = provides purpose n
@@ -356,7 +360,7 @@ state_made m n = record m {
   state = state_in m.made n m.state;
 }
 
--- where the closure of a compute leads it, and what is remembered then
+-- the state after a closure returned an operation; `held_at_op` is what is remembered then
 abbrev pub at_op : Task → OpKind → State → State
 at_op task kind (Offering gap) = offered gap kind
 at_op task kind (Showing removal) = decided task removal kind
@@ -403,41 +407,41 @@ after m (Made_number n) = state_made m n
 after m Ok_done = record m { state = at_ok m.state }
 after m (Was_refused refused) = record m { state = at_refused m.made refused m.state }
 
--- an insertion
+-- the task is an insertion
 abbrev pub IsWriter : Task → Type 0
 IsWriter (Insert replace) = Unit {0}
 IsWriter _ = ⊥
 
--- a removal
+-- the task is a removal
 abbrev pub IsRemover : Task → Type 0
 IsRemover RemoveIf = Unit {0}
 IsRemover _ = ⊥
 
--- a compute
+-- the task is a compute
 abbrev pub IsComputer : Task → Type 0
 IsComputer Compute = Unit {0}
 IsComputer _ = ⊥
 
--- a call that may insert
+-- the task may insert
 abbrev pub MayInsert : Task → Type 0
 MayInsert Get = ⊥
 MayInsert (Insert replace) = Unit {0}
 MayInsert RemoveIf = ⊥
 MayInsert Compute = Unit {0}
 
--- a call that has a closure, which may have a pair removed
+-- the task has a closure, which may have a pair removed
 abbrev pub HasClosure : Task → Type 0
 HasClosure Get = ⊥
 HasClosure (Insert replace) = ⊥
 HasClosure RemoveIf = Unit {0}
 HasClosure Compute = Unit {0}
 
--- a call that may change the map
+-- the task may change the map
 abbrev pub IsChanger : Task → Type 0
 IsChanger Get = ⊥
 IsChanger _ = Unit {0}
 
--- the machine's search stands within its table, and each state is of a task that comes to it
+-- the search of the machine is within its table, and each state is one to which the task can come
 abbrev pub IsStandingState : Task → State → Type 0
 IsStandingState task Making = MayInsert task
 IsStandingState task (Opening table) = MayInsert task
@@ -465,12 +469,12 @@ IsFit (Size slots limit) = IsSize slots limit
 IsFit (Made_number n) = n < 2 ^ 48
 IsFit _ = Unit {0}
 
--- a table that is asked for has a size of tables
+-- if the ask is to make a table, it has a size that tables may have
 abbrev pub IsFitAsk : Ask → Type 0
 IsFitAsk (MakeTable slots limit chunks) = IsSize slots limit
 IsFitAsk _ = Unit {0}
 
--- what a lookup asks: it changes nothing and makes nothing
+-- an ask of a lookup: it changes nothing and makes nothing
 abbrev pub IsLookup : Ask → Type 0
 IsLookup (Load at) = Unit {0}
 IsLookup (LoadHint table x) = Unit {0}

@@ -1,4 +1,4 @@
--- What a call has logged for the pairs that it makes, and what the next one still needs.
+-- What a call has made for its pairs, and what its next pair still needs.
 use Rattle.std.specs.Prelude.{ℕ, ◌+◌, ◌<◌, ◌^◌, ◌==◌, ◌&&◌, nat_lt, Bool, true, false, if◌then◌else◌, Option, Some, None}
 use Rattle.papaya_words.specs.Word.{pair_of}
 use Rattle.papaya_call.specs.declared.ask.At.TheVariants.{Made as Made_word}
@@ -15,12 +15,12 @@ use Rattle.papaya_call.specs.declared.made.Number.{Number}
 use Rattle.papaya_call.specs.declared.made.Number.TheVariants.{Wanted, Free, Taken}
 use Rattle.papaya_call.specs.declared.made.Of.{Of}
 
--- a number is needed where there is a limit
+-- whether a number has to be taken for a pair: only if there is a pair limit
 abbrev pub wanted : Option ℕ → Number
 wanted None = Taken
 wanted (Some most) = Wanted
 
--- nothing is logged yet
+-- a call that has made nothing yet
 abbrev pub nothing_made : Option ℕ → Made
 nothing_made limit = record {
   limit = limit;
@@ -31,11 +31,12 @@ nothing_made limit = record {
   of = None;
 }
 
--- a pair of a key that was met serves in the slot where that was
+-- a pair that was made with the key of a slot serves only in that slot
 abbrev pub serves_at : Of → (table x : ℕ) → Bool
 serves_at of table x = (of.table == table) && (of.index == x)
 
--- what is made next for a pair of the call's key, or of the key of the pair that a word names
+-- the ask for what is made next for a pair of the call's key; `of_ask` is for a pair with the key
+-- of the pair that a word names
 abbrev pub own_ask : (keyed valued : Bool) → Ask
 own_ask false valued = MakeKey
 own_ask true false = MakeValue
@@ -48,7 +49,7 @@ of_ask true old = MakePairOf (pair_of old)
 abbrev pub make_ask : Made → (old : ℕ) → Ask
 make_ask made old = if old == 0 then own_ask made.keyed made.valued else of_ask made.valued old
 
--- before that a number is taken
+-- what a pair asks next: for a number, if it needs one, and then for what is made next
 abbrev pub number_ask : Number → Made → (old : ℕ) → Ask
 number_ask Wanted made old = Load Made_word
 number_ask (Free count) made old = Exchange Made_word count (count + 1)
@@ -57,12 +58,13 @@ number_ask Taken made old = make_ask made old
 abbrev pub pair_ask : Made → (old : ℕ) → Ask
 pair_ask made old = number_ask made.number made old
 
--- the kind of the exchange that is asked for
+-- the kind of the exchange that it asks for, if it asks for one
 abbrev pub number_kind : Number → Option StepKind
 number_kind (Free count) = Some Take
 number_kind _ = None
 
--- so many numbers were taken: a further one is free below the limit
+-- what a call has made after the count of taken numbers was loaded: the next number is free if it
+-- is below the limit, and otherwise there is none
 abbrev pub told_limit : Made → Option ℕ → (count : ℕ) → Option Made
 told_limit made None count = Some (record made { number = Taken })
 told_limit made (Some most) count = if nat_lt count most
@@ -75,7 +77,7 @@ told_as made _ count = told_limit made made.limit count
 abbrev pub told : Made → (count : ℕ) → Option Made
 told made count = told_as made made.number count
 
--- the number was taken
+-- what a call has made after it has taken the number
 abbrev pub taken_as : Made → Number → Made
 taken_as made (Free count) = record made { number = Taken }
 taken_as made _ = made
@@ -83,11 +85,11 @@ taken_as made _ = made
 abbrev pub taken : Made → Made
 taken made = taken_as made made.number
 
--- the pair was made, and the next one needs a number again
+-- what a call has made after its pair: the next one needs a number again
 abbrev pub paired : Made → Made
 paired made = record made { number = wanted made.limit }
 
--- what was logged was the key, or the value, or the pair
+-- what a call has made after it made the key, then the value, then the pair
 abbrev pub own_grown : (keyed valued : Bool) → Made → Grown
 own_grown false valued made = On (record made { keyed = true })
 own_grown true false made = On (record made { valued = true })
@@ -105,13 +107,14 @@ grown_as _ made old = On made
 abbrev pub grown : Made → (old : ℕ) → Grown
 grown made old = grown_as made.number made old
 
--- a closure answered so, and a value that it answered is yet to be logged
+-- what a call has made after its closure returned an operation: the value of an insertion is yet to
+-- be stored
 abbrev pub answered : OpKind → Made → Made
 answered Insert made = record made { valued = false }
 answered Remove made = made
 answered (Abort t) made = made
 
--- a number that is free has a next one; the number of a pair fits a word
+-- a free number has a next one that is a number of 64 bits; the number of a pair fits a word
 abbrev pub IsNumber : Number → Type 0
 IsNumber (Free count) = count + 1 < 2 ^ 64
 IsNumber _ = Unit {0}
@@ -124,7 +127,7 @@ abbrev pub IsOf : Option Of → Type 0
 IsOf None = Unit {0}
 IsOf (Some of) = of.pair < 2 ^ 48
 
--- a limit is a number of the code
+-- a pair limit is a number of 64 bits
 abbrev pub IsLimit : Option ℕ → Type 0
 IsLimit None = Unit {0}
 IsLimit (Some most) = most < 2 ^ 64

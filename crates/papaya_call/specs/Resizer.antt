@@ -1,4 +1,4 @@
--- A call that resizes the map: what it asks, and where each answer leads it.
+-- A call that resizes the map: its asks, and the state after each answer.
 use Rattle.std.specs.Prelude.{ℕ, ◌+◌, ◌==◌, nat_le, if◌then◌else◌, Option, None, Some}
 use Rattle.std.specs.Int.{IsPowerOfTwo}
 use Rattle.papaya_words.specs.Chunks.{chunk_count, chunk_len}
@@ -36,7 +36,8 @@ use Rattle.papaya_call.specs.declared.chain.resizer.ResizerState.TheVariants.{At
 use Rattle.papaya_call.specs.ChainMachine.{copying_after, link_after}
 use Rattle.papaya_call.specs.TableSize.{IsStandingRoom, room_of}
 
--- one that begins: a chunk is copied at once, and all else begins at the root
+-- the state of a resizer that begins: a copy of a chunk begins at once, and all else by loading the
+-- root
 abbrev pub begun_in : Resize → ResizerState
 begun_in Chunk = Copying 0 (Stepping aims.Chunk steps.AtRoot)
 begun_in _ = AtRoot
@@ -50,7 +51,7 @@ begun resize mode initial number = record {
   state = begun_in resize;
 }
 
--- what is asked, if anything
+-- its ask, None once it has ended
 abbrev pub asks_in : ResizerState → Option CopyAsk
 asks_in AtRoot = Some (Load Root)
 asks_in (Making room) = Some (MakeTable room.len room.limit 0)
@@ -65,7 +66,7 @@ asks_in _ = None
 abbrev pub ask_of : Resizer → Option CopyAsk
 ask_of resizer = asks_in resizer.state
 
--- the reply of one that has ended
+-- its reply, None until it has ended
 abbrev pub reply_in : ResizerState → Option Reply
 reply_in Done = Some replies.Done
 reply_in (Refused refused) = Some (replies.Refused refused)
@@ -74,7 +75,7 @@ reply_in _ = None
 abbrev pub reply_of : Resizer → Option Reply
 reply_of resizer = reply_in resizer.state
 
--- the kind of the exchange that is asked for
+-- the kind of the exchange that it asks for, if it asks for one
 abbrev pub kind_in : ResizerState → Option StepKind
 kind_in (Opening table) = Some Open
 kind_in (Linking link) = link_kind link
@@ -84,7 +85,7 @@ kind_in _ = None
 abbrev pub kind_of_ask : Resizer → Option StepKind
 kind_of_ask resizer = kind_in resizer.state
 
--- the table that one in the making is to follow
+-- the table after which a table is being made, 0 if none is
 abbrev pub follows_in : ResizerState → ℕ
 follows_in (Linking link) = follows link
 follows_in (Copying from copying) = copying_follows copying
@@ -93,21 +94,21 @@ follows_in _ = 0
 abbrev pub follows_of : Resizer → ℕ
 follows_of resizer = follows_in resizer.state
 
--- a first table of this size is made, where there may be such a one
+-- the state that makes a first table of this size, or refuses if no table may have such a size
 abbrev pub makes : Option TableSize → ResizerState
 makes None = Refused Capacity
 makes (Some room) = Making room
 
--- all of this root is copied
+-- the state that copies all of this root
 abbrev pub copies : (root : ℕ) → ResizerState
 copies root = Copying root (Stepping (aims.All root) steps.AtRoot)
 
--- the root is this table, or there is none
+-- the state after the root was loaded, which is 0 if there is none
 abbrev pub at_root : Resize → (root : ℕ) → ResizerState
 at_root (Reserve more) root = if root == 0 then makes (room_of more) else Sizing root
 at_root _ root = if root == 0 then Done else Looking root 0 None
 
--- the root has so many slots, and this room is wanted
+-- the state if the root has `len` slots and a table of this size is needed
 abbrev pub judges : (root len : ℕ) → Option TableSize → ResizerState
 judges root len None = Refused Capacity
 judges root len (Some room) = if nat_le room.len len then Done
@@ -117,7 +118,8 @@ abbrev pub at_count : Resize → (root len count : ℕ) → ResizerState
 at_count (Reserve more) root len count = judges root len (room_of (count + more))
 at_count _ root len count = Done
 
--- the root has so many slots and no next table: one of this size is made, where one is wanted
+-- the state if the root has `len` slots and no next table: one of this size is made, if one is
+-- needed
 abbrev pub at_last : ResizeMode → (root len : ℕ) → Option TableSize → ResizerState
 at_last mode root len None = Done
 at_last mode root len (Some room) =
@@ -126,7 +128,7 @@ at_last mode root len (Some room) =
 abbrev pub at_next : ResizeMode → (root len : ℕ) → Option TableSize → (next : ℕ) → ResizerState
 at_next mode root len room next = if next == 0 then at_last mode root len room else copies root
 
--- an answer to what is asked while nothing is linked or copied
+-- the state after an answer, while nothing is linked or copied
 abbrev pub told_root : Resize → ResizeMode → ResizerState → Call_answer → ResizerState
 told_root resize mode AtRoot (Word root) = at_root resize root
 told_root resize mode (Making room) (Made table) = Opening table
@@ -146,18 +148,18 @@ called resize mode state (answers.Call answer) = told_root resize mode state ans
 called resize mode state (answers.Count count) = counted resize state count
 called resize mode state (answers.Hash hash) = state
 
--- the making of the table after this root leads here
+-- the state after a step of the making of the table after this root
 abbrev pub linked : (root : ℕ) → Linked → ResizerState
 linked root (linked_to.On link) = Linking link
 linked root (linked_to.Table table) = copies root
 linked root (linked_to.Refused refused) = Refused refused
 
--- a copy is over
+-- the state once a copy is over
 abbrev pub over : Resize → ResizerState
 over Chunk = Done
 over _ = AtRoot
 
--- the copy leads here
+-- the state after a step of the copy
 abbrev pub copied : Resize → (from : ℕ) → Copied → ResizerState
 copied resize from (copied_to.On copying) = Copying from copying
 copied resize from (copied_to.Refused refused) = Refused refused
@@ -177,7 +179,7 @@ after resizer answer = record resizer {
       resizer.state;
 }
 
--- it stands within its tables
+-- the resizer is within its tables
 abbrev pub IsStandingIn : ResizerState → Type 0
 IsStandingIn (Making room) = IsSize room.len room.limit
 IsStandingIn (Looking root len room) = IsStandingRoom room

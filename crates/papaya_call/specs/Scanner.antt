@@ -1,4 +1,4 @@
--- A call that scans a table: what it asks, and where each answer leads it.
+-- A call that scans a table: its asks, and the state after each answer.
 use Rattle.std.specs.Prelude.{ℕ, ◌+◌, ◌<◌, ◌==◌, nat_lt, Bool, true, false, if◌then◌else◌, Option, None, Some, negsuc}
 use Rattle.std.specs.Int.{IsPowerOfTwo}
 use Rattle.papaya_words.specs.Mode.{IsChunked}
@@ -33,7 +33,7 @@ use Rattle.papaya_call.specs.declared.chain.scanner.Scan.{Scan}
 use Rattle.papaya_call.specs.declared.chain.scanner.Scan.TheVariants.{Clear, Retain, Walk}
 use Rattle.papaya_call.specs.declared.chain.scanner.Scanner.{Scanner}
 
--- one that begins: without blocking, all is copied first
+-- the state of a scanner that begins: without blocking, it copies all first
 abbrev pub begun_in : ResizeMode → ScannerState
 begun_in (Incremental chunk) = Copying stages.AtRoot
 begun_in Blocking = AtRoot
@@ -47,7 +47,7 @@ begun scan mode initial number = record {
   state = begun_in mode;
 }
 
--- the copy of all, which stands so
+-- the resizer that copies all for the scanner, in this stage
 abbrev pub resizer_of : Scanner → Stage → Resizer
 resizer_of scanner stage = record {
   mode = scanner.mode;
@@ -57,16 +57,16 @@ resizer_of scanner stage = record {
   state = stage;
 }
 
--- what is asked for the copy
+-- the ask of the copy of all, as an ask of the scanner
 abbrev pub copy_asks : Option CopyAsk → Option ScanAsk
 copy_asks None = None
 copy_asks (Some ask) = Some (Copy ask)
 
--- the pair of this word is deleted
+-- the exchange that removes the pair of `word`
 abbrev pub buries : Spot → (word : ℕ) → CopyAsk
 buries spot word = Exchange (Slot spot.table spot.slot) word (grave_word word)
 
--- what is asked, if anything
+-- its ask, None once it has ended
 abbrev pub asks_in : ScannerState → Option ScanAsk
 asks_in (Copying stage) = copy_asks (resizers.asks_in stage)
 asks_in AtRoot = Some (Copy (Load Root))
@@ -81,7 +81,7 @@ asks_in _ = None
 abbrev pub ask_of : Scanner → Option ScanAsk
 ask_of scanner = asks_in scanner.state
 
--- the reply of one that has ended
+-- its reply, None until it has ended
 abbrev pub reply_in : ScannerState → Option Reply
 reply_in Done = Some replies.Done
 reply_in (Refused refused) = Some (replies.Refused refused)
@@ -90,7 +90,7 @@ reply_in _ = None
 abbrev pub reply_of : Scanner → Option Reply
 reply_of scanner = reply_in scanner.state
 
--- the kind of the exchange that is asked for
+-- the kind of the exchange that it asks for, if it asks for one
 abbrev pub kind_in : ScannerState → Option StepKind
 kind_in (Copying stage) = resizers.kind_in stage
 kind_in (Burying spot word) = Some Bury
@@ -99,7 +99,7 @@ kind_in _ = None
 abbrev pub kind_of_ask : Scanner → Option StepKind
 kind_of_ask scanner = kind_in scanner.state
 
--- the table that one in the making is to follow
+-- the table after which a table is being made, 0 if none is
 abbrev pub follows_in : ScannerState → ℕ
 follows_in (Copying stage) = resizers.follows_in stage
 follows_in _ = 0
@@ -107,22 +107,23 @@ follows_in _ = 0
 abbrev pub follows_of : Scanner → ℕ
 follows_of scanner = follows_in scanner.state
 
--- this root is scanned, or there is none
+-- the state after the root was loaded, which is 0 if there is none
 abbrev pub at_root : (root : ℕ) → ScannerState
 at_root root = if root == 0 then Done else Sizing root
 
--- a slot is looked at, if the table has so many
+-- the state at a slot: its word is loaded, or the scan is done if the table has no such slot
 abbrev pub looks : Spot → ScannerState
 looks spot = if nat_lt spot.slot spot.len then Looking spot else Done
 
--- the first slot of a table, and the one after another
+-- the first slot of a table; `next` is the state at the slot after another
 abbrev pub first_in : (table len : ℕ) → Spot
 first_in table len = record { table = table; len = len; slot = 0 }
 
 abbrev pub next : Spot → ScannerState
 next spot = looks (record spot { slot = spot.slot + 1 })
 
--- a word of this kind stands in the slot; a copier's work sends clear and retain to the next root
+-- the state after a word of this kind was found in the slot; a word that a copier has marked sends
+-- a clear or a retain to the next root
 abbrev pub meets : Scan → Spot → (word : ℕ) → Kind → ScannerState
 meets Clear spot word kinds.Live = Burying spot word
 meets Retain spot word kinds.Live = Showing spot word
@@ -133,12 +134,13 @@ meets _ spot word kinds.Marked = Copying stages.AtRoot
 meets _ spot word kinds.Copied = Copying stages.AtRoot
 meets _ spot word _ = next spot
 
--- the closure answered whether the pair stays
+-- the state after the closure returned whether the pair stays
 abbrev pub shown : Spot → (word : ℕ) → Bool → ScannerState
 shown spot word true = next spot
 shown spot word false = Burying spot word
 
--- an answer to what is asked while nothing is copied; one that was not asked for leads nowhere
+-- the state after an answer, while nothing is copied; an answer that was not asked for changes
+-- nothing
 abbrev pub told : Scan → ScannerState → Call_answer → ScannerState
 told scan AtRoot (Word root) = at_root root
 told scan (Sizing table) (Size slots limit) = looks (first_in table slots)
@@ -154,12 +156,12 @@ abbrev pub scanned : Scan → ScannerState → Answer → ScannerState
 scanned scan state (answers.Call answer) = told scan state answer
 scanned scan state _ = state
 
--- the root that the copy of all found in this state, if an answer ended it
+-- the root at which the copy of all is done, if an answer ends it in this stage
 abbrev pub found_by : Stage → ℕ
 found_by (stages.Looking root len room) = root
 found_by _ = 0
 
--- the copy of all went from one state to the other
+-- the state after the copy of all went from one stage to another
 abbrev pub copied : Stage → Stage → ScannerState
 copied from stages.Done = at_root (found_by from)
 copied from (stages.Refused refused) = Refused refused
@@ -181,7 +183,7 @@ after scanner answer = record scanner {
 abbrev pub IsStandingSpot : Spot → Type 0
 IsStandingSpot spot = spot.slot < spot.len
 
--- it stands within its tables
+-- the scanner is within its tables
 abbrev pub IsStandingIn : ScannerState → Type 0
 IsStandingIn (Copying stage) = resizers.IsStandingIn stage
 IsStandingIn (Looking spot) = IsStandingSpot spot

@@ -1,4 +1,4 @@
--- The search of one table for a key: what it asks, and where each answer leads it.
+-- The search of one table for a key: its asks, and the state after each answer.
 use Rattle.std.specs.Prelude.{ℕ, ◌+◌, ◌%◌, ◌^◌, ◌<◌, ◌≤◌, nat_lt, Bool, true, false, if◌then◌else◌}
 use Rattle.std.specs.Int.{IsPowerOfTwo}
 use Rattle.papaya_words.specs.Word.{kind_of, pair_of, may_hold}
@@ -14,19 +14,19 @@ use Rattle.papaya_call.specs.declared.search.Search.TheVariants.{Sizing, Looking
 use Rattle.papaya_call.specs.declared.search.ProbeStep.{ProbeStep}
 use Rattle.papaya_call.specs.declared.search.ProbeStep.TheVariants.{On, Empty, Here, Over}
 
--- the size of a table: a power of two slots, and how many places after the first a search looks at
+-- the size of a table: `slots` is its length, a power of two, and `last` its probe limit
 pub record IsSize (slots last : ℕ) : Type 0 where
   pub power : IsPowerOfTwo slots
   pub most : slots ≤ 2 ^ 32
   pub few : last < 2 ^ 32
 
--- a place within its table
+-- the place is within its table
 pub record IsWithin (at : Place) : Type 0 where
   pub size : IsSize at.len at.limit
   pub len : at.probe.len ≤ at.limit
   pub i : at.probe.i < at.len
 
--- a search stands within its table
+-- the search is within its table
 abbrev pub IsSearching : Search → Type 0
 IsSearching (Sizing table) = Unit {0}
 IsSearching (Looking at) = IsWithin at
@@ -39,7 +39,7 @@ IsProbed (Empty at) = IsWithin at
 IsProbed (Here at word) = IsWithin at
 IsProbed (Over table) = Unit {0}
 
--- what a search asks
+-- the ask of a search
 abbrev pub ask_of : Search → Ask
 ask_of (Sizing table) = SizeOf table
 ask_of (Looking at) = LoadHint at.table at.probe.i
@@ -64,31 +64,32 @@ next_place at = record at {
   };
 }
 
--- the key is not at this place: the search goes on, or is over
+-- the step if the key is not at this place: the search goes on, or is over
 abbrev pub go_on : Place → ProbeStep
 go_on at = if nat_lt at.probe.len at.limit then On (Looking (next_place at)) else Over at.table
 
--- the hint of a place: where it says nothing, or is the key's, the word is loaded
+-- the step after the hint of a place: the word is loaded if the hint says nothing or is the key's
 abbrev pub hinted : Place → (hash hint : ℕ) → ProbeStep
 hinted at hash hint = if may_hold hint hash then On (Reading at) else go_on at
 
--- what a word of this kind tells
+-- the step after a word of this kind
 abbrev pub look_at : Kind → Place → (word : ℕ) → ProbeStep
 look_at Is_empty at word = Empty at
 look_at Buried at word = go_on at
 look_at Closed at word = go_on at
 look_at _ at word = On (Comparing at word)
 
--- what the word that stands at a place tells
+-- the step after the word of a place
 abbrev pub look : Place → (word : ℕ) → ProbeStep
 look at word = look_at (kind_of word) at word
 
--- a matching key of a pair in a word of this kind: a pair that was copied is looked for further on
+-- the step after a comparison with a matching key: a pair that was copied is searched for in the
+-- next table
 abbrev pub match_at : Kind → Place → ℕ → ProbeStep
 match_at Copied at word = Over at.table
 match_at _ at word = Here at word
 
--- where an answer leads; one that was not asked for leads nowhere
+-- the search after an answer; an answer that was not asked for changes nothing
 abbrev pub at_size : Search → (hash slots limit : ℕ) → Search
 at_size (Sizing table) hash slots limit = Looking (first_place hash table slots limit)
 at_size (Looking at) hash slots limit = Looking at

@@ -1,4 +1,4 @@
--- The copy of one slot: what it asks, and where each answer leads it.
+-- The copy of one slot: its asks, and the state after each answer.
 use Rattle.std.specs.Prelude.{ℕ, Bool, Option, Some, None}
 use Rattle.papaya_words.specs.Word.{kind_of, pair_of, marked_word, copied_word, shut_hint}
 use Rattle.papaya_words.specs.declared.refused.Refused.{Refused}
@@ -22,7 +22,7 @@ use Rattle.papaya_call.specs.declared.copy.settle.SlotToCopy.{SlotToCopy}
 use Rattle.papaya_call.specs.Carry as carries
 use Rattle.papaya_call.specs.Carry.{IsStandingCarry, carry_ask, carry_follows, carry_kind}
 
--- the carry in it stands within its table
+-- the carry in it is within its table
 abbrev pub IsStandingSettle : Settle → Type 0
 IsStandingSettle (Carrying word carry) = IsStandingCarry carry
 IsStandingSettle _ = Unit {0}
@@ -31,14 +31,14 @@ abbrev pub IsStandingSettled : Settled → Type 0
 IsStandingSettled (On settle) = IsStandingSettle settle
 IsStandingSettled _ = Unit {0}
 
--- the word, with its pair marked, and with its pair copied
+-- the word once its pair is marked; `copied_as` is the word once its pair is copied
 abbrev pub marked_as : ℕ → ℕ
 marked_as word = marked_word (pair_of word)
 
 abbrev pub copied_as : ℕ → ℕ
 copied_as word = copied_word (pair_of word)
 
--- what it asks
+-- its ask
 abbrev pub settle_ask : Settle → SlotToCopy → CopyAsk
 settle_ask Looking slot = Load (words.Slot slot.from slot.index)
 settle_ask Closing slot = Exchange (words.Slot slot.from slot.index) 0 5
@@ -47,7 +47,7 @@ settle_ask (Marking word) slot = Exchange (words.Slot slot.from slot.index) word
 settle_ask (Carrying word carry) slot = carry_ask carry word
 settle_ask (Finishing word) slot = Exchange (words.Slot slot.from slot.index) word (copied_as word)
 
--- the kind of the exchange that it asks for
+-- the kind of the exchange that it asks for, if it asks for one
 abbrev pub settle_kind : Settle → Option StepKind
 settle_kind Looking = None
 settle_kind Closing = Some kinds.Close
@@ -56,12 +56,12 @@ settle_kind (Marking word) = Some kinds.Mark
 settle_kind (Carrying word carry) = carry_kind carry
 settle_kind (Finishing word) = Some kinds.Finish
 
--- the table that one in the making is to follow, 0 where none is made
+-- the table after which a table is being made, 0 if none is
 abbrev pub settle_follows : Settle → ℕ
 settle_follows (Carrying word carry) = carry_follows carry
 settle_follows _ = 0
 
--- what a word of this kind in the slot tells
+-- the state after a word of this kind was found in the slot
 abbrev pub look_at : Kind → SlotToCopy → ℕ → Settled
 look_at word_kinds.Empty slot word = On Closing
 look_at word_kinds.Live slot word = On (Marking word)
@@ -71,19 +71,20 @@ look_at _ slot word = Was_settled
 abbrev pub look : SlotToCopy → ℕ → Settled
 look slot word = look_at (kind_of word) slot word
 
--- the pair came to a table that takes it: without blocking its word is to say so
+-- the state once the pair is in a table that takes it: without blocking its word has yet to become
+-- Copied
 abbrev pub finishes : (marked : ℕ) → ResizeMode → Settled
 finishes marked (Incremental chunk) = On (Finishing marked)
 finishes marked Blocking = Was_settled
 
--- the carry leads here
+-- the state after a step of the carry
 abbrev pub settled_by : (marked : ℕ) → ResizeMode → Carried → Settled
 settled_by marked mode (Carry_on carry) = On (Carrying marked carry)
 settled_by marked mode Was_carried = finishes marked mode
 settled_by marked mode (Carry_unfit table) = Unfit table
 settled_by marked mode (Carry_refused refused) = Was_refused refused
 
--- where an answer leads; one that was not asked for leads nowhere
+-- the state after an answer; an answer that was not asked for changes nothing
 abbrev pub at_hash : Settle → ℕ → Settle
 at_hash (Carrying word carry) hash = Carrying word (carries.at_hash carry hash)
 at_hash settle hash = settle

@@ -1,4 +1,4 @@
--- One chunk of the copy of the root: what it asks, and where each answer leads it.
+-- The copy of one chunk of the root: its asks, and the state after each answer.
 use Rattle.std.specs.Prelude.{ℕ, ◌+◌, ◌-◌, ◌*◌, ◌%◌, ◌<◌, ◌≤◌, ◌^◌, ◌==◌, ◌&&◌, nat_lt, nat_le, not, Bool, true, false, if◌then◌else◌, Option, Some, None}
 use Rattle.papaya_words.specs.Chunks.{chunk_count, chunk_len}
 use Rattle.papaya_words.specs.declared.refused.Refused.{Refused}
@@ -27,7 +27,7 @@ use Rattle.papaya_call.specs.Link.{IsStandingLink, follows, link_ask, link_kind}
 use Rattle.papaya_call.specs.Settle as settles
 use Rattle.papaya_call.specs.Settle.{IsStandingSettle, settle_ask, settle_follows, settle_kind}
 
--- the chunk whose word is loaded has a slot
+-- the chunk whose word is loaded has at least one slot
 pub record IsStandingCursor (cursor : Cursor) : Type 0 where
   pub some : 1 ≤ cursor.slots
   pub start : cursor.start ≤ cursor.len
@@ -35,13 +35,13 @@ pub record IsStandingCursor (cursor : Cursor) : Type 0 where
   pub begun : cursor.begun < cursor.len
   pub most : cursor.len ≤ 2 ^ 32
 
--- a slot of the chunk is copied
+-- the slot that is copied is in the chunk
 pub record IsStandingChunk (chunk : Chunk) : Type 0 where
   pub cursor : IsStandingCursor chunk.cursor
   pub at : chunk.at < chunk.end
   pub within : chunk.end ≤ chunk.cursor.len
 
--- it stands within its chunk
+-- the copy is within its chunk
 abbrev pub IsStandingStep : Step → Type 0
 IsStandingStep (Linking from link) = IsStandingLink link
 IsStandingStep (AtChunk cursor) = IsStandingCursor cursor
@@ -58,7 +58,7 @@ IsStandingStepped _ = Unit {0}
 abbrev pub slot_of : Chunk → SlotToCopy
 slot_of chunk = record { from = chunk.cursor.from; index = chunk.at; to = chunk.cursor.to }
 
--- what it asks
+-- its ask
 abbrev pub step_ask : Step → CopyAsk
 step_ask AtRoot = Load Root
 step_ask (Aiming from behind) = Load (Next behind)
@@ -70,7 +70,7 @@ step_ask (Settling chunk settle) = settle_ask settle (slot_of chunk)
 step_ask (Advancing cursor) = Exchange (Done cursor.to cursor.at) 0 1
 step_ask (Promoting from to) = Exchange Root from to
 
--- the kind of the exchange that it asks for
+-- the kind of the exchange that it asks for, if it asks for one
 abbrev pub step_kind : Step → Option StepKind
 step_kind (Linking from link) = link_kind link
 step_kind (Settling chunk settle) = settle_kind settle
@@ -78,25 +78,25 @@ step_kind (Advancing cursor) = Some kinds.Advance
 step_kind (Promoting from to) = Some kinds.Promote
 step_kind _ = None
 
--- the table that one in the making is to follow, 0 where none is made
+-- the table after which a table is being made, 0 if none is
 abbrev pub step_follows : Step → ℕ
 step_follows (Linking from link) = follows link
 step_follows (Settling chunk settle) = settle_follows settle
 step_follows _ = 0
 
--- the table behind has this number: without blocking copies go there, else they do if it isn't
--- given up, and it is made where there is none
+-- The state after the number of the table behind `behind` was loaded. Without blocking copies go to
+-- that table. With blocking they go to it unless it was aborted, and it is made if there is none.
 abbrev pub aimed : (from behind : ℕ) → ResizeMode → (next : ℕ) → Stepped
 aimed from behind (Incremental chunk) next = if next == 0 then Last from else On (Sizing from next)
 aimed from behind Blocking next = if next == 0
     then On (Linking from (Link_sizing behind from (not (behind == from))))
     else On (Judging from next)
 
--- the table was given up, or not
+-- the state after the word that says whether table `to` was aborted
 abbrev pub judged : (from to word : ℕ) → Step
 judged from to word = if word == 0 then Sizing from to else Aiming from to
 
--- the words are loaded from some chunk on
+-- a cursor that begins at chunk `start`
 abbrev pub cursor_from : (from to len slots start : ℕ) → Cursor
 cursor_from from to len slots start = record {
   from = from;
@@ -110,30 +110,31 @@ cursor_from from to len slots start = record {
   copied = false;
 }
 
--- from that of this number on, of as many as there are
+-- a cursor that begins at the chunk that `number` picks
 abbrev pub first_cursor : (from to len : ℕ) → ResizeMode → (number : ℕ) → Cursor
 first_cursor from to len mode number =
     cursor_from from to len (chunk_len mode) (number % chunk_count len (chunk_len mode))
 
--- the chunk after this one, and the first one
+-- the cursor at the next chunk; `first_chunk` is the cursor after it wrapped around to the first
 abbrev pub next_chunk : Cursor → Cursor
 next_chunk cursor = record cursor { at = cursor.at + 1; begun = cursor.begun + cursor.slots }
 
 abbrev pub first_chunk : Cursor → Cursor
 first_chunk cursor = record cursor { at = 0; begun = 0; wrapped = true }
 
--- a chunk comes after this one, and its word was not loaded
+-- whether there is a chunk after this one whose word was not loaded
 abbrev pub is_further : Cursor → Bool
 is_further cursor = nat_lt cursor.slots (cursor.len - cursor.begun)
     && not (cursor.wrapped && nat_le cursor.start (cursor.at + 1))
 
--- this chunk is copied: the next word is loaded, while there is one that was not
+-- the state if this chunk is copied: the next word is loaded, or, if all were, the next table is
+-- promoted
 abbrev pub next_cursor : Cursor → Step
 next_cursor cursor = if is_further cursor then AtChunk (next_chunk cursor)
     else if not cursor.wrapped && nat_lt 0 cursor.start then AtChunk (first_chunk cursor)
     else Promoting cursor.from cursor.to
 
--- so many slots from the first of the chunk on, or as many as there are
+-- the slot after the last one of the chunk
 abbrev pub end_of : Cursor → ℕ
 end_of cursor = if nat_lt cursor.slots (cursor.len - cursor.begun) then cursor.begun + cursor.slots
     else cursor.len
@@ -141,17 +142,17 @@ end_of cursor = if nat_lt cursor.slots (cursor.len - cursor.begun) then cursor.b
 abbrev pub chunk_at : Cursor → Chunk
 chunk_at cursor = record { cursor = cursor; at = cursor.begun; end = end_of cursor }
 
--- the word of the chunk: 0 where it is not copied
+-- the state after the word of the chunk, which is 0 if the chunk is not copied
 abbrev pub chunk_read : Cursor → (done : ℕ) → Stepped
 chunk_read cursor done = if not (done == 0) then On (next_cursor cursor)
     else if cursor.copied then Further (chunk_at cursor)
     else On (Settling (chunk_at cursor) Looking)
 
--- this caller copied the chunk
+-- the state after this caller has copied the chunk
 abbrev pub advanced : Cursor → Stepped
 advanced cursor = On (next_cursor (record cursor { copied = true }))
 
--- the next slot of the chunk, while there is one
+-- the chunk at its next slot; `next_in` is the state there, or after the last slot of the chunk
 abbrev pub next_slot : Chunk → Chunk
 next_slot chunk = record chunk { at = chunk.at + 1 }
 
@@ -159,20 +160,20 @@ abbrev pub next_in : Chunk → Stepped
 next_in chunk = if nat_lt chunk.at chunk.end then On (Settling chunk Looking)
     else On (Advancing chunk.cursor)
 
--- the copy of a slot leads here
+-- the state after a step of the copy of a slot
 abbrev pub settled_to : Chunk → Settled → Stepped
 settled_to chunk (Settle_on settle) = On (Settling chunk settle)
 settled_to chunk Was_settled = next_in (next_slot chunk)
 settled_to chunk (Unfit table) = On (Aiming chunk.cursor.from table)
 settled_to chunk (Settle_refused refused) = Was_refused refused
 
--- the making of a table leads here
+-- the state after a step of the making of a table
 abbrev pub linked_to : (from : ℕ) → Linked → Stepped
 linked_to from (Link_on link) = On (Linking from link)
 linked_to from (Table table) = On (Judging from table)
 linked_to from (Link_refused refused) = Was_refused refused
 
--- where an answer leads; one that was not asked for leads nowhere
+-- the state after an answer; an answer that was not asked for changes nothing
 abbrev pub at_hash : Step → ℕ → Step
 at_hash (Settling chunk settle) hash = Settling chunk (settles.at_hash settle hash)
 at_hash step hash = step

@@ -4,7 +4,7 @@ use Rattle.papaya_words.specs.Probe.{limit_of, log_upto}
 use Rattle.papaya_call.specs.Search.{IsSize}
 use Rattle.papaya_call.specs.declared.chain.resizer.TableSize.{TableSize}
 
--- the least power of two that is four thirds of so many pairs, rounded down, or more; at most 2^64
+-- the least power of two that is at least four thirds of `pairs`, rounded down; it is at most 2^64
 abbrev pub entries_of : (pairs : ℕ) → ℕ
 entries_of pairs = if nat_le (pairs * 8 / 6) 1 then 1
     else 2 * 2 ^ log_upto 63 (pairs * 8 / 6 - 1)
@@ -12,7 +12,7 @@ entries_of pairs = if nat_le (pairs * 8 / 6) 1 then 1
 abbrev pub room_of_len : (len : ℕ) → TableSize
 room_of_len len = record { len = len; limit = limit_of len }
 
--- the size of a table for so many pairs, where there may be such a one
+-- the size of a table for `pairs` pairs, None if no table may be that long
 abbrev pub room_of : (pairs : ℕ) → Option TableSize
 room_of pairs = if nat_le (entries_of pairs) (2 ^ 32)
     then Some (room_of_len (max (entries_of pairs) 8)) else None

@@ -1,4 +1,5 @@
--- Where an answer leads a machine within the copy of the root: each is led by the one within it.
+-- The state of a machine within the copy of the root after an answer: each one goes on as the
+-- machine within it does.
 use Rattle.std.proofs.Common.{◌≡◌, ℕ, refl}
 use Rattle.papaya_words.specs.declared.resize_mode.ResizeMode.{ResizeMode}
 use Rattle.papaya_call.specs.declared.ask.Answer.{Answer as Call_answer}

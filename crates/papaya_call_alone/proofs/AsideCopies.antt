@@ -1,4 +1,4 @@
--- What each answer leaves to a call that copies, with no other caller beside it.
+-- How much is left to a call that copies after each answer, with no other caller beside it.
 use Rattle.std.proofs.Common.{◌≡◌, ◌⊎◌, inl, inr, ⊎_elim, ℕ, ◌+◌, ◌*◌, ◌^◌, ◌<◌, ◌≤◌, ◌==◌, ◌||◌}
 use Rattle.std.proofs.Common.{not, Bool, true, false, cond, Some, refl, sym, ap, ◌∙◌, subst, arith}
 use Rattle.std.proofs.Common.{eqb-true}

@@ -1,4 +1,4 @@
--- What each answer leaves to a call that is set aside, with no other caller beside it.
+-- How much is left to a call that is set aside after each answer, with no other caller beside it.
 use Rattle.std.proofs.Common.{◌≡◌, ◌⊎◌, inl, inr, ⊎_elim, ℕ, ◌+◌, ◌*◌, ◌^◌, ◌<◌, ◌≤◌, ◌==◌, ◌&&◌}
 use Rattle.std.proofs.Common.{nat_lt, not, cond, false, Some, refl, sym, ap, subst, arith, eqb-true}
 use Rattle.std.proofs.lemmas.Bool.{cond_both}

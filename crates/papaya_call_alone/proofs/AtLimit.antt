@@ -1,4 +1,4 @@
--- A call takes a number for each pair that it makes, where there is a limit on them.
+-- A call takes a number for each pair that it makes, if there is a pair limit.
 use Rattle.std.proofs.Common.{◌≡◌, ◌⊎◌, inl, inr, ℕ, ◌+◌, ◌<◌, ◌≤◌, ◌==◌, nat_lt, le-ltb, lt-ltb}
 use Rattle.std.proofs.Common.{Bool, true, false, cond, Option, None, Some, refl, sym, ap, ◌∙◌}
 use Rattle.std.proofs.Common.{subst}

@@ -1,4 +1,4 @@
--- What is told of the law's words is what the words answer a call.
+-- An answer to a call that is true of the law's words is what the words answer.
 use Rattle.std.proofs.Common.{◌≡◌, ⊎_elim, ℕ, ◌==◌, ◌&&◌, Bool, true, false, Option, Some, None, List, [], ◌++◌, cond, refl, sym, ap, ◌∙◌, subst, eqb-true}
 use Rattle.papaya_words.specs.Word.{live_word, pair_of}
 use Rattle.papaya_call.specs.declared.ask.Ask.{Ask}

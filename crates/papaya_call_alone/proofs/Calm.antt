@@ -1,4 +1,5 @@
--- A call that makes a pair looks at no next table: with each answer it comes nearer its end, as where no table has a next one.
+-- A call that makes a pair loads no next table: each answer brings it nearer its end, as if no
+-- table had a next one.
 use Rattle.std.proofs.Common.{◌≡◌, ℕ, ◌+◌, ◌<◌, ◌==◌, refl, sym, ◌∙◌, subst}
 use Rattle.std.specs.Prelude.{MatchBool}
 use Rattle.papaya_words.specs.Word.{live_word}

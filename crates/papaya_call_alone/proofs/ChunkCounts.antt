@@ -1,4 +1,4 @@
--- What each answer leaves to a copy of a chunk, of a resize that is pending.
+-- How much is left to the copy of a chunk, in a pending resize, after each answer.
 use Rattle.std.proofs.Common.{◌≡◌, inl, inr, ⊎_elim, ℕ, zero, suc, ◌+◌, ◌-◌, ◌/◌, ◌<◌, ◌≤◌, ◌==◌}
 use Rattle.std.proofs.Common.{◌&&◌, max, nat_lt, not, cond, Bool, true, false, Option, List, refl}
 use Rattle.std.proofs.Common.{sym, ap, ◌∙◌, subst, arith, eq-eqb, eqb-true}

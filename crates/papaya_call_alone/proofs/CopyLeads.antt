@@ -1,4 +1,5 @@
--- Where a copy of all leads: it goes on copying all, until its root is the root no more, or has no next table.
+-- The states of a copy of all: it goes on copying all, until its root is no longer the root, or has
+-- no next table.
 use Rattle.std.proofs.Common.{◌≡◌, cond, ℕ, ◌<◌, ◌==◌, ◌||◌, nat_lt, not, Bool, true, false, refl, sym, ap, ◌∙◌, subst, arith, eq-eqb, eqb-true}
 use Rattle.std.proofs.lemmas.Bool.{cond_both}
 use Rattle.papaya_words.specs.declared.resize_mode.ResizeMode.{ResizeMode}

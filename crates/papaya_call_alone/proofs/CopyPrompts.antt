@@ -1,4 +1,4 @@
--- What is told of the law's words is what the words answer a copier.
+-- An answer to a copier that is true of the law's words is what the words answer.
 use Rattle.std.proofs.Common.{◌≡◌, inl, inr, ⊎_elim, ℕ, ◌<◌, ◌==◌, Bool, true, false, Option, List, [], refl, sym, ap, ◌∙◌, subst, arith, eqb-true}
 use Rattle.std.specs.Prelude.{MatchBool}
 use Rattle.papaya_words.specs.declared.refused.Refused.{Refused}

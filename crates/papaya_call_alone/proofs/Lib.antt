@@ -1,4 +1,4 @@
--- what each answer leaves to a copy
+-- how much is left to a copy after each answer
 pub mod Telling
 pub mod Afters
 pub mod LinkEnds

@@ -1,4 +1,4 @@
--- What each answer leaves to the making of a table.
+-- How much is left to the making of a table after each answer.
 use Rattle.std.proofs.Common.{◌≡◌, inl, inr, ℕ, ◌^◌, ◌==◌, nat_le, sym, ◌∙◌, subst, arith}
 use Rattle.std.proofs.lemmas.Bool.{cond_both}
 use Rattle.papaya_words.specs.Chunks.{chunk_count, chunk_len}

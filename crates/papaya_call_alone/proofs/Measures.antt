@@ -1,4 +1,4 @@
--- The measure of a call falls where the budget is spent or less is left.
+-- The measure of a call falls if the budget is spent or less is left.
 use Rattle.std.proofs.Common.{◌≡◌, ◌⊎◌, inl, inr, ℕ, ◌+◌, ◌-◌, ◌*◌, ◌^◌, ◌<◌, ◌==◌, ◌||◌, sym, subst, arith}
 use Rattle.std.proofs.lemmas.Bool.{cond_both}
 use Rattle.papaya_call.specs.declared.call.Task.{Task}

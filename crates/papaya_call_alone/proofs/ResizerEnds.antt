@@ -1,4 +1,4 @@
--- When a call that resizes the map has ended, what was wanted is done.
+-- When a call that resizes the map has ended, what it is for is done.
 use Rattle.std.proofs.Common.{◌≡◌, inl, inr, ⊎_elim, ℕ, ◌+◌, ◌<◌, ◌≤◌, ◌^◌, ◌==◌, nat_le, max, Bool}
 use Rattle.std.proofs.Common.{true, false, cond, Option, None, Some, List, [], ◌∷◌, refl, sym, ap}
 use Rattle.std.proofs.Common.{◌∙◌, subst, arith, eqb-true, leb-true}

@@ -1,4 +1,4 @@
--- What each answer leaves to the copy of a slot.
+-- How much is left to the copy of a slot after each answer.
 use Rattle.std.proofs.Common.{◌≡◌, inl, inr, ℕ, ◌+◌, ◌%◌, ◌^◌, ◌≤◌, refl, sym, ap, ◌∙◌, subst, arith}
 use Rattle.papaya_words.specs.Word.{kind_of, kind_of_code, pair_of, filled_word}
 use Rattle.papaya_words.specs.declared.word.Kind.{Kind}

@@ -1,4 +1,4 @@
--- What each answer leaves to the copy of a chunk.
+-- How much is left to the copy of a chunk after each answer.
 use Rattle.std.proofs.Common.{◌≡◌, ◌⊎◌, inl, inr, ℕ, ◌+◌, ◌*◌, ◌-◌, ◌^◌, ◌%◌, ◌<◌, ◌≤◌, ◌==◌, ◌&&◌}
 use Rattle.std.proofs.Common.{nat_lt, nat_le, not, cond, Bool, ltb-true, leb-false, true, false}
 use Rattle.std.proofs.Common.{sym, ap, ◌∙◌, subst, arith, eqb-true}

@@ -1,4 +1,4 @@
--- What an answer to a copier is, and which words it leaves.
+-- What an answer to a copier is, and which words it leaves unchanged.
 use Rattle.std.proofs.Common.{◌≡◌, ◌⊎◌, inl, inr, ⊎_elim, ℕ, ◌<◌, ◌==◌, sym, subst}
 use Rattle.papaya_words.specs.declared.refused.Refused.{Refused}
 use Rattle.papaya_call.specs.declared.ask.At.{At}

@@ -1,5 +1,5 @@
--- Where a call alone stands in the chain: at the root, or behind it where it goes from table to
--- table; and what it has read stands there still.
+-- Where a call alone is in the chain: at the root, or behind it if it goes from table to table. The
+-- words that it has read are unchanged.
 use Rattle.std.specs.Prelude.{◌≡◌, ℕ, ◌≤◌, Some}
 use Rattle.papaya_words.specs.declared.resize_mode.ResizeMode.{ResizeMode}
 use Rattle.papaya_words.specs.declared.resize_mode.ResizeMode.TheVariants.{Incremental, Blocking}
@@ -28,7 +28,7 @@ IsAhead (Incremental chunk) words t = words words_at.Root ≤ t
 IsAhead Blocking words t = words words_at.Root ≡ t
 
 module _ (mode : ResizeMode) (words : At → ℕ) where
-  -- and so is the one where a key is absent
+  -- the same for the table where a key is absent
   abbrev pub IsGapAhead : Gap → Type 0
   IsGapAhead NoRoot = Unit {0}
   IsGapAhead (At_place at) = IsAhead mode words at.table
@@ -39,7 +39,8 @@ module _ (mode : ResizeMode) (words : At → ℕ) where
   IsPurposeAhead (Replace write) = Unit {0}
   IsPurposeAhead (Again write) = Unit {0}
 
-  -- the table that a call is in; without blocking alone a call leaves one for the next
+  -- the same for the table that a call is in; only without blocking does a call leave one for the
+  -- next
   abbrev pub IsAheadIn : State → Type 0
   IsAheadIn (Searching search) = IsAhead mode words (table_of search)
   IsAheadIn (Offering gap) = IsGapAhead gap
@@ -48,7 +49,8 @@ module _ (mode : ResizeMode) (words : At → ℕ) where
   IsAheadIn (Growing need) = IsAhead mode words (needed need)
   IsAheadIn _ = Unit {0}
 
-  -- the table that a call was set aside in, while the root is copied, and then the next one
+  -- the same for the table in which a call was set aside, while the root is copied, and then for
+  -- the next one
   abbrev pub IsAsideAhead : State → Copying → Type 0
   IsAsideAhead state (copyings.Stepping aim step) = (t : ℕ) → IsIncremental mode
       → left_by state ≡ Some t → words words_at.Root ≤ t
@@ -61,11 +63,11 @@ module _ (mode : ResizeMode) (words : At → ℕ) where
   IsPhaseRead state (Copying_root copying) = IsCopyingRead mode words copying
       × IsAsideAhead state copying
 
--- what a call, or the copy for which it is set aside, has read of tables stands there still
+-- the words of tables that a call, or the copy for which it is set aside, has read are unchanged
 abbrev pub IsCallRead : (At → ℕ) → Machine → Type 0
 IsCallRead words m = IsPhaseRead m.call.mode words m.call.state m.phase
 
--- and as many numbers were taken for pairs as it read
+-- the same, and as many numbers are taken for pairs as it has read
 pub record IsCurrent (words : At → ℕ) (m : Machine) : Type 0 where
   pub number : IsNumberRead words m.call.made.number
   pub read : IsCallRead words m

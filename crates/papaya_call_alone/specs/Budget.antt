@@ -17,12 +17,13 @@ pub record Budget : Type 0 where
   pub tables : ℕ
   pub exchanges : ℕ
 
--- it is less by a table, or by an exchange
+-- fewer tables are left, or as many tables and fewer exchanges
 abbrev pub IsSpent : Budget → Budget → Type 0
 IsSpent before later = (later.tables < before.tables)
     ⊎ ((later.tables ≡ before.tables) × (later.exchanges < before.exchanges))
 
--- a table that is made for a copy spends a table, and an exchange of a copy an exchange
+-- what an answer to an ask of a copy spends: a table if one was made, an exchange if one succeeded,
+-- and otherwise nothing
 abbrev pub SpendsCopy : CopyAsk → Answer → Budget → Budget → Type 0
 SpendsCopy (MakeTable slots limit chunks) (answers.Call (Made_number n)) before later =
     later.tables < before.tables
@@ -30,8 +31,7 @@ SpendsCopy (Exchange at old new) (answers.Call Exchanged) before later =
     (later.tables ≡ before.tables) × (later.exchanges < before.exchanges)
 SpendsCopy ask answer before later = later ≡ before
 
--- an exchange of a call spends one, unless a pair takes the place of another, or a number is taken
--- for a pair
+-- an exchange of a call spends one, unless a pair replaces another, or a number is taken for a pair
 abbrev pub SpendsExchange : Option StepKind → Budget → Budget → Type 0
 SpendsExchange (Some Replace) before later = later ≡ before
 SpendsExchange (Some Take) before later = later ≡ before
@@ -45,7 +45,7 @@ SpendsCall kind (call_asks.Exchange at old new) Exchanged before later =
     SpendsExchange kind before later
 SpendsCall kind ask answer before later = later ≡ before
 
--- any other answer leaves the budget
+-- what an answer spends: nothing, unless a table was made or an exchange succeeded
 abbrev pub Spends : Option StepKind → Ask → Answer → Budget → Budget → Type 0
 Spends kind (asks.Call ask) (answers.Call told) before later = SpendsCall kind ask told before later
 Spends kind (asks.Copy ask) answer before later = SpendsCopy ask answer before later

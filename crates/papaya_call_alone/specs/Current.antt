@@ -1,5 +1,5 @@
--- What a copy has read stands there still, where nobody else changes the words: so each exchange
--- finds the word that it looks for.
+-- The words that a copy has read are unchanged if nobody else changes the words, so each exchange
+-- finds the word that it expects.
 use Rattle.std.specs.Prelude.{◌≡◌, ℕ, ◌<◌}
 use Rattle.papaya_words.specs.Word.{kind_of}
 use Rattle.papaya_words.specs.declared.resize_mode.ResizeMode.{ResizeMode}
@@ -33,17 +33,17 @@ use Rattle.papaya_call.specs.declared.copy.step.Stepped.TheVariants as stepped
 use Rattle.papaya_call.specs.Link.{follows}
 use Rattle.papaya_call.specs.Step.{slot_of}
 
--- without blocking
+-- the map resizes without blocking
 abbrev pub IsIncremental : ResizeMode → Type 0
 IsIncremental (Incremental chunk) = Unit {0}
 IsIncremental Blocking = ⊥
 
--- with blocking, the table was not given up
+-- with blocking, the table was not aborted
 abbrev pub IsAlive : ResizeMode → (At → ℕ) → ℕ → Type 0
 IsAlive (Incremental chunk) words t = Unit {0}
 IsAlive Blocking words t = words (words_at.Aborted t) ≡ 0
 
--- with blocking, a pair is carried to the target alone
+-- with blocking, a pair is carried only to the target
 abbrev pub IsAtTarget : ResizeMode → SlotToCopy → ℕ → Type 0
 IsAtTarget (Incremental chunk) slot t = Unit {0}
 IsAtTarget Blocking slot t = t ≡ slot.to
@@ -57,7 +57,7 @@ IsLinkedRead words (linked.On link) = IsLinkRead words link
 IsLinkedRead words _ = Unit {0}
 
 module _ (mode : ResizeMode) (words : At → ℕ) where
-  -- a pair finds its place empty, and the table that it gives up was not given up
+  -- the place for a pair is empty, and a table that is to be aborted was not aborted yet
   abbrev pub IsCarryRead : SlotToCopy → Carry → Type 0
   IsCarryRead slot (carries.Hashing table) = IsAtTarget mode slot table
   IsCarryRead slot (carries.Sizing hash table) = IsAtTarget mode slot table
@@ -74,7 +74,7 @@ module _ (mode : ResizeMode) (words : At → ℕ) where
   abbrev pub word_in : SlotToCopy → ℕ
   word_in slot = words (words_at.Slot slot.from slot.index)
 
-  -- the pair of the marked word is carried, and the word stands in its slot
+  -- the pair of the marked word is being carried, and the slot still has that word
   pub record IsCarrying (slot : SlotToCopy) (word : ℕ) : Type 0 where
     pub alive : IsAlive mode words slot.to
     pub stands : word_in slot ≡ word
@@ -104,7 +104,7 @@ module _ (mode : ResizeMode) (words : At → ℕ) where
     pub root : words words_at.Root ≡ cursor.from
     pub alive : IsAlive mode words cursor.to
 
-  -- and the word of this chunk says that it is not copied
+  -- the same, and the word of this chunk says that it is not copied
   pub record IsDueRead (cursor : Cursor) : Type 0 where
     pub some : 0 < cursor.slots
     pub root : words words_at.Root ≡ cursor.from
@@ -130,7 +130,7 @@ module _ (mode : ResizeMode) (words : At → ℕ) where
       × IsAlive mode words chunk.cursor.to
   IsSteppedRead _ = Unit {0}
 
-  -- a slot of its own is copied without blocking alone
+  -- only without blocking does a call copy a slot of its own
   abbrev pub IsAimRead : Aim → Type 0
   IsAimRead (aims.Settle slot) = IsIncremental mode
   IsAimRead _ = Unit {0}

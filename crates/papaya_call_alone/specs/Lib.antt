@@ -1,10 +1,10 @@
--- what an answer says in words, and what it spends
+-- what an answer says, and what it spends
 pub mod Prompt
 pub mod Budget
--- how much is left, and what was read and stands there still
+-- how much is left, and that the words that were read are unchanged
 pub mod Measure
 pub mod Current
--- how far a call is from its end, and where it stands in the chain
+-- how far a call is from its end, and where it is in the chain
 pub mod Rank
 pub mod Ahead
 -- how it takes numbers for pairs

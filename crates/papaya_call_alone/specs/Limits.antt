@@ -1,4 +1,4 @@
--- A call that takes a number for each pair that it makes, where there is a limit on them.
+-- A call that takes a number for each pair that it makes, if there is a pair limit.
 use Rattle.std.specs.Prelude.{◌≡◌}
 use Rattle.papaya_call.specs.declared.ask.Answer.TheVariants.{Exchanged, Made as Made_number}
 use Rattle.papaya_call.specs.declared.ask.Ask.{Ask as Call_ask}
@@ -12,7 +12,7 @@ use Rattle.papaya_call.specs.declared.chain.ask.Answer.TheVariants as answers
 use Rattle.papaya_call.specs.declared.chain.machine.Machine.{Machine}
 use Rattle.papaya_call_law.specs.Says.{MakesPair}
 
--- a call has something logged for its next pair: its key, a value, or the pair
+-- the ask makes something for the call's next pair: its key, its value, or the pair
 abbrev pub IsLogAsk : Call_ask → Type 0
 IsLogAsk MakeKey = Unit {0}
 IsLogAsk MakeValue = Unit {0}
@@ -24,16 +24,16 @@ abbrev pub IsLogging : Ask → Type 0
 IsLogging (asks.Call ask) = IsLogAsk ask
 IsLogging (asks.Copy ask) = ⊥
 
--- it has a number for that
+-- it has taken a number for its next pair
 abbrev pub HasNumber : Machine → Type 0
 HasNumber m = m.call.made.number ≡ Taken
 
--- the pair was logged
+-- the answer says that a pair was made
 abbrev pub IsPairLogged : Ask → Answer → Type 0
 IsPairLogged (asks.Call ask) (answers.Call (Made_number n)) = MakesPair ask
 IsPairLogged _ _ = ⊥
 
--- a number was taken
+-- the ask takes a number; `IsNumberTaken` says that the answer is that it was taken
 abbrev pub IsTakeAsk : Call_ask → Type 0
 IsTakeAsk (Exchange Made_word old new) = Unit {0}
 IsTakeAsk _ = ⊥

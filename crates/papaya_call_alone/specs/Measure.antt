@@ -1,7 +1,7 @@
--- How much is left to a copy, at most, until it has made a table, exchanged a word or ended. Each
+-- A bound on how much is left to a copy until it has made a table, exchanged a word or ended. Each
 -- place costs a little, each table that may come after this one more than all places of a table,
--- each slot more than all tables, and all words of chunks that may be loaded yet less than a
--- slot. Where a table was linked or given up a copy may begin anew, so as much is left then as at
+-- each slot more than all tables, and all words of chunks that may still be loaded less than a
+-- slot. Once a table was linked or aborted a copy may begin again, so as much is left then as at
 -- its beginning.
 use Rattle.std.specs.Prelude.{ℕ, ◌+◌, ◌*◌, ◌-◌, ◌^◌, if◌then◌else◌}
 use Rattle.papaya_call.specs.declared.copy.carry.Carried.{Carried}
@@ -27,11 +27,11 @@ use Rattle.papaya_call.specs.declared.copy.step.Step.TheVariants as steps
 use Rattle.papaya_call.specs.declared.copy.step.Stepped.{Stepped}
 use Rattle.papaya_call.specs.declared.copy.step.Stepped.TheVariants as stepped
 
--- how many tables may come after this one: their numbers rise
+-- how many tables may come after table t, since their numbers rise
 abbrev pub further : ℕ → ℕ
 further t = 2 ^ 32 - t
 
--- the making of a table
+-- the bound for the making of a table
 abbrev pub left_of_link : Link → ℕ
 left_of_link (links.Sizing behind source unfit) = 5
 left_of_link (links.Measuring behind source unfit len) = 4
@@ -44,7 +44,7 @@ left_of_linked (linked.On link) = left_of_link link
 left_of_linked (linked.Table table) = 2 * 2 ^ 102
 left_of_linked (linked.Refused refused) = 0
 
--- a carry in a table, and in those after it
+-- the bound for a carry, in its table and in those after it
 abbrev pub left_of_carry : Carry → ℕ
 left_of_carry (carries.Hashing table) = further table * 2 ^ 34 + 2 ^ 34 + 2
 left_of_carry (carries.Sizing hash table) = further table * 2 ^ 34 + 2 ^ 34 + 1
@@ -65,7 +65,7 @@ left_of_carried (carried.On carry) = left_of_carry carry
 left_of_carried (carried.Unfit table) = 2 * 2 ^ 102
 left_of_carried _ = 0
 
--- the copy of a slot, in as many tables as there may be
+-- the bound for the copy of a slot, over as many tables as there may be
 abbrev pub left_of_settle : Settle → ℕ
 left_of_settle settles.Looking = 2 ^ 66 + 2 ^ 34 + 5
 left_of_settle (settles.Carrying word carry) = left_of_carry carry + 1
@@ -76,16 +76,16 @@ left_of_settled (settled.On settle) = left_of_settle settle
 left_of_settled (settled.Unfit table) = 2 * 2 ^ 102
 left_of_settled _ = 0
 
--- the words of chunks that a cursor may load after this one
+-- how many words of chunks the cursor may still load after this one
 abbrev pub words_left : Cursor → ℕ
 words_left cursor = if cursor.wrapped then cursor.start - cursor.at
     else cursor.len - cursor.begun + cursor.start + 1
 
--- the slots of a chunk from this one on
+-- the bound for the slots of a chunk from this one on
 abbrev pub left_of_chunk : Chunk → Settle → ℕ
 left_of_chunk chunk settle = (chunk.end - chunk.at - 1) * 2 ^ 68 + left_of_settle settle + 2
 
--- the copy of a chunk, of as many slots as a table may have
+-- the bound for the copy of a chunk, with as many slots as a table may have
 abbrev pub left_of_step : Step → ℕ
 left_of_step steps.AtRoot = 2 * 2 ^ 102
 left_of_step (steps.Aiming from behind) = 2 ^ 102 + 6 + 2 * further behind
@@ -105,7 +105,7 @@ left_of_stepped (stepped.Further chunk) = left_of_chunk chunk settles.Looking
 left_of_stepped stepped.Over = 2 * 2 ^ 102
 left_of_stepped (stepped.Refused refused) = 0
 
--- the copy of the root, for what is wanted of it
+-- the bound for a copy of the root
 abbrev pub left_of_copying : Copying → ℕ
 left_of_copying (copyings.Stepping aim step) = left_of_step step
 left_of_copying (copyings.Lone slot settle) = left_of_settle settle

@@ -1,4 +1,4 @@
--- What an answer to what is asked for a copy says, where nobody else changes the words.
+-- What an answer to an ask of a copy says, if nobody else changes the words.
 use Rattle.std.specs.Prelude.{◌≡◌, ◌⊎◌, ℕ, ◌+◌, ◌<◌, ◌≤◌, ◌^◌, ◌==◌, Bool, MatchBool}
 use Rattle.papaya_words.specs.declared.refused.Refused.{Refused}
 use Rattle.papaya_call.specs.declared.ask.At.{At}
@@ -24,13 +24,14 @@ use Rattle.papaya_words_law.specs.Exchange.{Setting, State}
 use Rattle.papaya_call_law.specs.Alone.{IsPut, IsSame, IsSaying}
 use Rattle.papaya_call_law.specs.Alone as calls
 
--- the tables that were opened or linked have numbers of so many bits, and sizes of tables
+-- the tables that were opened or linked have numbers up to 2^32, and sizes that tables may have
 pub record IsBounded {K P : Type 0} (g : Setting K P) (s : State P) : Type 0 where
   pub number : (t : ℕ) → IsOn s.first s.next t → t ≤ 2 ^ 32
   pub size : (t limit : ℕ) → IsOn s.first s.next t → limit + 1 ≡ g.places t
       → IsSize (g.size t) limit
 
--- a next table has a greater number, within bounds
+-- if the number of a next table is loaded, it is 0, or greater than that of its table and at most
+-- 2^32
 abbrev pub IsNumber : (At → ℕ) → At → Type 0
 IsNumber words (Next t) = (words (Next t) ≡ 0)
     ⊎ ((t < words (Next t)) × (words (Next t) ≤ 2 ^ 32))
@@ -41,7 +42,7 @@ abbrev pub IsMaking : Answer → Type 0
 IsMaking answer = ((n : ℕ) × (answer ≡ answers.Call (Made_number n)))
     ⊎ ((refused : Refused) × (answer ≡ answers.Call (Was_refused refused)))
 
--- What is asked is answered by the words, and just its own exchange changes them.
+-- An ask of a copy is answered by the words, and only its own exchange changes them.
 abbrev pub IsCopyPrompt : (At → ℕ) → CopyAsk → Answer → (At → ℕ) → Type 0
 IsCopyPrompt words (Load at) answer words' =
     ((answer ≡ answers.Call (Word_read (words at))) × IsNumber words at) × IsSame words words'
@@ -63,8 +64,8 @@ IsCopyPrompt words Count answer words' = ((count : ℕ) × (answer ≡ answers.C
     × IsSame words words'
 IsCopyPrompt words (MakeTable slots limit chunks) answer words' = IsMaking answer × IsSame words words'
 
--- What a call asks to be made is made or refused, its closure answers as it was asked, and a call
--- that has replied asks nothing more.
+-- What a call asks to be made is made or refused, its closure returns a result of the kind that its
+-- task needs, and a call that has replied asks nothing more.
 abbrev pub IsServed : Task → Call_ask → Call_answer → Type 0
 IsServed task call_asks.ShowNone answer = IsSaying Compute answer
 IsServed task (call_asks.ShowPair n) answer = IsSaying task answer

@@ -1,5 +1,5 @@
 -- A call that resizes the map, with no other caller beside it: how far it is from its end, what it
--- has read, and what is so when it has ended.
+-- has read, and what holds when it has ended.
 use Rattle.std.specs.Prelude.{◌≡◌, ◌⊎◌, ℕ, ◌+◌, ◌*◌, ◌^◌, ◌<◌, ◌≤◌, ◌==◌, ◌||◌, if◌then◌else◌, Option, None}
 use Rattle.papaya_words.specs.declared.resize_mode.ResizeMode.{ResizeMode}
 use Rattle.papaya_call.specs.declared.ask.At.{At}
@@ -21,8 +21,8 @@ use Rattle.papaya_call_alone.specs.Budget.{Budget}
 use Rattle.papaya_call_alone.specs.Current.{IsCopyingRead, IsLinkRead}
 use Rattle.papaya_call_alone.specs.Measure.{left_of_copying, left_of_link}
 
--- A copy of all of a root that is the root no more begins anew when it is over, so more is left to
--- it than to one that begins.
+-- A copy of all that began at a table which is no longer the root begins again when it is over, so
+-- more is left to it than to one that begins now.
 abbrev pub left_of_from : (from root left : ℕ) → ℕ
 left_of_from from root left = if from == 0 || root == from then left else left + 2 ^ 121
 
@@ -38,17 +38,17 @@ left_of_stage root (stages.Copying from copying) =
     left_of_from from root (left_of_copying copying)
 left_of_stage root _ = 0
 
--- The measure of a resizer, by what may be made and exchanged yet: it falls with each answer.
+-- The measure of a resizer, by its budget and its state: it falls with each answer.
 abbrev pub resizer_measure : Budget → (root : ℕ) → Resizer → ℕ
 resizer_measure budget root resizer = (budget.tables * 2 ^ 128 + budget.exchanges) * 2 ^ 192
     + left_of_stage root resizer.state
 
--- room is made for a reserve alone
+-- the call reserves room
 abbrev pub IsReserve : Resize → Type 0
 IsReserve (Reserve more) = Unit {0}
 IsReserve _ = ⊥
 
--- a reserve looks for the next table with the room that it wants
+-- a reserve looks up the next table with a size that it needs
 abbrev pub IsRoomFor : Resize → Option TableSize → Type 0
 IsRoomFor (Reserve more) None = ⊥
 IsRoomFor _ _ = Unit {0}
@@ -60,7 +60,7 @@ module _ (words : At → ℕ) where
     pub aim : aim_of copying ≡ All from
     pub next : 0 < words (words_at.Next from)
 
-  -- a chunk is copied, or all
+  -- the copy is one of a chunk, or one of all that began at `from`
   abbrev pub IsBegunFrom : Resize → (from : ℕ) → Copying → Type 0
   IsBegunFrom resize from copying = ((resize ≡ Chunk) × (from ≡ 0)) ⊎ IsFrom from copying
 
@@ -80,7 +80,7 @@ module _ (mode : ResizeMode) (words : At → ℕ) where
       × IsBegunFrom words resize from copying
   IsStageRead resize _ = Unit {0}
 
--- what it has read stands there still
+-- the words that it has read are unchanged
 abbrev pub IsResizerRead : (At → ℕ) → Resizer → Type 0
 IsResizerRead words resizer = IsStageRead resizer.mode words resizer.resize resizer.state
 
@@ -88,12 +88,12 @@ IsResizerRead words resizer = IsStageRead resizer.mode words resizer.resize resi
 abbrev pub IsWhole : (At → ℕ) → Type 0
 IsWhole words = (words words_at.Root ≡ 0) ⊎ (words (words_at.Next (words words_at.Root)) ≡ 0)
 
--- the root has slots for so many pairs more than were counted
+-- the root has enough slots for the pairs that were counted and for `more` others
 abbrev pub HasRoom : (At → ℕ) → (size : ℕ → ℕ) → Answer → (more : ℕ) → Type 0
 HasRoom words size answer more = (count : ℕ) × (answer ≡ answers.Count count)
     × (0 < words words_at.Root) × (entries_of (count + more) ≤ size (words words_at.Root))
 
--- what was wanted is done, with this answer
+-- what the call is for is done, after this answer
 abbrev pub HasResized : (At → ℕ) → (size : ℕ → ℕ) → Answer → Resize → Type 0
 HasResized words size answer Chunk = Unit {0}
 HasResized words size answer CopyAll = IsWhole words

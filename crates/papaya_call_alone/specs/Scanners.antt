@@ -15,17 +15,19 @@ use Rattle.papaya_call.specs.declared.chain.scanner.ScannerState.{ScannerState}
 use Rattle.papaya_call.specs.declared.chain.scanner.ScannerState.TheVariants.{Copying, AtRoot, Sizing, Looking, Giving, Showing, Burying, Uncounting}
 use Rattle.papaya_call.specs.declared.chain.scanner.Scanner.{Scanner}
 
--- an exchange spends one, and a table that is made for the copy a table; nothing else spends
+-- an answer to an ask of its copy spends what an answer to a copy's ask does, and any other answer
+-- spends nothing
 abbrev pub SpendsScan : ScanAsk → Answer → Budget → Budget → Type 0
 SpendsScan (Copy ask) answer before later = SpendsCopy ask answer before later
 SpendsScan ask answer before later = later ≡ before
 
--- so much is left in this slot, and in those after it
+-- what is left in this slot, which is `here`, and in those after it
 abbrev pub left_of_slot : Spot → (here : ℕ) → ℕ
 left_of_slot spot here = (spot.len - spot.slot - 1) * 4 + here
 
 module _ (words : At → ℕ) where
-  -- a table with a next one may send the scan to copy all, which leaves a root without one
+  -- what is left in a table; a table with a next one may send the scan to copy all, which leaves a
+  -- root without a next one
   abbrev pub left_in_table : (table left : ℕ) → ℕ
   left_in_table table left = if words (words_at.Next table) == 0 then left else left + 2 ^ 131
 
@@ -48,12 +50,12 @@ module _ (words : At → ℕ) where
     pub root : IsRoot words spot.table
     pub most : spot.len ≤ 2 ^ 32
 
-  -- and this word stands in the slot
+  -- the same, and the slot has this word
   abbrev pub IsWordRead : Spot → (word : ℕ) → Type 0
   IsWordRead spot word = IsSpotRead spot
       × (words (words_at.Slot spot.table spot.slot) ≡ word)
 
--- The measure of a scanner, by what may be made and exchanged yet: it falls with each answer.
+-- The measure of a scanner, by its budget and its state: it falls with each answer.
 abbrev pub scanner_measure : Budget → (At → ℕ) → Scanner → ℕ
 scanner_measure budget words scanner = (budget.tables * 2 ^ 128 + budget.exchanges) * 2 ^ 192
     + left_of_scan words scanner.state
@@ -69,6 +71,6 @@ module _ (mode : ResizeMode) (words : At → ℕ) where
   IsScanRead (Uncounting spot) = IsSpotRead words spot
   IsScanRead _ = Unit {0}
 
--- what it has read stands there still
+-- the words that it has read are unchanged
 abbrev pub IsScannerRead : (At → ℕ) → Scanner → Type 0
 IsScannerRead words scanner = IsScanRead scanner.mode words scanner.state

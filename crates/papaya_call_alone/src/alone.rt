@@ -33,8 +33,8 @@ use papaya_call::chain::machine::Machine;
 use papaya_call::chain::resizer::{Resize, Resizer};
 use papaya_call::copy_ask::CopyAsk;
 
-/// Each answer brings a copy nearer to its end: it spends some of the budget, or less work is left.
-/// The words that the copy has read have not changed, so no exchange fails.
+/// States that each answer brings a copy nearer to its end: it spends some of the budget, or less
+/// work is left. The words that the copy has read have not changed, so no exchange fails.
 pub fn alone_copiers<K, P>()
     ensures nearer { (g : Setting K P) (c : Coding K P) → IsHashed g c
         → (s : State P) (m : K → Option P) → IsKeeping g s m → IsBounded g s
@@ -61,10 +61,10 @@ pub fn alone_copiers<K, P>()
         (copying_after copying mode initial number answer) }
 {}
 
-/// Each answer brings a call over a chain nearer to its end: its measure falls. The words that the
-/// call has read have not changed, so no exchange fails. A budget counts how many tables may still
-/// be made and words exchanged. Whatever the call asks for is made or refused, and its closure
-/// returns.
+/// States that each answer brings a call over a chain nearer to its end: its measure falls. The
+/// words that the call has read have not changed, so no exchange fails. A budget counts how many
+/// tables may still be made and words exchanged. Whatever the call asks for is made or refused, and
+/// its closure returns.
 pub fn alone_calls<K, P>()
     ensures begins { (words : At → ℕ) (task : Task) (hash : ℕ) (mode : ResizeMode)
         (initial number : ℕ) (limit : Option ℕ)
@@ -92,8 +92,8 @@ pub fn alone_calls<K, P>()
         → IsCurrent (word_of g c (run (begun ++ (since ++ es)) start)) (after m answer) }
 {}
 
-/// Each answer brings a resizer nearer to its end: its measure falls, and the words that it has
-/// read have not changed. When it has ended, the resize that was wanted is finished.
+/// States that each answer brings a resizer nearer to its end: its measure falls, and the words
+/// that it has read have not changed. When it has ended, the resize that was wanted is finished.
 pub fn alone_resizers<K, P>()
     ensures begins { (words : At → ℕ) (resize : Resize) (mode : ResizeMode)
         (initial number : ℕ) → IsResizerRead words (begun resize mode initial number) }

@@ -21,9 +21,9 @@ use papaya_call::ask::At;
 use papaya_call::chain::ask::Answer;
 use papaya_call::chain::resizer::Resizer;
 
-/// A copy of a chunk that is not refused ends the pending resize, or copies one more chunk and
-/// leaves one that is not copied. So at most as many copies as the root has chunks end the resize:
-/// its slots divided by those of a chunk, rounded up.
+/// States that a copy of a chunk that is not refused ends the pending resize, or copies one more
+/// chunk and leaves one that is not copied. So at most as many copies as the root has chunks end
+/// the resize: its slots divided by those of a chunk, rounded up.
 pub fn alone_chunks<K, P>()
     ensures begins { (words : At → ℕ) (size : ℕ → ℕ) (from to slots due initial number : ℕ)
         → IsDue words from to (chunks_of (size from) slots) due

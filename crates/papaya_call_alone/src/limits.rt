@@ -13,9 +13,9 @@ use papaya_call::chain::ask::{Answer, Ask};
 use papaya_call::chain::machine::Machine;
 use papaya_words::refused::Refused;
 
-/// A call that is about to make a pair loads how many numbers were taken. If that is the limit, the
-/// call ends refused. Below the limit it takes the next number, which is still free because nobody
-/// else takes one. Then it continues, and stores something.
+/// States that a call that is about to make a pair loads how many numbers were taken. If that is
+/// the limit, the call ends refused. Below the limit it takes the next number, which is still free
+/// because nobody else takes one. Then it continues, and stores something.
 ///
 /// Each pair needs a number of its own. So a call stores nothing before it has taken a number, and
 /// after it has stored a pair, nothing more before it has taken the next.

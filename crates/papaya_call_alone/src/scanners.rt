@@ -19,9 +19,9 @@ use papaya_call::ask::At;
 use papaya_call::chain::ask::{Answer, ScanAsk};
 use papaya_call::chain::scanner::{Scan, Scanner};
 
-/// Each answer brings a scanner nearer to its end: its measure falls. The words that it has read
-/// have not changed, so no exchange fails. `scanners_end` states what holds when an iteration, a
-/// clear or a retain ends.
+/// States that each answer brings a scanner nearer to its end: its measure falls. The words that it
+/// has read have not changed, so no exchange fails. `scanners_end` states what holds when an
+/// iteration, a clear or a retain ends.
 pub fn alone_scanners<K, P>()
     ensures begins { (words : At → ℕ) (scan : Scan) (mode : ResizeMode)
         (initial number : ℕ) → IsScannerRead words (begun scan mode initial number) }

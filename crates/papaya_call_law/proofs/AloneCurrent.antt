@@ -1,4 +1,5 @@
--- What a machine has read stands there still after each answer, where nobody else changes the words.
+-- The words that a machine has read are unchanged after each answer, if nobody else changes the
+-- words.
 use Rattle.std.proofs.Common.{◌≡◌, ⊎_elim, ℕ, ◌+◌, ◌<◌, ◌%◌, ◌==◌, nat_lt, Bool, true, false, Option, Some, None, refl, sym, ap, ◌∙◌, subst, arith}
 use Rattle.std.proofs.lemmas.Bool.{cond_both, eqb-true, cases_eq}
 use Rattle.papaya_words.specs.Word.{kind_of, kind_of_code, pair_of, filled_word, may_hold, live_word}

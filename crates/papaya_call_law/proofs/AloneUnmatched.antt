@@ -1,4 +1,4 @@
--- A call that looks for its key, and is told of no pair with it, meets none.
+-- A lookup or a removal for whose key no answer reports a match meets no pair with it.
 use Rattle.std.proofs.Common.{◌≡◌, ℕ, ◌==◌, nat_lt, Option, refl, sym, subst}
 use Rattle.std.proofs.lemmas.Bool.{cond_both}
 use Rattle.papaya_words.specs.Word.{kind_of, may_hold}

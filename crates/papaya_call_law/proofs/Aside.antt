@@ -1,4 +1,4 @@
--- Where a call stands that is set aside.
+-- The state of a call that is set aside.
 use Rattle.std.proofs.Common.{◌≡◌, inl, inr, ⊎_elim, ℕ, ◌<◌, false, Some, List, ◌++◌, refl, sym, ap, ◌∙◌, subst, arith}
 use Rattle.papaya_call.specs.declared.call.Task.{Task}
 use Rattle.papaya_call.specs.declared.call.Task.TheVariants.{Get, Insert, RemoveIf, Compute}

@@ -1,4 +1,5 @@
--- A machine over a chain that stands within its tables does so after each answer within the limits, and asks for tables of sizes of tables.
+-- A machine over a chain is within its tables after each answer within the limits, and asks only
+-- for tables of sizes that tables may have.
 use Rattle.std.proofs.Common.{ℕ, ◌==◌, Bool, true, false, Option, None, Some, sym, subst}
 use Rattle.std.proofs.lemmas.Bool.{cond_both}
 use Rattle.std.specs.Int.{IsPowerOfTwo}

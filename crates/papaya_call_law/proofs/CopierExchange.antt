@@ -1,4 +1,5 @@
--- The exchange that a copier asks for: where its old word stands there it may be made, and it writes just its word.
+-- The exchange for which a copier asks: it may be made if its old word is there, and it writes only
+-- its own word.
 use Rattle.std.proofs.Common.{◌≡◌, ◌⊎◌, inl, inr, ⊎_elim, ℕ, ◌<◌, ◌==◌, ◌&&◌, eqb-true, eq-eqb}
 use Rattle.std.proofs.Common.{Bool, true, false, cond, Option, Some, refl, sym, ap, ◌∙◌, subst}
 use Rattle.std.proofs.Common.{arith}

@@ -1,4 +1,5 @@
--- What a copier asks for is allowed where its old word stands, and what it may count on after each answer.
+-- What a copier asks for is allowed if its old word is there, and what it may rely on after each
+-- answer.
 use Rattle.std.proofs.Common.{◌≡◌, inl, ⊎_elim, ℕ, suc, ◌<◌, ◌≤◌, true, false, Option, ap, ◌∙◌, sym, subst, arith}
 use Rattle.std.proofs.lemmas.Bool.{cases_lt}
 use Rattle.papaya_words.proofs.ChunkLemmas.{chunk_first}

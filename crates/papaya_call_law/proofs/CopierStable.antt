@@ -1,4 +1,4 @@
--- What a copier relies on stays so, whatever is exchanged.
+-- What a copier relies on stays true, whatever is exchanged.
 use Rattle.std.proofs.Common.{◌≡◌, ◌⊎◌, inl, inr, ⊎_elim, ℕ, Option, subst}
 use Rattle.papaya_words.specs.Word.{hint_of}
 use Rattle.papaya_words_law.specs.Class.{IsOn}

@@ -1,4 +1,4 @@
--- What a copier relies on stays so, whatever tables come later.
+-- What a copier relies on stays true, whatever tables are made later.
 use Rattle.std.proofs.Common.{◌≡◌, inl, inr, ⊎_elim, ℕ, ◌<◌, true, Option, refl, sym, ap, ◌∙◌, subst}
 use Rattle.papaya_words.specs.Word.{hint_of}
 use Rattle.papaya_words_law.specs.Class.{IsOn}

@@ -1,4 +1,4 @@
--- A copy ends refused only where a table that it makes is, or would be too long.
+-- A copy ends with a refusal only if a table that it makes is refused, or would be too long.
 use Rattle.std.proofs.Common.{◌≡◌, ℕ, ◌==◌, ◌||◌, nat_lt, not, cond, Bool, true, false, Option, None, Some, refl, ap, ◌∙◌}
 use Rattle.std.proofs.lemmas.Bool.{cond_both}
 use Rattle.papaya_words.specs.Word.{kind_of, may_hold}

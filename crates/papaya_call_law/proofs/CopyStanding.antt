@@ -1,4 +1,5 @@
--- What is made or copied stands within its tables after each answer within the limits, and asks for tables of sizes of tables.
+-- What is made or copied is within its tables after each answer within the limits, and asks only
+-- for tables of sizes that tables may have.
 use Rattle.std.proofs.Common.{ℕ, zero, suc, ◌+◌, ◌-◌, ◌%◌, ◌==◌, ◌<◌, ◌≤◌, ◌^◌, nat_lt, nat_le, ◌&&◌, ◌||◌, not, cond, Bool, true, false, max, arith}
 use Rattle.std.proofs.Math.Nat.{mod-lt}
 use Rattle.std.proofs.lemmas.Bool.{and_parts, cond_both, leb-true, ltb-true}

@@ -1,4 +1,4 @@
--- One further key: the numbers that stand at the places are what they were.
+-- One further key: the numbers of the words are what they were.
 use Rattle.std.proofs.Common.{◌≡◌, ℕ, Bool, refl}
 use Rattle.papaya_call.specs.declared.ask.At.{At}
 use Rattle.papaya_call.specs.declared.ask.At.TheVariants.{Root, Next, Aborted, Done, Slot, Made}

@@ -1,4 +1,4 @@
--- What holds of each state that a load or a search leads to, holds of where it leads.
+-- A fact that holds of each state to which a load or a search may lead holds of the state after it.
 use Rattle.std.proofs.Common.{ℕ, ◌==◌, true, false, Option, None, Some}
 use Rattle.std.proofs.lemmas.Bool.{cond_both}
 use Rattle.papaya_words.specs.Word.{kind_of, pair_of}

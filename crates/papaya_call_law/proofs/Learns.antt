@@ -1,4 +1,4 @@
--- After an answer that is true of the words a call over a chain relies on what holds again.
+-- What a call over a chain relies on holds again after an answer that is true of the words.
 use Rattle.std.proofs.Common.{◌≡◌, inl, inr, ℕ, ◌<◌, ◌==◌, Bool, false, cond, Option, Some, List}
 use Rattle.std.proofs.Common.{[], ◌∷◌, ◌++◌, append-nil, refl, sym, ap, ◌∙◌, subst, append_assoc}
 use Rattle.std.proofs.lemmas.Bool.{cond_both}

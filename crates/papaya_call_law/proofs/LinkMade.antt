@@ -1,4 +1,4 @@
--- The table that a machine is about to link is one that was made: it stays so whatever is answered.
+-- The table that a machine is about to link is one that was made, and so it is after each answer.
 use Rattle.std.proofs.Common.{◌≡◌, ◌⊎◌, inl, inr, ℕ, ◌^◌, ◌==◌, nat_le, Bool, Option, None, Some, refl, sym, ap, subst}
 use Rattle.std.proofs.lemmas.Bool.{cond_both}
 use Rattle.papaya_words.specs.Chunks.{chunk_count, chunk_len}

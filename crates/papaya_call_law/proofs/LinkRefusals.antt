@@ -1,4 +1,4 @@
--- The making of a table ends refused where it is refused, or would be too long.
+-- The making of a table ends with a refusal if the table is refused, or would be too long.
 use Rattle.std.proofs.Common.{◌≡◌, ◌⊎◌, inl, inr, ℕ, ◌<◌, ◌^◌, Bool, true, false, nat_le, cond, None, Some, refl, sym, ap, ◌∙◌, leb-false}
 use Rattle.papaya_words.specs.Chunks.{chunk_count, chunk_len}
 use Rattle.papaya_words.specs.Table.{length_after}

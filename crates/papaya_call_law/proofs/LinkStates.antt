@@ -1,4 +1,4 @@
--- What is said of a table that is made for a copy, from one answer to the next.
+-- What holds of a table that is made for a copy, from one answer to the next.
 use Rattle.std.proofs.Common.{sym, ◌∙◌, ◌≡◌, ℕ, ◌==◌, ◌&&◌, ◌||◌, nat_lt, not, cond, Bool, true, false, Option, None, Some, refl, ap}
 use Rattle.std.proofs.lemmas.Bool.{cond_both}
 use Rattle.papaya_words.specs.Word.{kind_of, may_hold}

@@ -1,4 +1,4 @@
--- Lists of tables: counts, numbers that rise, and what is among them.
+-- Lists of tables: counts, increasing numbers, and which tables are in them.
 use Rattle.std.proofs.Common.{◌≡◌, ℕ, zero, suc, ◌+◌, ◌<◌, ◌≤◌, ◌==◌, cond, List, [], ◌∷◌, length, get_or, refl, subst, arith}
 use Rattle.std.specs.List.{Contains, count_by}
 use Rattle.std.specs.List.Sorted.{IsStrictlyIncreasing}

@@ -1,4 +1,4 @@
--- What one answer leaves a lookup to load.
+-- How much a lookup may still load after one answer.
 use Rattle.std.proofs.Common.{◌≡◌, ◌⊎◌, inl, inr, ⊎_elim, ℕ, ◌+◌, ◌-◌, ◌<◌, ◌≤◌, ◌==◌, nat_lt, Bool}
 use Rattle.std.proofs.Common.{true, false, None, List, ◌∷◌, refl, sym, subst, arith, Option}
 use Rattle.std.specs.List.{All, Contains, cons_option}

@@ -1,4 +1,4 @@
--- What a call asks that makes a pair, and where the answers lead it.
+-- What a call asks that makes a pair, and its state after each answer.
 use Rattle.std.proofs.Common.{◌≡◌, ℕ, ◌+◌, ◌==◌, Bool, true, false, cond, Option, None, Some, refl}
 use Rattle.std.proofs.lemmas.Bool.{cond_both}
 use Rattle.papaya_words.specs.Word.{pair_of}

@@ -1,4 +1,4 @@
--- The word that names a pair in a table, where the pair is put in.
+-- The word by which a pair is put into a table.
 use Rattle.std.proofs.Common.{◌≡◌, ℕ, arith}
 use Rattle.papaya_words.specs.Word.{live_word, pair_of}
 use Rattle.papaya_words.proofs.WordLemmas.{pair_of-filled_word}

@@ -1,4 +1,4 @@
--- A call over a chain shows once at most that its key is absent.
+-- A call over a chain calls its closure with None at most once.
 use Rattle.std.proofs.Common.{◌≡◌, inl, inr, ℕ, Option, Some, sym, ap, subst}
 use Rattle.papaya_call.specs.declared.ask.Answer.TheVariants.{Word as Word_read, Op}
 use Rattle.papaya_call.specs.declared.ask.OpKind.{OpKind}

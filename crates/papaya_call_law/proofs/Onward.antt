@@ -1,4 +1,5 @@
--- A call that is told of the next table copies first, or looks for its key there.
+-- A call that has loaded the number of the next table copies first, or searches that table for its
+-- key.
 use Rattle.std.proofs.Common.{◌≡◌, inl, ℕ, ◌<◌, Bool, true, false, Some, List, ◌++◌, refl, sym, subst}
 use Rattle.papaya_call.specs.declared.machine.State.{State as Stage}
 use Rattle.papaya_call.specs.declared.machine.State.TheVariants.{Leaving, Growing}

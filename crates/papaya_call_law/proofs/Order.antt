@@ -1,4 +1,4 @@
--- A call that asks for itself is answered as calls are, and one that doesn't was set aside.
+-- A call that asks for itself is answered as calls are, and any other call was set aside.
 use Rattle.std.proofs.Common.{inl, inr, ℕ, List}
 use Rattle.papaya_call.specs.Link.{follows}
 use Rattle.papaya_call.specs.declared.chain.ask.Answer.{Answer}

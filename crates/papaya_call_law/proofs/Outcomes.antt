@@ -1,4 +1,5 @@
--- Where the making of a table, or the copy of the root, led: the call relies on what holds again.
+-- After a step of the making of a table, or of the copy of the root, what the call relies on holds
+-- again.
 use Rattle.std.proofs.Common.{◌≡◌, inl, inr, ℕ, ◌<◌, true, false, Some, List, [], ◌++◌, append-nil, refl, sym, ap, ◌∙◌, subst}
 use Rattle.papaya_words.specs.declared.refused.Refused.{Refused}
 use Rattle.papaya_call.specs.declared.ask.Answer.TheVariants.{Word as Word_read}

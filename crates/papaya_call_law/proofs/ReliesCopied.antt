@@ -1,4 +1,4 @@
--- A pair is made of the key of the pair last loaded, where that is of the call's class.
+-- A pair is made with the key of the pair loaded last, if that pair is of the call's class.
 use Rattle.std.proofs.Common.{◌≡◌, ⊎_elim, ℕ, ◌==◌, eq-eqb, Bool, true, false, cond, Option, None, Some, List, refl, ◌∙◌}
 use Rattle.papaya_words.specs.Word.{pair_of}
 use Rattle.papaya_call.specs.declared.ask.Ask.TheVariants.{MakePairOf}

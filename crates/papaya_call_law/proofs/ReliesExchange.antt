@@ -1,4 +1,5 @@
--- The exchange that a machine asks for: where its old word stands there it may be made, and it writes just its word.
+-- The exchange for which a machine asks: it may be made if its old word is there, and it writes
+-- only its own word.
 use Rattle.std.proofs.Common.{◌≡◌, ⊎_elim, ℕ, ◌+◌, ◌<◌, ◌==◌, eqb-true, eq-eqb, Bool, true, false}
 use Rattle.std.proofs.Common.{cond, MatchBool, Option, None, Some, MatchOption, List, ◌++◌, refl}
 use Rattle.std.proofs.Common.{sym, ap, ◌∙◌, subst}

@@ -1,4 +1,5 @@
--- What a call that exchanges a slot has made, and what a call that shows a pair was told of.
+-- What a call that exchanges a slot has made, and what a call that calls its closure with a pair
+-- has learned of.
 use Rattle.std.proofs.Common.{◌≡◌, inl, inr, ℕ, Option, None, Some, List, refl, subst}
 use Rattle.papaya_call.specs.declared.ask.At.TheVariants.{Slot}
 use Rattle.papaya_call.specs.declared.ask.Ask.TheVariants.{Exchange as Ask_exchange, SameKey, ShowNone, ShowPair}

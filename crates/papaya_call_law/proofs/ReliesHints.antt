@@ -1,4 +1,4 @@
--- A hint that a machine writes may be there.
+-- A hint that a machine writes is one that the slot may have.
 use Rattle.std.proofs.Common.{◌≡◌, ℕ, List, sym, ap, ◌∙◌, subst}
 use Rattle.papaya_words.specs.Word.{hint_of}
 use Rattle.papaya_call.specs.declared.ask.Ask.TheVariants.{WriteHint}

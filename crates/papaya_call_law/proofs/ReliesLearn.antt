@@ -1,4 +1,4 @@
--- After an answer that is true of the words a machine relies on what holds again.
+-- What a machine relies on holds again after an answer that is true of the words.
 use Rattle.std.proofs.Common.{◌≡◌, ◌⊎◌, ⊎_elim, ℕ, ◌<◌, ◌≤◌, ◌==◌, eqb-true, Bool, true, false}
 use Rattle.std.proofs.Common.{cond, MatchBool, MatchOption, Option, None, Some, List, [], ◌∷◌, ◌++◌}
 use Rattle.std.proofs.Common.{append-nil, refl, sym, ap, ◌∙◌, subst, arith}

@@ -1,4 +1,4 @@
--- A compute: where the answers of its closure lead it, and what is made and remembered of them.
+-- A compute: its state after each result of its closure, and what is made and remembered of it.
 use Rattle.std.proofs.Common.{◌≡◌, inl, inr, ℕ, ◌<◌, ◌==◌, Bool, true, false, MatchBool, Option, None, Some, List, ◌∷◌, refl, eqb-true, arith}
 use Rattle.std.proofs.lemmas.Bool.{cond_both}
 use Rattle.papaya_call.specs.declared.ask.OpKind.{OpKind}

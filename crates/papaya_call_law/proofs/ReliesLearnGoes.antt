@@ -1,4 +1,4 @@
--- Where a search ends, the machine relies on what it saw.
+-- When a search ends, the machine relies on what the search has found.
 use Rattle.std.proofs.Common.{◌≡◌, ◌⊎◌, inl, inr, ⊎_elim, ℕ, true, false, cond, None, Some, List, ◌++◌, refl, sym, ap, ◌∙◌, subst}
 use Rattle.papaya_words.specs.Word.{kind_of, pair_of}
 use Rattle.papaya_words.specs.declared.word.Kind.TheVariants as kinds

@@ -1,4 +1,4 @@
--- What the call has made stays so: with more pairs loaded, and after other exchanges.
+-- What the call has made stays as it is, with more pairs loaded and after other exchanges.
 use Rattle.std.proofs.Common.{◌≡◌, inl, inr, ⊎_elim, ℕ, Option, None, Some, List, ◌∷◌, refl, true, subst, sym}
 use Rattle.papaya_call.specs.declared.ask.OpKind.{OpKind}
 use Rattle.papaya_call.specs.declared.ask.OpKind.TheVariants as ops

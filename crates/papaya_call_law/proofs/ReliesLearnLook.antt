@@ -1,4 +1,5 @@
--- What a search sees in the word that stands at its place, and by comparing the key of the pair that it met.
+-- What a search learns from the word at its place, and from comparing the key of the pair that it
+-- met.
 use Rattle.std.proofs.Common.{◌≡◌, ◌⊎◌, inl, inr, ⊎_elim, ℕ, Bool, true, false, cond, Some, List, [], ◌++◌, append-nil, refl, sym, ap, ◌∙◌, subst}
 use Rattle.std.proofs.lemmas.Bool.{cond_both}
 use Rattle.papaya_words.specs.Word.{kind_of, may_hold}

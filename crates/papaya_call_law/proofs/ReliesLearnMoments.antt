@@ -1,4 +1,4 @@
--- What a search finds where it has come to is the map's at a moment of the call.
+-- What a search finds in the table to which it has come is the map's at some moment of the call.
 use Rattle.std.proofs.Common.{◌≡◌, ◌⊎◌, inl, inr, ⊎_elim, ℕ, ◌<◌, true, false, Option, None, Some}
 use Rattle.std.proofs.Common.{List, [], ◌++◌, append_assoc, append-nil, refl, sym, ap, ◌∙◌, subst}
 use Rattle.std.proofs.lemmas.Bool.{cases_Bool}

@@ -1,4 +1,6 @@
--- A removal: the pair that its closure was shown may be deleted; where it is kept the map had it, and where another call deleted it the map had none for a moment. A compute that was to delete the pair goes on then.
+-- A removal: the pair with which its closure was called may be removed. If it is kept, the map had
+-- it, and if another call removed it, the map had none for a moment. A compute that was to remove
+-- the pair goes on in that case.
 use Rattle.std.proofs.Common.{◌≡◌, inl, ℕ, Bool, true, false, None, Some, List, ◌++◌, refl, sym, ap, ◌∙◌, subst}
 use Rattle.papaya_words.specs.Word.{kind_of}
 use Rattle.papaya_words.specs.declared.word.Kind.{Kind}

@@ -1,4 +1,4 @@
--- After an exchange of its own a machine relies on what holds again, and the exchange was allowed.
+-- After an exchange of its own what a machine relies on holds again, and the exchange was allowed.
 use Rattle.std.proofs.Common.{◌≡◌, ⊎_elim, ℕ, ◌<◌, ◌==◌, eqb-true, eq-eqb, Bool, true, false, cond}
 use Rattle.std.proofs.Common.{MatchBool, Option, Some, List, [], ◌∷◌, ◌++◌, append_assoc, refl, sym}
 use Rattle.std.proofs.Common.{ap, ◌∙◌, subst}

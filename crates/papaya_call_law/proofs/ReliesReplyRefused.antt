@@ -1,4 +1,5 @@
--- A refusal is the one that was answered, that of a call that needs a next table, or that of a closure which would remove where there is nothing.
+-- A refusal is the one in the answer, that of a call that needs a next table, or that of a closure
+-- that would remove an absent entry.
 use Rattle.std.proofs.Common.{◌≡◌, ◌⊎◌, inl, inr, ℕ, ◌≤◌, ◌==◌, nat_lt, ltb-false, Bool, true, false, cond, Option, None, Some, refl, sym, ap}
 use Rattle.std.proofs.lemmas.Bool.{cond_both}
 use Rattle.papaya_words.specs.Word.{pair_of}

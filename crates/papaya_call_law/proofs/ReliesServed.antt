@@ -1,4 +1,5 @@
--- A pair that an insertion made and that serves at a place was made for it: of the call's own key where the place is empty, and else of the key that is there.
+-- A pair that an insertion made and that serves at a place was made for it: with the call's own key
+-- if the place is empty, and otherwise with the key that is there.
 use Rattle.std.proofs.Common.{◌≡◌, ℕ, ◌==◌, eqb-true, Bool, true, false, cond, MatchBool, Option, None, Some, List, refl, subst}
 use Rattle.std.proofs.lemmas.Bool.{and_parts}
 use Rattle.papaya_call.specs.declared.search.Place.{Place}

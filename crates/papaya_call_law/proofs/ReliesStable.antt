@@ -1,4 +1,4 @@
--- What a machine relies on stays so, whatever others exchange.
+-- What a machine relies on stays true, whatever others exchange.
 use Rattle.std.proofs.Common.{◌≡◌, inl, inr, ⊎_elim, ℕ, Option, Some, List, ◌++◌, append_assoc, refl, sym, ap, ◌∙◌, subst}
 use Rattle.papaya_call.specs.declared.call.Task.{Task}
 use Rattle.papaya_call.specs.declared.call.Task.TheVariants.{Get, Insert, RemoveIf, Compute}

@@ -1,4 +1,4 @@
--- What a machine relies on stays so, whatever tables come later.
+-- What a machine relies on stays true, whatever tables are made later.
 use Rattle.std.proofs.Common.{◌≡◌, ◌⊎◌, inl, inr, ⊎_elim, ℕ, ◌<◌, Option, None, Some, List, ◌++◌, refl, sym, ap, ◌∙◌, subst}
 use Rattle.papaya_words.specs.Word.{hint_of}
 use Rattle.papaya_call.specs.declared.call.Task.{Task}

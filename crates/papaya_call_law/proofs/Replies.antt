@@ -1,4 +1,4 @@
--- What an answer changes, counts, and stands on: what it does to the call, and nothing else.
+-- What an answer changes and counts, and on which results of the closure the call acts after it.
 use Rattle.std.proofs.Common.{◌≡◌, ◌⊎◌, inl, inr, ⊎_elim, ℕ, pos, ◌==◌, Option, None, Some, List, refl, sym, ap, ◌∙◌, subst}
 use Rattle.std.proofs.lemmas.Bool.{cond_both}
 use Rattle.papaya_words.specs.declared.refused.Refused.{Refused}

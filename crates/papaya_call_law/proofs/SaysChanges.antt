@@ -1,4 +1,4 @@
--- A change of the map is what the closure said, and a call is aborted only by its closure.
+-- A change of the map is what the closure returned, and a call is aborted only by its closure.
 use Rattle.std.proofs.Common.{◌≡◌, inl, ℕ, ◌==◌, Bool, true, false, cond, Option, None, Some, refl, sym, ap, ◌∙◌, subst}
 use Rattle.std.proofs.lemmas.Bool.{cond_both}
 use Rattle.papaya_words.specs.Word.{pair_of}

@@ -1,4 +1,4 @@
--- A closure is shown once at most that its key is absent.
+-- A closure is called with None at most once.
 use Rattle.std.proofs.Common.{◌≡◌, ℕ, ◌==◌, true, false, Option, None, Some, subst}
 use Rattle.std.proofs.lemmas.Bool.{cond_both}
 use Rattle.papaya_words.specs.Word.{kind_of, pair_of}

@@ -1,4 +1,5 @@
--- What an answer overwrites of what a compute stands on, and what its exchanges stand on.
+-- Which results of its closure a compute no longer acts on after an answer, and on which its
+-- exchanges are based.
 use Rattle.std.proofs.Common.{◌≡◌, ◌⊎◌, inl, inr, ⊎_elim, ℕ, ◌<◌, ◌^◌, ◌==◌, Bool, true, false, cond, Option, None, Some, refl, sym, ap, ◌∙◌, subst}
 use Rattle.papaya_words.specs.Word.{pair_of, live_word}
 use Rattle.papaya_call.specs.declared.ask.At.TheVariants.{Slot}

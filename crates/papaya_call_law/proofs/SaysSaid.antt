@@ -1,4 +1,5 @@
--- What a machine stands on was said: it is remembered, it stood on it before, or its closure said it now.
+-- A machine acts only on what its closure returned: it remembers it, it acted on it before, or its
+-- closure has just returned it.
 use Rattle.std.proofs.Common.{◌≡◌, ◌⊎◌, inl, inr, ⊎_elim, ℕ, ◌<◌, ◌==◌, Bool, true, false, cond, Option, None, Some, refl, sym, ap, ◌∙◌, subst, arith}
 use Rattle.std.proofs.lemmas.Bool.{cond_both, eqb-true}
 use Rattle.papaya_words.specs.Word.{kind_of, pair_of}

@@ -1,4 +1,5 @@
--- The value that was logged last is that of the pair which a compute remembers, until its closure answers a newer one.
+-- The value that was stored last is that of the pair which a compute remembers, until its closure
+-- returns a newer one.
 use Rattle.std.proofs.Common.{◌≡◌, ◌⊎◌, inl, inr, ⊎_elim, ℕ, ◌==◌, nat_lt, Bool, true, false, Option, None, Some, refl, sym, ap, ◌∙◌, subst}
 use Rattle.std.proofs.lemmas.Bool.{cond_both}
 use Rattle.papaya_call.specs.declared.ask.Answer.{Answer}

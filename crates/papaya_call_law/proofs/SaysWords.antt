@@ -1,4 +1,5 @@
--- A pair that a closure is shown is named by a word, and no empty slot is.
+-- A pair with which a closure is called is named by a word, and the word of an empty slot names
+-- none.
 use Rattle.std.proofs.Common.{◌≡◌, ⊎_elim, ℕ, ◌<◌, ◌≤◌, ◌==◌, eqb-true, true, false, Option, None, Some, refl, ap, subst, arith}
 use Rattle.std.proofs.lemmas.Bool.{cond_both, cases_lt}
 use Rattle.papaya_words.specs.Word.{kind_of, pair_of}

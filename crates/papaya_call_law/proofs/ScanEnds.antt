@@ -1,4 +1,4 @@
--- What is so once each slot was scanned.
+-- What holds once each slot was scanned.
 use Rattle.std.proofs.Common.{◌≡◌, ◌⊎◌, inl, inr, ⊎_elim, ℕ, ◌<◌, ◌≤◌, true, false, Option, None}
 use Rattle.std.proofs.Common.{Some, List, [], ◌∷◌, ◌++◌, append-nil, refl, sym, ap, ◌∙◌, subst}
 use Rattle.std.proofs.Common.{arith}

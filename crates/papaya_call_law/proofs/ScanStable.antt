@@ -1,4 +1,4 @@
--- What a scan relies on stays so, whatever others exchange.
+-- What a scan relies on stays true, whatever others exchange.
 use Rattle.std.proofs.Common.{◌≡◌, inl, inr, ⊎_elim, ℕ, suc, true, Option, None, Some, List, ◌++◌, append_assoc, sym, ap, ◌∙◌, subst}
 use Rattle.papaya_call.specs.declared.chain.resizer.ResizerState.{ResizerState as Stage}
 use Rattle.papaya_call.specs.declared.chain.resizer.ResizerState.TheVariants as stages

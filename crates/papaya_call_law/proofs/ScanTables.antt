@@ -1,4 +1,4 @@
--- What a scan relies on stays so, whatever tables come later.
+-- What a scan relies on stays true, whatever tables are made later.
 use Rattle.std.proofs.Common.{◌≡◌, inl, inr, ⊎_elim, ℕ, suc, ◌<◌, cond, Option, None, Some, List, [], ◌∷◌, refl, sym, ap, ◌∙◌, subst}
 use Rattle.papaya_call.specs.declared.chain.resizer.ResizerState.{ResizerState as Stage}
 use Rattle.papaya_call.specs.declared.chain.resizer.ResizerState.TheVariants as stages

@@ -1,4 +1,4 @@
--- A slot that had a key's pair Live has it still, or some exchange took it out.
+-- A slot that had a key's pair Live still has it, or some exchange took the pair out.
 use Rattle.std.proofs.Common.{◌≡◌, ◌⊎◌, inl, inr, ⊎_elim, ℕ, true, List, [], ◌∷◌, ◌++◌, append_assoc, refl, sym, ap, ◌∙◌, subst}
 use Rattle.papaya_words_law.specs.Allows.{Allows, AllAllowed}
 use Rattle.papaya_words_law.specs.Exchange.{Live, Marked, Copied, Buried, Closed, Setting, State}

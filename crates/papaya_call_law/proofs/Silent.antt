@@ -1,4 +1,5 @@
--- An ask whose answer says nothing of a closure, and makes no pair: a machine then stands on what it stood on before.
+-- An ask whose answer has no result of a closure, and makes no pair: after it a machine acts only
+-- on what it acted on before.
 use Rattle.std.proofs.Common.{◌≡◌, ⊎_elim, ℕ, Option, None, Some, subst}
 use Rattle.papaya_call.specs.declared.ask.Ask.{Ask}
 use Rattle.papaya_call.specs.declared.ask.Ask.TheVariants.{Load, Exchange, LoadHint, WriteHint}

@@ -1,4 +1,4 @@
--- What a call relies on stays so, whatever others exchange and whichever tables are made.
+-- What a call relies on stays true, whatever others exchange and whichever tables are made.
 use Rattle.std.proofs.Common.{◌≡◌, inl, inr, ℕ, ◌<◌, List, ◌++◌, append_assoc, sym, ap, ◌∙◌, subst}
 use Rattle.papaya_call.specs.declared.chain.machine.Machine.{Machine}
 use Rattle.papaya_call.specs.declared.chain.machine.Phase.{Phase}

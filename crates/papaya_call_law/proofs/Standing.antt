@@ -1,4 +1,5 @@
--- A machine that stands within its table does so after each answer within the limits, and asks for tables of sizes of tables.
+-- A machine is within its table after each answer within the limits, and asks only for tables of
+-- sizes that tables may have.
 use Rattle.std.proofs.Common.{ℕ, ◌+◌, ◌==◌, ◌<◌, ◌^◌, nat_lt, Bool, true, false, Option, None, Some, refl, arith}
 use Rattle.std.proofs.Math.Nat.{mod-lt}
 use Rattle.std.proofs.lemmas.Bool.{cond_both, ltb-true}

@@ -1,5 +1,5 @@
--- One caller alone: nobody else changes the words, so what a machine has read stands there still,
--- and its call comes to an end.
+-- One caller alone: nobody else changes the words, so the words that a machine has read are
+-- unchanged, and its call comes to an end.
 use Rattle.std.specs.Prelude.{◌≡◌, ◌⊎◌, ℕ, ◌+◌, ◌*◌, ◌-◌, ◌^◌, ◌==◌, Bool, true, false, MatchBool, if◌then◌else◌, Option, None, Some}
 use Rattle.papaya_words.specs.Word.{kind_of}
 use Rattle.papaya_words.specs.declared.refused.Refused.{Refused}
@@ -45,7 +45,7 @@ use Rattle.papaya_call.specs.Search.{IsSize}
 abbrev pub IsSame : (At → ℕ) → (At → ℕ) → Type 0
 IsSame words words' = (at : At) → words' at ≡ words at
 
--- just the word at this place is another
+-- the word at `at` becomes `new`, and all other words stay the same
 pub record IsPut (words : At → ℕ) (at : At) (new : ℕ) (words' : At → ℕ) : Type 0 where
   pub here : words' at ≡ new
   pub others : (other : At) → (other ≡ at → ⊥) → words' other ≡ words other
@@ -55,14 +55,15 @@ abbrev pub IsMaking : Answer → Type 0
 IsMaking answer = ((n : ℕ) × (answer ≡ Made_number n))
     ⊎ ((refused : Refused) × (answer ≡ Was_refused refused))
 
--- the closure of a removal says whether it agrees, and that of a compute what to do
+-- the closure of a removal returns whether the pair is to be removed, and that of a compute an
+-- operation
 abbrev pub IsSaying : Task → Answer → Type 0
 IsSaying Get answer = ⊥
 IsSaying (Insert replace) answer = ⊥
 IsSaying RemoveIf answer = (agrees : Bool) × (answer ≡ Yes agrees)
 IsSaying Compute answer = (kind : OpKind) × (answer ≡ Op kind)
 
--- An ask of such a task is answered by the words, and just its own exchange changes them.
+-- An ask of such a task is answered by the words, and only its own exchange changes them.
 abbrev pub IsPrompt : Task → (At → ℕ) → Ask → Answer → (At → ℕ) → Type 0
 IsPrompt task words (Load at) answer words' = (answer ≡ Word_read (words at)) × IsSame words words'
 IsPrompt task words (Exchange at old new) answer words' =
@@ -87,18 +88,18 @@ IsPrompt task words (MakeTable slots limit chunks) answer words' = IsMaking answ
 IsPrompt task words (AddToShard by) answer words' = (answer ≡ Ok_done) × IsSame words words'
 IsPrompt task words (Done reply) answer words' = ⊥
 
--- the word that stands at a place of a table
+-- the word at a place of a table
 abbrev pub word_of_place : (At → ℕ) → Place → ℕ
 word_of_place words at = words (Slot at.table at.probe.i)
 
--- what a search has read stands there still
+-- the words that a search has read are unchanged
 abbrev pub IsSearchRead : (At → ℕ) → Search → Type 0
 IsSearchRead words (Sizing t) = Unit {0}
 IsSearchRead words (Looking at) = Unit {0}
 IsSearchRead words (Reading at) = Unit {0}
 IsSearchRead words (Comparing at word) = word_of_place words at ≡ word
 
--- what was read where a key is absent
+-- the words that were read where a key is absent are unchanged
 abbrev pub IsGapRead : (At → ℕ) → Gap → Type 0
 IsGapRead words NoRoot = words Root ≡ 0
 IsGapRead words (At_place at) = word_of_place words at ≡ 0
@@ -109,7 +110,7 @@ IsPurposeRead words (Fill gap) = IsGapRead words gap
 IsPurposeRead words (Replace write) = word_of_place words write.place ≡ write.old
 IsPurposeRead words (Again write) = word_of_place words write.place ≡ write.old
 
--- and what a machine has read
+-- the words that a machine has read are unchanged
 abbrev pub IsRead : (At → ℕ) → State → Type 0
 IsRead words Making = words Root ≡ 0
 IsRead words (Opening t) = words Root ≡ 0
@@ -122,23 +123,23 @@ IsRead words (Putting put) = word_of_place words put.write.place ≡ put.write.o
 IsRead words (Burying removal) = word_of_place words removal.place ≡ removal.word
 IsRead words _ = Unit {0}
 
--- the word of an empty slot says nothing else: a write finds there the word that it looks for
+-- the word of an empty slot is 0, so a write finds the word there that it expects
 abbrev pub IsBare : (At → ℕ) → Type 0
 IsBare words = (t i : ℕ) → kind_of (words (Slot t i)) ≡ Is_empty → words (Slot t i) ≡ 0
 
--- as many numbers were taken for pairs as it read
+-- as many numbers are taken for pairs as the machine has read
 abbrev pub IsNumberRead : (At → ℕ) → Number → Type 0
 IsNumberRead words (Free count) = words Made_word ≡ count
 IsNumberRead words _ = Unit {0}
 
--- what a machine has read stands there still, and an empty slot's word is 0
+-- the words that a machine has read are unchanged, and an empty slot's word is 0
 pub record IsCurrent (words : At → ℕ) (m : Machine) : Type 0 where
   pub bare : IsBare words
   pub number : IsNumberRead words m.made.number
   pub read : IsRead words m.state
 
--- the steps that are left to a pair for the place of this word: its number, the key, the value, and
--- the pair itself
+-- how many steps are left to make a pair for the place of this word: its number, the key, the
+-- value, and the pair itself
 abbrev pub left_to_number : Number → ℕ
 left_to_number Wanted = 2
 left_to_number (Free count) = 1
@@ -152,7 +153,7 @@ abbrev pub left_to_pair : Made → (old : ℕ) → ℕ
 left_to_pair made old = left_to_number made.number + left_to_log made.valued
     + (if old == 0 then left_to_log made.keyed else 0) + 1
 
--- the steps that are left to a write: its pair, the exchange, the count and the hint
+-- how many steps are left to a write: its pair, the exchange, the count and the hint
 abbrev pub left_to_serve_with : Option ℕ → Made → (old : ℕ) → ℕ
 left_to_serve_with None made old = 3 + left_to_pair made old
 left_to_serve_with (Some n) made old = 3
@@ -160,14 +161,14 @@ left_to_serve_with (Some n) made old = 3
 abbrev pub left_to_write : Made → Write → ℕ
 left_to_write made write = left_to_serve_with (serves made write) made write.old
 
--- the steps that are left to a search of one table, at most, and to what comes of it
+-- how many steps are left to a search of one table and to what follows it, at most
 abbrev pub left_to_search : Search → ℕ
 left_to_search (Sizing t) = 2 ^ 40
 left_to_search (Looking at) = 13 + 3 * (at.limit - at.probe.len)
 left_to_search (Reading at) = 12 + 3 * (at.limit - at.probe.len)
 left_to_search (Comparing at word) = 11 + 3 * (at.limit - at.probe.len)
 
--- the steps of a compute once its pair is made
+-- how many steps are left to a compute once its pair is made
 abbrev pub left_to_fill : Gap → ℕ
 left_to_fill NoRoot = 2 ^ 40 + 2
 left_to_fill (At_place at) = 3
@@ -178,7 +179,7 @@ left_to_serve (Fill gap) = left_to_fill gap
 left_to_serve (Replace write) = 3
 left_to_serve (Again write) = 3
 
--- The steps that are left to a call, at most, while no table has a next one.
+-- How many steps are left to a call, at most, while no table has a next one.
 abbrev pub left_in : Made → State → ℕ
 left_in made AtRoot = 2 ^ 40 + 9
 left_in made Making = 2 ^ 40 + 2
@@ -198,14 +199,14 @@ left_in made _ = 1
 abbrev pub left : Machine → ℕ
 left m = left_in m.made m.state
 
--- a call that looks for its key
+-- the task is a lookup or a removal
 abbrev pub IsSeeker : Task → Type 0
 IsSeeker Get = Unit {0}
 IsSeeker (Insert replace) = ⊥
 IsSeeker RemoveIf = Unit {0}
 IsSeeker Compute = ⊥
 
--- a call that looks for its key and has met no pair with it
+-- a lookup or a removal has met no pair with its key
 abbrev pub HasMetNone : State → Type 0
 HasMetNone AtRoot = Unit {0}
 HasMetNone (Searching search) = Unit {0}
@@ -213,7 +214,7 @@ HasMetNone (Leaving t) = Unit {0}
 HasMetNone (Ended reply) = reply ≡ Absent
 HasMetNone _ = ⊥
 
--- no key was told to match
+-- the answer does not say that a key matches
 abbrev pub IsUnmatched : Ask → Answer → Type 0
 IsUnmatched (SameKey n) answer = answer ≡ Yes false
 IsUnmatched (Load at) answer = (word : ℕ) × (answer ≡ Word_read word)

@@ -17,7 +17,7 @@ use Rattle.papaya_call_law.specs.Copier.{ReliesCopying, ReliesLink, aim_of}
 use Rattle.papaya_call_law.specs.Relies as calls
 use Rattle.papaya_call_law.specs.ChainTold.{LoadedPairs}
 
--- the table that a call in this state goes on from, where it is set aside
+-- the table from which a call in this state goes on, if it is set aside
 abbrev pub left_by : Stage → Option ℕ
 left_by (Leaving t) = Some t
 left_by (Growing need) = Some (needed need)
@@ -30,14 +30,14 @@ module _ {K P : Type 0} (g : Setting K P) (c : Coding K P) (begun since : List (
   abbrev pub now : State P
   now = run (begun ++ since) start
 
-  -- without blocking: a call that may change the map is set aside, and its next table is made
+  -- without blocking: a call that may change the map is set aside while its next table is made
   pub record IsLinking (m : Machine) (link : Link) : Type 0 where
     pub mode : g.blocking ≡ false
     pub changes : IsChanger m.call.task
     pub left : left_by m.call.state ≡ Some (follows link)
     pub relies : ReliesLink g c now link
 
-  -- or it copies a chunk, or its slot, and goes on in the next table then
+  -- or it is set aside while it copies a chunk, or its own slot, and then goes on in the next table
   pub record IsHelping (m : Machine) (loaded : LoadedPairs P) (copying : Copying) : Type 0 where
     pub mode : g.blocking ≡ false
     pub changes : IsChanger m.call.task
@@ -47,7 +47,7 @@ module _ {K P : Type 0} (g : Setting K P) (c : Coding K P) (begun since : List (
     pub aim : aim_of copying ≡ aim_for m.call.state (now.next table)
     pub relies : ReliesCopying g c now loaded.call.last loaded.kept copying
 
-  -- with blocking it copies all, and begins anew then
+  -- with blocking it copies all, and then begins again
   pub record IsCopyingAll (m : Machine) (loaded : LoadedPairs P) (copying : Copying) : Type 0 where
     pub mode : g.blocking ≡ true
     pub changes : IsChanger m.call.task

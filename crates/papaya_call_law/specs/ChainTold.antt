@@ -1,4 +1,4 @@
--- What an answer tells a call over a chain of tables of the words.
+-- What an answer says about the words to a call over a chain of tables.
 use Rattle.std.specs.Prelude.{◌≡◌, ◌⊎◌, ℕ, ◌+◌, ◌<◌, ◌==◌, Option, None, Some, List, [], ◌∷◌, MatchBool}
 use Rattle.papaya_words.specs.declared.refused.Refused.{Refused}
 use Rattle.papaya_call.specs.declared.ask.Ask.{Ask as Call_ask}
@@ -24,7 +24,7 @@ use Rattle.papaya_call_law.specs.Copier.{IsCopyAsked, last_after, told_last}
 use Rattle.papaya_call_law.specs.Told.{word_of}
 use Rattle.papaya_call_law.specs.Told as calls
 
--- The pairs that a call has been told of, and the one that it carries to another table.
+-- The pairs that a call has learned of, and the one that it carries to another table.
 pub record LoadedPairs (P : Type 0) : Type 0 where
   pub call : calls.LoadedPairs P
   pub kept : Option P
@@ -32,19 +32,18 @@ pub record LoadedPairs (P : Type 0) : Type 0 where
 abbrev pub nothing_loaded : {P : Type 0} → LoadedPairs P
 nothing_loaded = record { call = calls.nothing_loaded; kept = None }
 
--- it was told of this pair last
+-- the same with `last` as the pair learned of last
 abbrev pub told_of : {P : Type 0} → Option P → LoadedPairs P → LoadedPairs P
 told_of last loaded = record loaded { call = record loaded.call { last = last } }
 
 module _ {K P : Type 0} (g : Setting K P) (c : Coding K P) where
-  -- nothing was exchanged, and no pair was told of
+  -- nothing was exchanged, and no pair was learned of
   abbrev pub Quiet : LoadedPairs P → List (Exchange P) → LoadedPairs P → Type 0
   Quiet loaded es loaded' = (es ≡ []) × (loaded' ≡ loaded)
 
-  -- The answer to what is asked for a copy is true of the words in s: a load and an exchange are
-  -- answered by the word that stands there, and the load of a hint by one that may be there; a
-  -- table that is made has a greater number than the one that it is to follow. es has the exchange,
-  -- if one was made.
+  -- The answer to an ask of a copy is true of the words in s: a load or an exchange is answered by
+  -- the word that is there, and the load of a hint by one that may be there. A table that is made
+  -- has a greater number than the one that it is to follow. `es` has the exchange, if one was made.
   abbrev pub IsCopyTold : State P → Option StepKind → (follows : ℕ) → LoadedPairs P → CopyAsk
       → Answer → List (Exchange P) → LoadedPairs P → Type 0
   IsCopyTold s kind follows loaded (Load at) answer es loaded' =
@@ -81,7 +80,7 @@ module _ {K P : Type 0} (g : Setting K P) (c : Coding K P) where
       ⊎ ((n : ℕ) × (follows < n) × (answer ≡ answers.Call (Made_number n))))
       × Quiet loaded es loaded'
 
-  -- a call with key k is told as it would be without a chain
+  -- a call with the key k is answered as it would be without a chain
   pub record IsCallTold (k : K) (s : State P) (kind : Option StepKind) (loaded : LoadedPairs P)
       (ask : Call_ask) (answer : Answer) (es : List (Exchange P)) (loaded' : LoadedPairs P) : Type 0
     where
@@ -91,7 +90,7 @@ module _ {K P : Type 0} (g : Setting K P) (c : Coding K P) where
       pub tells : calls.IsTold g c k s kind loaded.call ask told es call
       pub handed : loaded' ≡ record loaded { call = call }
 
-  -- the answer to what a call with key k asks, itself or for a copy
+  -- the answer to an ask of a call with the key k, its own or a copy's, is true of the words in s
   abbrev pub IsTold : K → State P → Option StepKind → (follows : ℕ) → LoadedPairs P → Ask → Answer
       → List (Exchange P) → LoadedPairs P → Type 0
   IsTold k s kind follows loaded (asks.Call ask) answer es loaded' =

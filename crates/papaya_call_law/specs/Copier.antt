@@ -1,4 +1,4 @@
--- What a copier relies on: facts of the words alone, which no exchange undoes.
+-- What a copier relies on: facts about the words alone, which no exchange undoes.
 use Rattle.std.specs.Prelude.{◌≡◌, ◌⊎◌, ℕ, ◌+◌, ◌*◌, ◌<◌, ◌≤◌, true, false, Option, None, Some, MatchBool}
 use Rattle.papaya_words.specs.Chunks.{chunk_of}
 use Rattle.papaya_words.specs.Word.{hint_of, kind_of, pair_of}
@@ -49,12 +49,12 @@ use Rattle.papaya_words_law.specs.Later.{Becomes}
 use Rattle.papaya_words_law.specs.View.{look, HasWord}
 use Rattle.papaya_call_law.specs.Told.{or_last}
 
--- a made table has a greater number
+-- a table that was made has a greater number than the one before it
 abbrev pub Rises_to : Link → Type 0
 Rises_to (links.Linking after table chunks) = after < table
 Rises_to _ = Unit {0}
 
--- the making of a table under way in a copy, if one is
+-- the making of a table that is under way in a copy, if there is one
 abbrev pub link_in_carry : Carry → Option Link
 link_in_carry (carries.Linking hash link) = Some link
 link_in_carry _ = None
@@ -77,11 +77,11 @@ abbrev pub HasWords : {K P : Type 0} → Setting K P → Option Link → Type 0
 HasWords g (Some (links.Linking after table chunks)) = chunks ≤ g.chunks table
 HasWords g _ = Unit {0}
 
--- each slot of the table is in one of so many chunks
+-- each slot of the table `from` is in one of the first `chunks` chunks
 abbrev pub IsCutInto : {K P : Type 0} → Setting K P → (from chunks : ℕ) → Type 0
 IsCutInto g from chunks = (x : ℕ) → x < g.size from → g.chunk_of x < chunks
 
--- what is known of the table that is copied to the next one
+-- what the making of a table knows about the table that is copied to it
 abbrev pub Measures : {K P : Type 0} → Setting K P → (from : ℕ) → Link → Type 0
 Measures g from (links.Sizing after copied unfit) = copied ≡ from
 Measures g from (links.Measuring after copied unfit len) = copied ≡ from
@@ -89,7 +89,7 @@ Measures g from (links.Counting after unfit len copied) = copied ≡ g.size from
 Measures g from (links.Making after len limit chunks) = IsCutInto g from chunks
 Measures g from (links.Linking after table chunks) = IsCutInto g from chunks
 
--- the word of this chunk was passed by
+-- the cursor has passed the word of this chunk
 abbrev pub IsPassedBy : Cursor → (chunk : ℕ) → Type 0
 IsPassedBy cursor chunk = MatchBool cursor.wrapped ((cursor.start ≤ chunk) ⊎ (chunk < cursor.at))
     ((cursor.start ≤ chunk) × (chunk < cursor.at))
@@ -116,19 +116,20 @@ module _ {K P : Type 0} (g : Setting K P) (c : Coding K P) (s : State P) where
     pub linking : IsLinking g s from (follows link)
     pub measures : Measures g from link
 
-  -- from was the root, and its copies go to n
+  -- `from` was the root, and its copies go to n
   pub record IsSource (from n : ℕ) : Type 0 where
     pub was : s.was_root from ≡ true
     pub target : IsTarget g s from n
 
-  -- from was the root, and its copies go behind this table: from itself, or a table that was
-  -- given up
+  -- `from` was the root, and its copies go behind this table: `from` itself, or a table that was
+  -- aborted
   pub record IsAimed (from behind : ℕ) : Type 0 where
     pub was : s.was_root from ≡ true
     pub given_up : (behind ≡ from) ⊎ ((g.blocking ≡ true) × IsTarget g s from behind
         × (s.aborted behind ≡ true))
 
-  -- each chunk whose word was passed by is copied, and the one whose word is loaded has a slot
+  -- each chunk whose word the cursor has passed is copied, and the chunk whose word is loaded has
+  -- at least one slot
   pub record IsCursor (cursor : Cursor) : Type 0 where
     pub source : IsSource cursor.from cursor.to
     pub len : cursor.len ≡ g.size cursor.from
@@ -139,7 +140,7 @@ module _ {K P : Type 0} (g : Setting K P) (c : Coding K P) (s : State P) where
     pub done : (x : ℕ) → x < g.size cursor.from → IsPassedBy cursor (g.chunk_of x)
         → s.done cursor.to (g.chunk_of x) ≡ true
 
-  -- the slots of the chunk are settled as far as this one
+  -- the slots of the chunk before this one are settled
   pub record IsChunk (chunk : Chunk) : Type 0 where
     pub cursor : IsCursor chunk.cursor
     pub at : chunk.at < chunk.end
@@ -148,17 +149,18 @@ module _ {K P : Type 0} (g : Setting K P) (c : Coding K P) (s : State P) where
     pub settled : (x : ℕ) → x < chunk.at → g.chunk_of x ≡ chunk.cursor.at
         → IsSettled g s chunk.cursor.to (s.slot chunk.cursor.from x)
 
-  -- all slots of the chunk are
+  -- all slots of the chunk are settled
   pub record IsSettledChunk (cursor : Cursor) : Type 0 where
     pub chunk_read : IsCursor cursor
     pub settled : (x : ℕ) → x < g.size cursor.from → g.chunk_of x ≡ cursor.at
         → IsSettled g s cursor.to (s.slot cursor.from x)
 
-  -- all slots of the table are copied to this one
+  -- the words of all chunks of `from` say that they are copied to `to`
   abbrev pub IsAllDone : (from to : ℕ) → Type 0
   IsAllDone from to = (x : ℕ) → x < g.size from → s.done to (g.chunk_of x) ≡ true
 
-  -- without blocking: the pair of the slot is marked or copied, and goes to the next table first
+  -- without blocking: the pair of the slot is marked or copied, and is copied first to the next
+  -- table
   pub record IsMoving (slot : SlotToCopy) : Type 0 where
     pub mode : g.blocking ≡ false
     pub on : IsOn s.first s.next slot.from
@@ -176,7 +178,7 @@ module _ {K P : Type 0} (g : Setting K P) (c : Coding K P) (s : State P) where
     pub slot : at.probe.i ≡ g.place (g.key p) at.table at.probe.len
     pub within : at.probe.len < g.places at.table
 
-  -- the pair of the marked word came to a table that takes it; with blocking that is the target
+  -- the pair of the marked word is in a table that takes it; with blocking that is the target
   pub record HasCarried (slot : SlotToCopy) (word : ℕ) : Type 0 where
     pub pair : P
     pub table : ℕ
@@ -187,7 +189,7 @@ module _ {K P : Type 0} (g : Setting K P) (c : Coding K P) (s : State P) where
     pub has : HasWord g.places (look g s (g.key pair)) table
     pub here : g.blocking ≡ true → table ≡ slot.to
 
-  -- p was put into this place of a table that takes it, and its key's hint may be written there
+  -- p was written at this place of a table that takes it, and its key's hint may be written there
   pub record HasPlaced (slot : SlotToCopy) (p : P) (hash : ℕ) (at : Place) : Type 0 where
     pub fits : IsFor p hash at
     pub stood : (s.slot slot.from slot.index ≡ Marked p)
@@ -196,10 +198,10 @@ module _ {K P : Type 0} (g : Setting K P) (c : Coding K P) (s : State P) where
     pub has : HasWord g.places (look g s (g.key p)) at.table
     pub hint : IsHint g c s at.table at.probe.i (hint_of (c.hash (g.key p)))
 
--- `last` is the pair last told of, `kept` the one that is carried.
+-- `last` is the pair learned of last, and `kept` the one that is carried.
 module _ {K P : Type 0} (g : Setting K P) (c : Coding K P) (s : State P)
     (last kept : Option P) where
-  -- the word that was loaded at the place named the pair last told of
+  -- the word that was loaded at the place named the pair learned of last
   pub record HasCompared (at : Place) (word : ℕ) : Type 0 where
     pub pair : P
     pub told : last ≡ Some pair
@@ -208,7 +210,7 @@ module _ {K P : Type 0} (g : Setting K P) (c : Coding K P) (s : State P)
     pub names : named was ≡ Some pair
     pub became : Becomes g was (s.slot at.table at.probe.i)
 
-  -- how far the carry of p is
+  -- what the carry of p relies on in this state
   abbrev pub ReliesCarry : SlotToCopy → P → Carry → Type 0
   ReliesCarry slot p (carries.Hashing table) = (last ≡ Some p)
       × IsPutting g s slot.from slot.index p table 0
@@ -231,7 +233,7 @@ module _ {K P : Type 0} (g : Setting K P) (c : Coding K P) (s : State P)
   ReliesCarry slot p (carries.Aborting table) = (g.blocking ≡ true) × (kept ≡ Some p)
       × IsPutting g s slot.from slot.index p table (g.places table)
 
-  -- the marked word names the pair that is carried; with blocking it is carried to the target alone
+  -- the marked word names the pair that is carried; with blocking it is carried only to the target
   pub record IsCarrying (slot : SlotToCopy) (word : ℕ) (carry : Carry) : Type 0 where
     pub pair : P
     pub marked : word ≡ code g c (Marked pair)
@@ -259,7 +261,8 @@ module _ {K P : Type 0} (g : Setting K P) (c : Coding K P) (s : State P)
   ReliesStep (steps.Advancing cursor) = IsSettledChunk g c s cursor
   ReliesStep (steps.Promoting from to) = IsSource g c s from to × IsAllDone g c s from to
 
-  -- what a call copies for: the slot in which it met its key's pair is one that is moving
+  -- what a copy relies on for its aim: the slot in which the call met its key's pair is one that is
+  -- moving
   abbrev pub ReliesAim : Aim → Type 0
   ReliesAim (aims.Settle slot) = IsMoving g c s slot
   ReliesAim _ = Unit {0}
@@ -268,31 +271,31 @@ module _ {K P : Type 0} (g : Setting K P) (c : Coding K P) (s : State P)
   ReliesCopying (copyings.Stepping aim step) = ReliesAim aim × ReliesStep step
   ReliesCopying (copyings.Lone slot settle) = IsMoving g c s slot × ReliesSettle slot settle
 
-  -- where an answer led the making of the table after this one
+  -- what holds after a step of the making of the table after table `after`
   abbrev pub ReliesLinked : (after : ℕ) → Linked → Type 0
   ReliesLinked after (linked.On link) = (follows link ≡ after) × ReliesLink g c s link
   ReliesLinked after (linked.Table table) = (s.next after ≡ table) × (0 < table)
   ReliesLinked after (linked.Refused refused) = Unit {0}
 
-  -- with blocking, this table was given up, to which copies went
+  -- with blocking, the table to which copies went was aborted
   abbrev pub IsUnfit : SlotToCopy → ℕ → Type 0
   IsUnfit slot table = (table ≡ slot.to) × (g.blocking ≡ true) × (s.aborted table ≡ true)
 
-  -- the carry of the pair of this word
+  -- what holds after a step of the carry of the pair of this word
   abbrev pub ReliesCarried : SlotToCopy → ℕ → Carried → Type 0
   ReliesCarried slot word (carried.On carry) = IsCarrying slot word carry
   ReliesCarried slot word carried.Carried = HasCarried g c s slot word
   ReliesCarried slot word (carried.Unfit table) = IsUnfit slot table
   ReliesCarried slot word (carried.Refused refused) = Unit {0}
 
-  -- the copy of this slot
+  -- what holds after a step of the copy of this slot
   abbrev pub ReliesSettled : SlotToCopy → Settled → Type 0
   ReliesSettled slot (settled.On settle) = ReliesSettle slot settle
   ReliesSettled slot settled.Settled = IsSettled g s slot.to (s.slot slot.from slot.index)
   ReliesSettled slot (settled.Unfit table) = IsUnfit slot table
   ReliesSettled slot (settled.Refused refused) = Unit {0}
 
-  -- the copy of a chunk
+  -- what holds after a step of the copy of a chunk
   abbrev pub ReliesStepped : Stepped → Type 0
   ReliesStepped (stepped.On step) = ReliesStep step
   ReliesStepped (stepped.Root table) = s.root ≡ table
@@ -306,21 +309,21 @@ abbrev pub aim_of : Copying → Aim
 aim_of (copyings.Stepping aim step) = aim
 aim_of (copyings.Lone slot settle) = aims.Settle slot
 
--- what it goes on copying for: the same, or all
+-- the aim of a copy after a step: the same one, or again a copy of all
 abbrev pub IsStillAimed : Aim → Aim → Type 0
 IsStillAimed (aims.All met) aim = (root : ℕ) × (aim ≡ aims.All root)
 IsStillAimed old aim = aim ≡ old
 
 module _ {K P : Type 0} (g : Setting K P) (c : Coding K P) (s : State P)
     (last kept : Option P) where
-  -- a call looks on in this table: the one that it was to look in, or the one to which a slot's
-  -- pair went, which is settled
+  -- the call goes on in table n: the one that it was to search, or the one to which the pair of a
+  -- slot went, which is settled
   abbrev pub IsLedTo : Aim → ℕ → Type 0
   IsLedTo (aims.Search table) n = n ≡ table
   IsLedTo (aims.Settle slot) n = (n ≡ slot.to) × IsSettled g s slot.to (s.slot slot.from slot.index)
   IsLedTo _ n = ⊥
 
-  -- where an answer led a call that copied for this
+  -- what holds after a step of a copy that had this aim
   abbrev pub ReliesCopied : Aim → Copied_end → Type 0
   ReliesCopied aim (copied.On copying) = IsStillAimed aim (aim_of copying)
       × ReliesCopying g c s last kept copying
@@ -329,12 +332,12 @@ module _ {K P : Type 0} (g : Setting K P) (c : Coding K P) (s : State P)
   ReliesCopied aim copied.Chunk = aim ≡ aims.Chunk
   ReliesCopied aim (copied.Refused refused) = Unit {0}
 
--- the pair last told of, after the word at a place
+-- the pair learned of last, once the word at a place was loaded
 abbrev pub told_last : {P : Type 0} → State P → At → Option P → Option P
 told_last s (Slot_word t x) last = or_last (named (s.slot t x)) last
 told_last s _ last = last
 
--- the exchange of the law that a copier asks for, by its kind
+-- the exchange of the law for which a copier asks, by its kind
 abbrev pub IsCopyAsked : {K P : Type 0} → Coding K P → Option StepKind → At → ℕ → State P → Option P
     → Exchange P → Type 0
 IsCopyAsked c (Some kinds.Link) (Next t) new s kept e = e ≡ Link_to t new
@@ -350,14 +353,14 @@ IsCopyAsked c (Some kinds.Promote) Root new s kept e = e ≡ Promote s.root new
 IsCopyAsked c (Some kinds.Abort) (Aborted n) new s kept e = e ≡ Abort n
 IsCopyAsked c _ _ new s kept e = ⊥
 
--- the pair last told of, after an exchange: the one that stood there, where it was marked
+-- the pair learned of last, after an exchange: the pair of the slot, if it was marked
 abbrev pub last_after : {P : Type 0} → Exchange P → Option P → Option P
 last_after (Mark t x p) last = Some p
 last_after _ last = last
 
 module _ {K P : Type 0} (g : Setting K P) (c : Coding K P) (s : State P)
     (last kept : Option P) where
-  -- the word is that of a table on the chain, and of a slot within it
+  -- the word is one of a table on the chain, and of a slot or a chunk that the table has
   abbrev pub IsThere : At → Type 0
   IsThere Root = Unit {0}
   IsThere (Next t) = IsOn s.first s.next t
@@ -366,8 +369,7 @@ module _ {K P : Type 0} (g : Setting K P) (c : Coding K P) (s : State P)
   IsThere (Slot_word t x) = IsOn s.first s.next t × (x < g.size t)
   IsThere Made = ⊥
 
-  -- what is named in an ask is there: such words, the pair last told of, and the one that
-  -- is carried
+  -- what an ask names is there: its word, the pair learned of last, and the pair that is carried
   abbrev pub AreThere : CopyAsk → Type 0
   AreThere (asks.Load at) = IsThere at
   AreThere (asks.Exchange at old new) = IsThere at

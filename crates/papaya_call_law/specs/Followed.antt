@@ -1,4 +1,4 @@
--- What a backend may count on that holds no more than what a machine was told of last.
+-- What a backend may rely on that keeps only what a machine has learned last.
 use Rattle.std.specs.Prelude.{◌≡◌, ◌⊎◌, ℕ, ◌+◌, ◌==◌, if◌then◌else◌, Option, None, Some}
 use Rattle.papaya_call.specs.declared.ask.At.TheVariants.{Root, Next, Aborted, Done as Done_word, Slot, Made as Made_word}
 use Rattle.papaya_call.specs.declared.ask.Ask.{Ask}
@@ -31,7 +31,7 @@ table_of (Looking at) = at.table
 table_of (Reading at) = at.table
 table_of (Comparing at word) = at.table
 
--- the table of a gap, and of what a pair is made for
+-- a gap is in table n; `IsPurposeAt` is the same for what a pair is made for
 abbrev pub IsGapAt : ℕ → Gap → Type 0
 IsGapAt n NoRoot = Unit {0}
 IsGapAt n (At place) = place.table ≡ n
@@ -42,7 +42,7 @@ IsPurposeAt n (Fill gap) = IsGapAt n gap
 IsPurposeAt n (Replace write) = write.place.table ≡ n
 IsPurposeAt n (Again write) = write.place.table ≡ n
 
--- a machine in this stage names no table but n
+-- a machine in this state names no table but n
 abbrev pub IsAtTable : ℕ → State → Type 0
 IsAtTable n (Searching search) = table_of search ≡ n
 IsAtTable n (Writing write) = write.place.table ≡ n
@@ -57,19 +57,20 @@ IsAtTable n (Leaving t) = t ≡ n
 IsAtTable n (Growing need) = needed need ≡ n
 IsAtTable n _ = Unit {0}
 
--- the number of a table that was loaded, or the one of before where there is none
+-- the number of the table that was loaded, or n if there is none
 abbrev pub loaded_or : Answer → ℕ → ℕ
 loaded_or (Word_read word) n = if word == 0 then n else word
 loaded_or _ n = n
 
--- the number of the first root, where this table was to be it, or the one of before
+-- the number of the first root after a machine tried to open `table`, or n if the answer does not
+-- say
 abbrev pub opened_or : Answer → (table n : ℕ) → ℕ
 opened_or Exchanged table n = table
 opened_or (Found_instead word) table n = word
 opened_or _ table n = n
 
--- the number of a table that a machine was told last, where it was told n before it asked this and
--- was answered so
+-- the number of the table that a machine has learned of last, if that was n before this ask and its
+-- answer
 abbrev pub told_table : Ask → Answer → ℕ → ℕ
 told_table (Load Root) answer n = loaded_or answer n
 told_table (Load (Next t)) answer n = loaded_or answer n
@@ -86,9 +87,9 @@ table_asked (LoadHint t x) = Some t
 table_asked (WriteHint t x hint) = Some t
 table_asked _ = None
 
--- What the machine of a task asks. It loads the root, numbers of next tables, hints, slots and how
--- many numbers were taken for pairs. It exchanges the root where it has made a table, the count of
--- numbers before it makes a pair, and else slots.
+-- What the machine of a task may ask. It loads the root, numbers of next tables, hints, slots and
+-- the count of taken numbers. It exchanges the root once it has made a table, the count of numbers
+-- before it makes a pair, and otherwise slots.
 abbrev pub MayAsk : Task → Option StepKind → Ask → Type 0
 MayAsk task kind (Load Root) = Unit {0}
 MayAsk task kind (Load (Next t)) = Unit {0}

@@ -1,4 +1,5 @@
--- Where an answer leaves the call of a machine over a chain, and what it has changed and said.
+-- What an answer does to the call of a machine over a chain, what the call has changed, and why it
+-- is refused.
 use Rattle.std.specs.Prelude.{◌≡◌, ◌⊎◌, ℕ, ℤ, pos, ◌<◌, ◌^◌, Bool, Option, None, Some}
 use Rattle.papaya_words.specs.Table.{length_after}
 use Rattle.papaya_words.specs.declared.refused.Refused.{Refused}
@@ -29,7 +30,8 @@ use Rattle.papaya_call_law.specs.Owed.{grows_by, owed_by}
 use Rattle.papaya_call_law.specs.Relies.{Change, IsAtLimit, change_after}
 use Rattle.papaya_call_law.specs.ChainRelies.{left_by}
 
--- a call that asks for itself is answered as calls are, and one that doesn't was set aside
+-- the answer is one for calls, if the machine is not copying or making a table; otherwise its call
+-- was set aside
 abbrev pub IsInOrder : Machine → Answer → Phase → Type 0
 IsInOrder m answer Calling = (told : Call_answer) × (answer ≡ answers.Call told)
 IsInOrder m answer (Linking link) = (t : ℕ) × (left_by m.call.state ≡ Some t)
@@ -41,7 +43,7 @@ pub record IsWaiting (m : Machine) (answer : Answer) : Type 0 where
   pub left : left_by m.call.state ≡ Some from
   pub call : (after m answer).call ≡ m.call
 
--- the answer was the call's own, and it went on by it
+-- the answer is the call's own, and the call goes on with it
 pub record IsOwnStep (m : Machine) (answer : Answer) : Type 0 where
   pub told : Call_answer
   pub phase : m.phase ≡ Calling
@@ -49,14 +51,14 @@ pub record IsOwnStep (m : Machine) (answer : Answer) : Type 0 where
   pub call : (after m answer).call ≡ call_machine.after m.call told
   pub goes_on : (after m answer).phase ≡ Calling
 
--- the call was set aside, and looks for its key in a next table now
+-- the call was set aside, and now searches a next table for its key
 pub record HasEntered (m : Machine) (answer : Answer) : Type 0 where
   pub from : ℕ
   pub left : left_by m.call.state ≡ Some from
   pub table : ℕ
   pub call : (after m answer).call ≡ record m.call { state = Searching (Sizing table) }
 
--- or it was told of the root, as one that begins
+-- the call was set aside, and now begins again, with this root
 pub record HasBegunAnew (m : Machine) (answer : Answer) : Type 0 where
   pub from : ℕ
   pub left : left_by m.call.state ≡ Some from
@@ -64,40 +66,41 @@ pub record HasBegunAnew (m : Machine) (answer : Answer) : Type 0 where
   pub call : (after m answer).call
       ≡ call_machine.after (record m.call { state = AtRoot }) (Word_read root)
 
--- or a table could not be made, and it ended with that
+-- the call was set aside, and ends because a table could not be made
 pub record WasRefused (m : Machine) (answer : Answer) : Type 0 where
   pub from : ℕ
   pub left : left_by m.call.state ≡ Some from
   pub refused : Refused
   pub call : (after m answer).call ≡ record m.call { state = Ended (Reply_refused refused) }
 
--- an answer is for the call itself, or the call is set aside: it waits, goes on, or ends
+-- an answer is the call's own; or the call is set aside, and waits, goes on or ends
 abbrev pub Goes : Machine → Answer → Type 0
 Goes m answer = IsWaiting m answer ⊎ IsOwnStep m answer ⊎ HasEntered m answer
     ⊎ HasBegunAnew m answer ⊎ WasRefused m answer
 
--- the change that a call has made after one of its asks was answered so: no copy changes the map
+-- the change that a call has made after an answer to one of its asks, if `before` was its change
+-- until then; no copy changes the map
 abbrev pub change_by : Option StepKind → Ask → Answer → Change → Change
 change_by kind (asks.Call ask) (answers.Call answer) before = change_after kind ask answer before
 change_by kind _ _ before = before
 
--- what a machine that asks this has yet to add to the count: a copy adds nothing
+-- what a machine with this ask has yet to add to the count; a copy adds nothing
 abbrev pub owed_in : Ask → ℤ
 owed_in (asks.Call ask) = owed_by ask
 owed_in (asks.Copy ask) = pos 0
 
--- by how many pairs the map grows where an ask is answered so
+-- by how many pairs the map grows with this answer to an ask
 abbrev pub grown_by : Option StepKind → Ask → Answer → ℤ
 grown_by kind (asks.Call ask) (answers.Call answer) = grows_by kind ask answer
 grown_by kind _ _ = pos 0
 
--- the making of a table under way in a copy, or for the call itself, if one is
+-- the making of a table that is under way in a copy, or for the call itself, if there is one
 abbrev pub link_in : Phase → Option Link
 link_in Calling = None
 link_in (Linking link) = Some link
 link_in (Copying_root copying) = link_in_copying copying
 
--- a call asks for a key, a value, a pair or a table to be made
+-- the ask is for a key, a value, a pair or a table to be made
 abbrev pub IsToMake : Call_ask → Type 0
 IsToMake MakeKey = Unit {0}
 IsToMake MakeValue = Unit {0}
@@ -106,15 +109,15 @@ IsToMake (MakePairOf n) = Unit {0}
 IsToMake (Make_table slots limit chunks) = Unit {0}
 IsToMake _ = ⊥
 
--- the answer is the call's own refusal: what it asked to be made was refused so, no number was left
--- for a pair, or its closure would remove a pair where there is none
+-- the call is refused by its own step: something that it asked to be made was refused, no number
+-- was left for a pair, or its closure would remove an absent entry
 pub record IsOwnRefusal (m : Machine) (answer : Answer) (refused : Refused) : Type 0 where
   pub own : IsOwnStep m answer
   pub why : (IsToMake (call_machine.ask_of m.call) × (own.told ≡ Was_refused refused))
       ⊎ ((refused ≡ Limit) × IsAtLimit m.call own.told)
       ⊎ ((refused ≡ RemoveNothing) × (ask_of m ≡ asks.Call ShowNone) × (own.told ≡ Op Remove))
 
--- a next table was to be made, of these sizes, and was refused so
+-- a next table of these sizes was to be made, and was refused
 pub record WasNotMade (m : Machine) (answer : Answer) (refused : Refused) : Type 0 where
   pub slots : ℕ
   pub limit : ℕ
@@ -122,7 +125,8 @@ pub record WasNotMade (m : Machine) (answer : Answer) (refused : Refused) : Type
   pub asks : ask_of m ≡ asks.Copy (MakeTable slots limit chunks)
   pub is : answer ≡ answers.Call (Was_refused refused)
 
--- the table after one of so many slots would be longer than a table may be, by the count answered
+-- the table after one of `slots` slots would be longer than a table may be, by the count in the
+-- answer
 pub record WouldBeTooLong (m : Machine) (answer : Answer) (refused : Refused) : Type 0 where
   pub capacity : refused ≡ Capacity
   pub behind : ℕ
@@ -135,12 +139,12 @@ pub record WouldBeTooLong (m : Machine) (answer : Answer) (refused : Refused) : 
   pub is : answer ≡ answers.Count count
   pub long : 2 ^ 32 < length_after slots count m.call.initial unfit
 
--- the call was set aside, and the next table that is needed could not be made
+-- the call was set aside, and the next table that it needs could not be made
 pub record IsTableRefusal (m : Machine) (answer : Answer) (refused : Refused) : Type 0 where
   pub from : ℕ
   pub left : left_by m.call.state ≡ Some from
   pub why : WasNotMade m answer refused ⊎ WouldBeTooLong m answer refused
 
--- why an answer ends a call refused
+-- why an answer ends a call with a refusal
 abbrev pub IsCause : Machine → Answer → Refused → Type 0
 IsCause m answer refused = IsOwnRefusal m answer refused ⊎ IsTableRefusal m answer refused

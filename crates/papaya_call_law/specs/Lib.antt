@@ -1,4 +1,4 @@
--- what an answer tells, what a machine relies on, and what it stands on that its closure said
+-- what an answer says, what a machine relies on, and on which results of its closure it acts
 pub mod Told
 pub mod Relies
 pub mod Says
@@ -10,10 +10,10 @@ pub mod Loads
 pub mod Alone
 -- what a copier relies on
 pub mod Copier
--- what an answer tells, and what a call over a chain of tables relies on
+-- what an answer says, and what a call over a chain of tables relies on
 pub mod ChainTold
 pub mod ChainRelies
--- where an answer leaves its call
+-- what an answer does to its call
 pub mod Goes
 -- a call that resizes the map
 pub mod Resizers

@@ -1,5 +1,5 @@
--- What a machine relies on: facts of the words that stay true whatever exchanges follow, and facts
--- about a moment since its call began.
+-- What a machine relies on: facts about the words that stay true whatever exchanges follow, and
+-- facts about some moment since its call began.
 use Rattle.std.specs.Prelude.{◌≡◌, ◌⊎◌, ℕ, ◌+◌, ◌<◌, ◌≤◌, ◌==◌, Bool, true, false, MatchBool, Option, None, Some, MatchOption, List, ◌++◌}
 use Rattle.papaya_words.specs.Chunks.{chunk_len, chunk_of}
 use Rattle.papaya_words.specs.Word.{hint_of, kind_of, pair_of}
@@ -58,11 +58,11 @@ abbrev pub IsModeOf : ResizeMode → Bool → Type 0
 IsModeOf (Incremental chunk) blocking = blocking ≡ false
 IsModeOf Blocking blocking = blocking ≡ true
 
--- and copies each slot in the same chunk
+-- the machine copies each slot in the same chunk as the setting does
 abbrev pub IsCutAs : ResizeMode → (ℕ → ℕ) → Type 0
 IsCutAs mode of_slot = (x : ℕ) → of_slot x ≡ chunk_of (chunk_len mode) x
 
--- a call that may insert needs room or its pair, and a removal its pair alone
+-- a call that may insert needs room or its pair, and a removal only its pair
 abbrev pub MayNeed : Task → Need → Type 0
 MayNeed Get need = ⊥
 MayNeed (Insert replace) need = Unit {0}
@@ -77,19 +77,19 @@ module _ {K P : Type 0} (g : Setting K P) (c : Coding K P) (begun since : List (
   abbrev pub now : State P
   now = run (begun ++ since) start
 
-  -- at some moment of the call the key's pair was this
+  -- at some moment of the call the map had `value` for the key
   abbrev pub WasAtMoment : Option P → Type 0
   WasAtMoment value = IsAtMoment g (map_left g begun) since k value
 
-  -- The search for the key has come to table t. With blocking t was the root at a moment of the
-  -- call; else t is reached.
+  -- The search for the key has come to table t. With blocking t was the root at some moment of the
+  -- call; without blocking t is reached.
   pub record HasComeTo (t : ℕ) : Type 0 where
     pub some : 0 < t
     pub is : ((g.blocking ≡ false) × IsReached g now k t)
         ⊎ ((g.blocking ≡ true) × ((es : List (Exchange P)) × (fs : List (Exchange P))
         × (es ++ fs ≡ since) × ((run (begun ++ es) start).root ≡ t)))
 
-  -- the search stands at this place of its table, and passed the places before
+  -- the search is at this place of its table, and has passed the places before it
   pub record IsAt (at : Place) : Type 0 where
     pub come : HasComeTo at.table
     pub len : at.len ≡ g.size at.table
@@ -106,15 +106,15 @@ module _ {K P : Type 0} (g : Setting K P) (c : Coding K P) (begun since : List (
     pub names : named was ≡ Some p
     -- a Buried word isn't compared
     pub undeleted : kind_of word ≡ word_kinds.Buried → ⊥
-    -- it stood there at a moment of the call
+    -- it was there at some moment of the call
     pub stood : (so_far : List (Exchange P)) × ((rest : List (Exchange P))
         × (so_far ++ rest ≡ since) × ((run (begun ++ so_far) start).slot at.table at.probe.i ≡ was))
-    -- what stands there now came of it
+    -- the word that is there now came from it
     pub became : Becomes g was (now.slot at.table at.probe.i)
-    -- where p is the key's and was held there, the map had it at a moment of the call
+    -- if p is the key's pair and was held there, the map had it at some moment of the call
     pub had : held (view g k was) ≡ true → WasAtMoment (Some p)
 
-  -- the pair last told of is the key's, and was Live at the removal's place
+  -- the pair learned of last is the key's, and was Live at the removal's place
   pub record MayRemove (loaded : LoadedPairs P) (removal : Removal) : Type 0 where
     pub pair : P
     pub last : loaded.last ≡ Some pair
@@ -122,8 +122,8 @@ module _ {K P : Type 0} (g : Setting K P) (c : Coding K P) (begun since : List (
     pub live : kind_of removal.word ≡ word_kinds.Live
     pub same : g.same k (g.key pair) ≡ true
 
-  -- a write takes the place of nothing or, where it may replace, of a Live word of the key, whose
-  -- pair was told of last
+  -- a write fills an empty place or, if it may replace, replaces a Live word of the key, whose pair
+  -- was learned of last
   pub record MayWrite (loaded : LoadedPairs P) (replace : Bool) (write : Write) : Type 0 where
     pub stands : IsAt write.place
     pub old : (write.old ≡ 0) ⊎ ((replace ≡ true)
@@ -133,20 +133,20 @@ module _ {K P : Type 0} (g : Setting K P) (c : Coding K P) (begun since : List (
   ReliesWriting loaded (Insert replace) write = MayWrite loaded replace write
   ReliesWriting loaded _ write = ⊥
 
-  -- the pair of this number is one that the call made
+  -- pair n is one that the call made
   abbrev pub IsMadePair : LoadedPairs P → ℕ → Type 0
   IsMadePair loaded n = (q : P) × IsOneOf loaded.made q × (c.number q ≡ n)
 
-  -- and has the call's key
+  -- pair n is one that the call made, and has the call's key
   abbrev pub IsOwnPair : LoadedPairs P → ℕ → Type 0
   IsOwnPair loaded n = (q : P) × IsOneOf loaded.made q × (c.number q ≡ n) × (g.key q ≡ k)
 
-  -- or the key that is in a slot
+  -- pair n is one that the call made, and has the key that is in slot x of table t
   abbrev pub IsPairAt : LoadedPairs P → ℕ → (t x : ℕ) → Type 0
   IsPairAt loaded n t x = (q : P) × IsOneOf loaded.made q × (c.number q ≡ n)
       × IsOfKey g (now.slot t x) (g.key q)
 
-  -- and so it may stand where it is to be written
+  -- pair n has the key that it needs at the place where it is to be written
   abbrev pub IsPairFor : LoadedPairs P → Write → ℕ → Type 0
   IsPairFor loaded write n = MatchBool (write.old == 0) (IsOwnPair loaded n)
       (IsPairAt loaded n write.place.table write.place.probe.i)
@@ -162,12 +162,13 @@ module _ {K P : Type 0} (g : Setting K P) (c : Coding K P) (begun since : List (
   ReliesNumber (Free count) = MatchOption g.most (Unit {0}) (λ most. count < most)
   ReliesNumber _ = Unit {0}
 
-  -- what is made and remembered is pairs of the call's key
+  -- the pair, if there is one, is one that the call made, and has the call's key
   abbrev pub ReliesFill : LoadedPairs P → Option ℕ → Type 0
   ReliesFill loaded None = Unit {0}
   ReliesFill loaded (Some n) = IsOwnPair loaded n
 
-  -- and of the key that was met in a slot
+  -- the pair, if there is one, is one that the call made, and has the key of the slot that it was
+  -- made for
   abbrev pub ReliesOf : LoadedPairs P → Option Of → Type 0
   ReliesOf loaded None = Unit {0}
   ReliesOf loaded (Some of) = IsPairAt loaded of.pair of.table of.index
@@ -177,7 +178,7 @@ module _ {K P : Type 0} (g : Setting K P) (c : Coding K P) (begun since : List (
   ReliesChoice loaded (Some (To_replace old new)) = ReliesOf loaded (Some new)
   ReliesChoice loaded (Some (To_remove old)) = Unit {0}
 
-  -- what the call has made: pairs of its class
+  -- the call has made only pairs of its own class, and what it remembers is about them
   pub record ReliesLoaded (loaded : LoadedPairs P) (made : Made) (held : Remembered) : Type 0 where
     pub keys : (q : P) → IsOneOf loaded.made q → g.same k (g.key q) ≡ true
     pub limit : made.limit ≡ g.most
@@ -193,26 +194,27 @@ module _ {K P : Type 0} (g : Setting K P) (c : Coding K P) (begun since : List (
   ReliesSearch loaded (Reading at) = IsAt at
   ReliesSearch loaded (Comparing at word) = (p : P) × (loaded.last ≡ Some p) × HasMet at word p
 
-  -- the key's pair is being copied from this slot of table t, or was
+  -- the key's pair is being copied from slot x of table t, or was
   abbrev pub IsMovingFrom : ℕ → ℕ → Type 0
   IsMovingFrom t x = (j : ℕ) × (p : P) × (j < g.places t) × (g.place k t j ≡ x)
       × ((look g now k t j ≡ View_leaving p) ⊎ (look g now k t j ≡ Gone p))
 
-  -- a call that looks for its key leaves a table that it passed
+  -- a call that looks for its key leaves only a table that its search has passed
   abbrev pub ReliesLeaving : Task → ℕ → Type 0
   ReliesLeaving (Insert replace) t = ⊥
   ReliesLeaving _ t = (g.blocking ≡ false) × HasComeTo t × IsPassed g.places (look g now k) t
 
-  -- the key has no place in the table, or its pair is being copied
+  -- the search has passed the table, so the key has no place in it; or the key's pair is being
+  -- copied
   abbrev pub ReliesNeed : Need → Type 0
   ReliesNeed (Room t) = HasComeTo t × IsPassed g.places (look g now k) t
   ReliesNeed (Pair_at t x) = HasComeTo t × IsMovingFrom t x
 
-  -- a call that needs a next table, and why
+  -- a call may need a next table, and for this reason
   abbrev pub ReliesGrowing : Task → Need → Type 0
   ReliesGrowing task need = MayNeed task need × ReliesNeed need
 
-  -- where a compute would put a pair of an absent key
+  -- the place where a compute would put a pair of an absent key
   abbrev pub ReliesGap : Gap → Type 0
   ReliesGap NoRoot = Unit {0}
   ReliesGap (At_place at) = IsAt at
@@ -225,12 +227,12 @@ module _ {K P : Type 0} (g : Setting K P) (c : Coding K P) (begun since : List (
   ReliesPurpose loaded (Again write) =
       MayRemove loaded (record { place = write.place; word = write.old })
 
-  -- some pair of this number was the key's at a moment of the call
+  -- at some moment of the call the map had a pair of number n for the key
   abbrev pub HadPair : ℕ → Type 0
   HadPair n = (p : P) × (c.number p ≡ n) × WasAtMoment (Some p)
 
-  -- A reply that fits the task: what a call found was the map's at a moment of the call, and a pair
-  -- that was put in is the one that the call made.
+  -- A reply that fits the task: what a call found was the map's at some moment of the call, and a
+  -- pair that it put into the map is one that it made.
   abbrev pub IsReply : LoadedPairs P → Task → Reply → Type 0
   IsReply loaded Get Absent = WasAtMoment None
   IsReply loaded Get (Found n) = HadPair n
@@ -275,18 +277,18 @@ module _ {K P : Type 0} (g : Setting K P) (c : Coding K P) (begun since : List (
     pub made : ReliesLoaded loaded m.made m.remembered
     pub stage : ReliesStage loaded m.task m.state
 
--- how many numbers were taken for pairs is loaded, or exchanged
+-- the ask loads the count of taken numbers, or takes a number
 abbrev pub IsNumberAsk : Ask → Type 0
 IsNumberAsk (Load Made_word) = Unit {0}
 IsNumberAsk (Ask_exchange Made_word old new) = Unit {0}
 IsNumberAsk _ = ⊥
 
--- the machine was told that it is as many as its limit says, or more
+-- the answer says that as many numbers are taken as the limit allows, or more
 abbrev pub IsAtLimit : Machine → Answer → Type 0
 IsAtLimit m answer = (most : ℕ) × (count : ℕ) × (m.made.limit ≡ Some most) × (most ≤ count)
     × IsNumberAsk (ask_of m) × ((answer ≡ Word_read count) ⊎ (answer ≡ Found_instead count))
 
--- a change of the map: the pair that went, and the one that came
+-- the change that a call has made to the map, if any: the pair that went and the pair that came
 abbrev pub Change : Type 0
 Change = Option (Option ℕ × Option ℕ)
 
@@ -312,8 +314,8 @@ change_of_kind (Some kinds.Replace) old new = Some (Some (pair_of old), Some (pa
 change_of_kind (Some kinds.Bury) old new = Some (Some (pair_of old), None)
 change_of_kind _ old new = None
 
--- the change that a call has made after one of its asks was answered so, where it had made this
--- one before
+-- the change that a call has made after an answer to one of its asks, if `before` was its change
+-- until then
 abbrev pub change_after : Option StepKind → Ask → Answer → Change → Change
 change_after kind (Ask_exchange at old new) Exchanged before = change_of_kind kind old new
 change_after kind _ _ before = before

@@ -1,4 +1,4 @@
--- What a call that resizes the map relies on: facts of the words alone.
+-- What a call that resizes the map relies on: facts about the words alone.
 use Rattle.std.specs.Prelude.{◌≡◌, ◌⊎◌, ℕ, ◌+◌, ◌^◌, ◌<◌, ◌==◌, Bool, true, Option, None, Some, List, [], ◌∷◌, MatchBool}
 use Rattle.papaya_words.specs.Table.{length_after}
 use Rattle.papaya_words.specs.declared.refused.Refused.{Refused}
@@ -26,7 +26,7 @@ use Rattle.papaya_call_law.specs.Copier.{IsCopyAsked, ReliesCopying, ReliesLink,
 use Rattle.papaya_call_law.specs.Relies.{IsCutAs, IsModeOf}
 use Rattle.papaya_call_law.specs.ChainTold.{IsCopyTold, LoadedPairs, Quiet}
 
--- it copies a chunk, or all, and no key is looked for then
+-- the copy is one of a chunk or of all, after which no key is searched for
 abbrev pub IsOwnAim : Aim → Type 0
 IsOwnAim aims.Chunk = Unit {0}
 IsOwnAim (aims.All met) = Unit {0}
@@ -51,39 +51,39 @@ module _ {K P : Type 0} (g : Setting K P) (c : Coding K P) (s : State P) where
     pub cut : IsCutAs resizer.mode g.chunk_of
     pub stage : ReliesStage loaded resizer.state
 
-  -- a first table is opened, where there is none
+  -- a first table is opened if there is no root
   abbrev pub IsOpenTold : (table : ℕ) → LoadedPairs P → Answer → List (Exchange P) → LoadedPairs P
       → Type 0
   IsOpenTold table loaded answer es loaded' = MatchBool (s.root == 0)
       ((answer ≡ answers.Call Exchanged) × (es ≡ Open table ∷ []) × (loaded' ≡ loaded))
       ((answer ≡ answers.Call (Found_instead s.root)) × Quiet g c loaded es loaded')
 
-  -- The answer to what a resizer asks is true of the words in s, and es has the exchange, if one
-  -- was made. It opens a table, or asks as a copy does.
+  -- The answer to a resizer's ask is true of the words in s, and `es` has the exchange, if one was
+  -- made. The ask is to open a table, or one that a copy makes.
   abbrev pub IsStageTold : Stage → LoadedPairs P → Answer → List (Exchange P) → LoadedPairs P
       → Type 0
   IsStageTold (Opening table) loaded answer es loaded' = IsOpenTold table loaded answer es loaded'
   IsStageTold stage loaded answer es loaded' = (ask : CopyAsk) × (asks_in stage ≡ Some ask)
       × IsCopyTold g c s (kind_in stage) (follows_in stage) loaded ask answer es loaded'
 
-  -- the exchange of the law that a resizer asks for
+  -- the exchange of the law for which a resizer asks
   abbrev pub IsStageAsked : Stage → At → ℕ → LoadedPairs P → Exchange P → Type 0
   IsStageAsked (Opening table) at new loaded e = e ≡ Open table
   IsStageAsked stage at new loaded e = IsCopyAsked c (kind_in stage) at new s loaded.kept e
 
--- the making of a table that is under way, if one is
+-- the making of a table that is under way, if there is one
 abbrev pub link_of : Stage → Option Link
 link_of (Linking link) = Some link
 link_of (Copying from copying) = link_in_copying copying
 link_of _ = None
 
--- this is the one that is under way
+-- this is the making of a table that is under way
 abbrev pub HasLink : Stage → Link → Type 0
 HasLink (Linking link) other = link ≡ other
 HasLink (Copying from copying) link = link_in_copying copying ≡ Some link
 HasLink _ link = ⊥
 
--- a table was to be made, of these sizes, and was refused so
+-- a table of these sizes was to be made, and was refused
 pub record WasNotMade (resizer : Resizer) (answer : Answer) (refused : Refused) : Type 0 where
   pub slots : ℕ
   pub limit : ℕ
@@ -91,7 +91,8 @@ pub record WasNotMade (resizer : Resizer) (answer : Answer) (refused : Refused) 
   pub asks : ask_of resizer ≡ Some (MakeTable slots limit chunks)
   pub is : answer ≡ answers.Call (Was_refused refused)
 
--- the table after one of so many slots would be longer than a table may be, by the count answered
+-- the table after one of `slots` slots would be longer than a table may be, by the count in the
+-- answer
 pub record WouldBeTooLong (resizer : Resizer) (answer : Answer) (refused : Refused) : Type 0 where
   pub capacity : refused ≡ Capacity
   pub behind : ℕ
@@ -104,12 +105,13 @@ pub record WouldBeTooLong (resizer : Resizer) (answer : Answer) (refused : Refus
   pub is : answer ≡ answers.Count count
   pub long : 2 ^ 32 < length_after slots count resizer.initial unfit
 
--- there is no root, or the map counts so many pairs
+-- the answer says that there is no root, and `count` is 0; or it says that the map counts `count`
+-- pairs
 abbrev pub IsCountTold : Answer → (count : ℕ) → Type 0
 IsCountTold answer count = ((answer ≡ answers.Call (Word_read 0)) × (count ≡ 0))
     ⊎ (answer ≡ answers.Count count)
 
--- room was asked for, for more pairs than a table may have slots for
+-- room was reserved for more pairs than a table may have slots for
 pub record IsTooMuchRoom (resizer : Resizer) (answer : Answer) (refused : Refused) : Type 0 where
   pub capacity : refused ≡ Capacity
   pub more : ℕ
@@ -118,7 +120,7 @@ pub record IsTooMuchRoom (resizer : Resizer) (answer : Answer) (refused : Refuse
   pub counts : IsCountTold answer count
   pub long : 2 ^ 32 < entries_of (count + more)
 
--- why an answer ends a resizer refused
+-- why an answer ends a resizer with a refusal
 abbrev pub IsResizeCause : Resizer → Answer → Refused → Type 0
 IsResizeCause resizer answer refused = WasNotMade resizer answer refused
     ⊎ WouldBeTooLong resizer answer refused ⊎ IsTooMuchRoom resizer answer refused

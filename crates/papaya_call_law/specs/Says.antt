@@ -1,4 +1,4 @@
--- What a machine stands on that its closure said.
+-- On which results of its closure a machine acts.
 use Rattle.std.specs.Prelude.{◌≡◌, ◌⊎◌, ℕ, ◌<◌, ◌==◌, if◌then◌else◌, Bool, true, false, Option, None, Some}
 use Rattle.papaya_words.specs.Word.{pair_of}
 use Rattle.papaya_call.specs.declared.ask.Ask.{Ask}
@@ -21,23 +21,23 @@ use Rattle.papaya_call.specs.declared.machine.State.{State}
 use Rattle.papaya_call.specs.declared.machine.State.TheVariants.{Offering, Showing, Pairing, Putting, Burying, Counting, Noting, Uncounting, Ended}
 use Rattle.papaya_call.specs.Machine.{after, ask_of, kind_of_ask}
 
--- What a closure said. Where its key was absent it was shown None, and else the pair of
--- this number.
+-- A result of a closure. The closure was called with None if its key was absent, and otherwise with
+-- the pair of this number.
 pub data Said : Type 0 where
-  -- shown this pair it agreed to its removal, or it didn't
+  -- called with pair n, it returned whether the pair is to be removed
   Agrees : (n : ℕ) (agrees : Bool) → Said
-  -- shown this it answered a value to store, of which a pair is yet to be made
+  -- called with `shown`, it returned a value to store, of which a pair is yet to be made
   Inserts : (shown : Option ℕ) → Said
-  -- and of which this pair was made
+  -- called with `shown`, it returned a value to store, of which pair n was made
   Makes : (shown : Option ℕ) (n : ℕ) → Said
-  -- shown this pair it would have it removed
+  -- called with pair n, it returned that the pair is to be removed
   Removes : (n : ℕ) → Said
 
--- what the old word of a write stands for: nothing, or the pair that it names
+-- the pair that the old word of a write names, None if the word is 0
 abbrev pub shown_by : ℕ → Option ℕ
 shown_by old = if old == 0 then None else Some (pair_of old)
 
--- what the closure said, on which a reply stands
+-- the result of the closure on which a reply is based
 abbrev pub said_of_removal : Reply → Option Said
 said_of_removal (Removed n) = Some (Agrees n true)
 said_of_removal (Kept n) = Some (Agrees n false)
@@ -49,7 +49,7 @@ said_of_compute (Replaced m n) = Some (Makes (Some m) n)
 said_of_compute (Removed n) = Some (Removes n)
 said_of_compute _ = None
 
--- and on which the removal of a pair stands
+-- the result of the closure on which the removal of pair n is based
 abbrev pub said_to_remove : Task → ℕ → Option Said
 said_to_remove Get n = None
 said_to_remove (Insert replace) n = None
@@ -62,7 +62,7 @@ said_in_reply (Insert replace) reply = None
 said_in_reply RemoveIf reply = said_of_removal reply
 said_in_reply Compute reply = said_of_compute reply
 
--- an insertion has no closure
+-- the same for a pair that was claimed; an insertion has no closure
 abbrev pub said_to_claim : Task → ℕ → Option Said
 said_to_claim Compute n = Some (Makes None n)
 said_to_claim _ n = None
@@ -70,10 +70,10 @@ said_to_claim _ n = None
 abbrev pub said_for : Purpose → Option Said
 said_for (Fill gap) = Some (Inserts None)
 said_for (Replace write) = Some (Inserts (Some (pair_of write.old)))
--- what it said before of this pair is remembered
+-- what it returned for this pair before is remembered
 said_for (Again write) = None
 
--- what the closure said, on which the rest of a machine in this state stands
+-- the result of the closure on which the rest of a call in this state is based
 abbrev pub said_in : Task → State → Option Said
 said_in task (Pairing purpose) = said_for purpose
 said_in task (Putting put) = Some (Makes (shown_by put.write.old) put.pair)
@@ -84,7 +84,7 @@ said_in task (Uncounting n) = said_to_remove task n
 said_in task (Ended reply) = said_in_reply task reply
 said_in task _ = None
 
--- and what it remembers
+-- the same for what a machine remembers
 abbrev pub said_to_fill : Option ℕ → Option Said
 said_to_fill None = None
 said_to_fill (Some n) = Some (Makes None n)
@@ -94,21 +94,21 @@ said_to_choose None = None
 said_to_choose (Some (To_replace old new)) = Some (Makes (Some old) new.pair)
 said_to_choose (Some (To_remove old)) = Some (Removes old)
 
--- the machine stands on this: its state does, or what it remembers
+-- the machine acts on this result of its closure, by its state or by what it remembers
 abbrev pub StandsOn : Machine → Said → Type 0
 StandsOn m said = (said_in m.task m.state ≡ Some said)
     ⊎ (said_to_fill m.remembered.fill ≡ Some said)
     ⊎ (said_to_choose m.remembered.choice ≡ Some said)
 
--- The word of a pair that the closure was shown is no empty one. Where a pair is made again of what
--- it said then, that is remembered.
+-- The word of a pair with which the closure was called is not 0. If a pair is made again, what the
+-- closure returned for the old pair is remembered.
 abbrev pub IsToPair : Option Choice → Purpose → Type 0
 IsToPair choice (Fill gap) = Unit {0}
 IsToPair choice (Replace write) = 0 < write.old
 IsToPair choice (Again write) = (0 < write.old)
     × ((new : Of) × (choice ≡ Some (To_replace (pair_of write.old) new)))
 
--- so it is with what the machine shows, and with the pair that is made for it
+-- the same in a state that is about to call the closure with a pair, or in which a pair is made
 abbrev pub ShowsIn : Option Choice → State → Type 0
 ShowsIn choice (Showing removal) = 0 < removal.word
 ShowsIn choice (Pairing purpose) = IsToPair choice purpose
@@ -117,71 +117,71 @@ ShowsIn choice _ = Unit {0}
 abbrev pub ShowsPairs : Machine → Type 0
 ShowsPairs m = ShowsIn m.remembered.choice m.state
 
--- a pair is made of what the closure answered last, or the call is over
+-- a pair is being made of what the closure returned last, or the call is over
 abbrev pub IsAnswered : State → Type 0
 IsAnswered (Pairing (Fill gap)) = Unit {0}
 IsAnswered (Pairing (Replace write)) = Unit {0}
 IsAnswered (Ended reply) = Unit {0}
 IsAnswered _ = ⊥
 
--- The value that was logged last is that of the pair which is remembered to take the place of
--- another, but while a newer value waits.
+-- If a pair is remembered that is to replace another one, the value that was made last is the value
+-- of that pair, unless a newer value is yet to be stored.
 abbrev pub HasValue : Machine → Type 0
 HasValue m = (old : ℕ) (new : Of) → m.remembered.choice ≡ Some (To_replace old new)
     → (m.made.valued ≡ true) ⊎ IsAnswered m.state
 
--- a pair is asked for
+-- the ask is for a pair to be made
 abbrev pub MakesPair : Ask → Type 0
 MakesPair MakePair = Unit {0}
 MakesPair (MakePairOf n) = Unit {0}
 MakesPair _ = ⊥
 
--- the ask by which a closure is shown this
+-- the ask to call the closure with `shown`
 abbrev pub show : Option ℕ → Ask
 show None = ShowNone
 show (Some n) = ShowPair n
 
--- shown this the closure answered a value to store, of which no pair was made yet, or one was made
+-- called with `shown`, the closure returned a value to store, and a pair was made of it or not yet
 abbrev pub WasSaid : Machine → Option ℕ → Type 0
 WasSaid m shown = StandsOn m (Inserts shown) ⊎ ((n : ℕ) × StandsOn m (Makes shown n))
 
--- the closure says this with the answer to what the machine asks; a pair is made of what it
--- said before
+-- the answer to the machine's ask gives this result of the closure, or makes the pair of an earlier
+-- result
 abbrev pub IsSaidBy : Machine → Answer → Said → Type 0
 IsSaidBy m answer (Agrees n agrees) = (ask_of m ≡ ShowPair n) × (answer ≡ Yes agrees)
 IsSaidBy m answer (Inserts shown) = (ask_of m ≡ show shown) × (answer ≡ Op ops.Insert)
 IsSaidBy m answer (Makes shown n) = WasSaid m shown × MakesPair (ask_of m) × (answer ≡ Made n)
 IsSaidBy m answer (Removes n) = (ask_of m ≡ ShowPair n) × (answer ≡ Op ops.Remove)
 
--- of what a machine stood on, the pair for an absent key
+-- the machine acts on a pair for an absent key, and `said` is this result
 abbrev pub KeepsFill : Machine → Said → Type 0
 KeepsFill m said = (i : ℕ) × (said ≡ Makes None i) × StandsOn m said
 
--- a pair that was made of what the closure answered to None is the pair for an absent key; no pair
--- that it was shown before comes again
+-- a pair that was made of what the closure returned for None is the pair for an absent key, and the
+-- machine acts on nothing else: no pair with which the closure was called before comes again
 abbrev pub IsFilledBy : Machine → ℕ → Type 0
 IsFilledBy m n = StandsOn m (Inserts None) × ((said : Said) → StandsOn (after m (Made n)) said
     → said ≡ Makes None n)
 
--- one that was made of what it answered to a pair takes the place of any older answer of a pair;
--- the pair for an absent key stays
+-- a pair that was made of what the closure returned for a pair takes the place of any older result
+-- for a pair; the pair for an absent key stays
 abbrev pub IsReplacedBy : Machine → ℕ → Type 0
 IsReplacedBy m n = (i : ℕ) × WasSaid m (Some i)
     × ((said : Said) → StandsOn (after m (Made n)) said
     → (said ≡ Makes (Some i) n) ⊎ KeepsFill m said)
 
--- what a compute stands on once the pair of this number was made
+-- what a compute acts on once pair n was made
 abbrev pub IsPaired : Machine → ℕ → Type 0
 IsPaired m n = IsFilledBy m n ⊎ IsReplacedBy m n
 
--- an exchange of a slot, of this old pair for this new one, is what the closure of a compute said
+-- the exchange of a slot, of pair `old` for pair `new`, is what the closure of a compute returned
 abbrev pub IsSaidExchange : Machine → (old new : ℕ) → Type 0
 IsSaidExchange m old new =
     ((kind_of_ask m ≡ Some kinds.Claim) × StandsOn m (Makes None new))
     ⊎ ((kind_of_ask m ≡ Some kinds.Replace) × StandsOn m (Makes (Some old) new))
     ⊎ ((kind_of_ask m ≡ Some kinds.Bury) × StandsOn m (Removes old))
 
--- a change of a call that has a closure: what goes and what comes is what the closure said
+-- the change of a call with a closure, from `old` to `new`, is what the closure returned
 abbrev pub IsSaidChange : Task → Machine → (old new : Option ℕ) → Type 0
 IsSaidChange Get m old new = ⊥
 IsSaidChange (Insert replace) m old new = Unit {0}
@@ -192,7 +192,8 @@ IsSaidChange Compute m old (Some n) = StandsOn m (Makes old n)
 IsSaidChange Compute m (Some n) None = StandsOn m (Removes n)
 IsSaidChange Compute m None None = ⊥
 
--- the closure was shown that the key is absent, or it never will be
+-- a pair for an absent key is remembered; `HasShownNone` says that the closure was called with
+-- None, or never will be
 abbrev pub IsFilled : Option ℕ → Type 0
 IsFilled None = ⊥
 IsFilled (Some n) = Unit {0}

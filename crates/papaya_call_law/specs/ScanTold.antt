@@ -1,4 +1,5 @@
--- What an answer tells a scanner of the words, and of the pairs that it gave or showed.
+-- What an answer tells a scanner about the words, and about the pairs that it returned or called
+-- its closure with.
 use Rattle.std.specs.Prelude.{◌≡◌, ◌⊎◌, ℕ, suc, ◌==◌, cond, Bool, Option, None, Some, List, [], ◌∷◌, ◌++◌, MatchBool}
 use Rattle.papaya_call.specs.declared.ask.Answer.TheVariants.{Exchanged, Found, Yes, Ok}
 use Rattle.papaya_call.specs.declared.ask.At.TheVariants.{Slot}
@@ -24,15 +25,16 @@ count_of g [] k = 0
 count_of g (p ∷ older) k =
     cond (g.same k (g.key p)) (suc (count_of g older k)) (count_of g older k)
 
--- what was answered last of the pair, the newest answer being the first
+-- what the closure returned when it was last called with the pair p; the list has the newest call
+-- first
 abbrev pub IsLastAnswer : {P : Type 0} → List (P × Bool) → P → Bool → Type 0
 IsLastAnswer [] p stays = ⊥
 IsLastAnswer (one ∷ older) p stays = ((one.0 ≡ p) × (one.1 ≡ stays))
     ⊎ ((one.0 ≡ p → ⊥) × IsLastAnswer older p stays)
 
--- The pairs that a scanner was told of, as a copier is, those that it gave, and those that it
--- showed, with what was answered, the newest first; and the exchanges since the call began until it
--- took its table, or until now where it has none.
+-- The pairs that a scanner has learned of, as a copier has; the exchanges from the begin of the
+-- call until it took its table, or until now if it has none; the pairs that it returned; and those
+-- with which it called its closure, with what that returned. The newest are first.
 pub record LoadedPairs (P : Type 0) : Type 0 where
   pub copy : copies.LoadedPairs P
   pub before : List (Exchange P)
@@ -42,21 +44,21 @@ pub record LoadedPairs (P : Type 0) : Type 0 where
 abbrev pub nothing_loaded : {P : Type 0} → LoadedPairs P
 nothing_loaded = record { copy = copies.nothing_loaded; before = []; given = []; shown = [] }
 
--- the pair that the word last loaded names
+-- the pair that the word loaded last names
 abbrev pub last_of : {P : Type 0} → LoadedPairs P → Option P
 last_of loaded = loaded.copy.call.last
 
 -- The words are s, and the exchanges since the call began `since`.
 module _ {K P : Type 0} (g : Setting K P) (c : Coding K P) (s : Words P)
     (since : List (Exchange P)) where
-  -- it asked for the copy of all
+  -- the answer is to an ask of the copy of all
   pub record IsCopyAnswer (stage : Stage) (loaded : LoadedPairs P) (answer : Answer)
       (es : List (Exchange P)) (loaded' : LoadedPairs P) : Type 0 where
     pub copy : copies.LoadedPairs P
     pub told : IsStageTold g c s stage loaded.copy answer es copy
     pub handed : loaded' ≡ record loaded { copy = copy; before = since ++ es }
 
-  -- it loaded a word, or asked for a size
+  -- the answer is to a load or to an ask for a size
   pub record IsWordAnswer (state : ScannerState) (before : List (Exchange P)) (loaded : LoadedPairs P)
       (answer : Answer) (es : List (Exchange P)) (loaded' : LoadedPairs P) : Type 0 where
     pub ask : CopyAsk
@@ -65,7 +67,7 @@ module _ {K P : Type 0} (g : Setting K P) (c : Coding K P) (s : Words P)
     pub told : IsCopyTold g c s None 0 loaded.copy ask answer es copy
     pub handed : loaded' ≡ record loaded { copy = copy; before = before }
 
-  -- the pair last told of was given
+  -- the pair learned of last was returned
   pub record IsGiven (loaded : LoadedPairs P) (answer : Answer) (es : List (Exchange P))
       (loaded' : LoadedPairs P) : Type 0 where
     pub pair : P
@@ -74,7 +76,7 @@ module _ {K P : Type 0} (g : Setting K P) (c : Coding K P) (s : Words P)
     pub none : es ≡ []
     pub handed : loaded' ≡ record loaded { given = pair ∷ loaded.given }
 
-  -- it was shown, and the closure answered whether it stays
+  -- the closure was called with the pair learned of last, and returned whether it stays
   pub record IsShown (loaded : LoadedPairs P) (answer : Answer) (es : List (Exchange P))
       (loaded' : LoadedPairs P) : Type 0 where
     pub pair : P
@@ -84,7 +86,7 @@ module _ {K P : Type 0} (g : Setting K P) (c : Coding K P) (s : Words P)
     pub none : es ≡ []
     pub handed : loaded' ≡ record loaded { shown = (pair, stays) ∷ loaded.shown }
 
-  -- the pair that stands in the slot was deleted
+  -- the pair in the slot was removed
   pub record IsBuried (spot : Spot) (loaded : LoadedPairs P) (answer : Answer)
       (es : List (Exchange P))
       (loaded' : LoadedPairs P) : Type 0 where
@@ -94,7 +96,7 @@ module _ {K P : Type 0} (g : Setting K P) (c : Coding K P) (s : Words P)
     pub one : es ≡ Bury spot.table spot.slot pair ∷ []
     pub handed : loaded' ≡ loaded
 
-  -- or another word was found there
+  -- another word was found in the slot
   pub record IsFoundThere (spot : Spot) (loaded : LoadedPairs P) (answer : Answer)
       (es : List (Exchange P)) (loaded' : LoadedPairs P) : Type 0 where
     pub is : answer ≡ answers.Call (Found (code g c (s.slot spot.table spot.slot)))
@@ -104,8 +106,8 @@ module _ {K P : Type 0} (g : Setting K P) (c : Coding K P) (s : Words P)
           copy = told_of (told_last s (Slot spot.table spot.slot) (last_of loaded)) loaded.copy;
         }
 
-  -- The answer to what a scanner asks is true of the words in s, and es has the exchange, if one
-  -- was made.
+  -- The answer to a scanner's ask is true of the words in s, and `es` has the exchange, if one was
+  -- made.
   abbrev pub IsScanTold : ScannerState → LoadedPairs P → Answer → List (Exchange P) → LoadedPairs P
       → Type 0
   IsScanTold (Copying stage) loaded answer es loaded' = IsCopyAnswer stage loaded answer es loaded'

@@ -1,4 +1,4 @@
--- What a call that scans a table relies on, and what is so at its end.
+-- What a call that scans a table relies on, and what holds when it ends.
 use Rattle.std.specs.Prelude.{◌≡◌, ◌⊎◌, ℕ, suc, ◌<◌, ◌≤◌, ◌++◌, true, false, Option, None, Some, List, []}
 use Rattle.papaya_words.specs.Word.{kind_of, pair_of}
 use Rattle.papaya_words.specs.declared.word.Kind.TheVariants as kinds
@@ -25,7 +25,7 @@ use Rattle.papaya_call.specs.declared.chain.scanner.Scanner.{Scanner}
 use Rattle.papaya_call_law.specs.ScanTaken.{IsTakenOut}
 use Rattle.papaya_call_law.specs.ScanTold.{IsLastAnswer, LoadedPairs, count_of, last_of}
 
--- a search for the key finds its pair in this slot of the table
+-- a search for the key k finds its pair in this slot of the table
 pub record IsHeldIn {K P : Type 0} (g : Setting K P) (s : Words P) (table : ℕ) (k : K)
     (slot : ℕ) : Type 0 where
   pub at : ℕ
@@ -33,20 +33,22 @@ pub record IsHeldIn {K P : Type 0} (g : Setting K P) (s : Words P) (table : ℕ)
   pub is : g.place k table at ≡ slot
   pub has : held (look g s k table at) ≡ true
 
--- The words were s and the map m as this table was taken, and fs came since.
+-- The words were s and the map m when this table was taken, and the exchanges since then are fs.
 module _ {K P : Type 0} (g : Setting K P) (s : Words P) (m : K → Option P) (fs : List (Exchange P))
     (table : ℕ) where
-  -- the scan owes nothing to the key: a walk, if the map had none at a moment; else, if it had
-  -- none then, or its pair was taken out since
+  -- the scan owes nothing to the key: an iteration if the map had no pair of it at some moment
+  -- since the table was taken; another scan if the map had none then, or the key's pair was taken
+  -- out since
   abbrev pub IsOut : Scan → K → Type 0
   IsOut Walk k = IsAtMoment g m fs k None
   IsOut _ k = (m k ≡ None) ⊎ IsTakenOut g fs k
 
-  -- its pair was shown, and the last answer was that it stays
+  -- the closure was called with the key's pair, and last returned that it stays
   abbrev pub IsKept : LoadedPairs P → K → Type 0
   IsKept loaded k = (p : P) × (m k ≡ Some p) × IsLastAnswer loaded.shown p true
 
-  -- what was done about the key's pair, which stood in this slot, before the scan came so far
+  -- what a scan that has come to slot `upto` has done about the key's pair, which was in slot
+  -- `slot`
   abbrev pub IsDealtWith : Scan → LoadedPairs P → (slot upto : ℕ) → K → Type 0
   IsDealtWith Walk loaded slot upto k = ((upto ≤ slot) × (count_of g loaded.given k ≡ 0))
       ⊎ ((slot < upto) × (count_of g loaded.given k ≡ 1))
@@ -57,18 +59,18 @@ module _ {K P : Type 0} (g : Setting K P) (s : Words P) (m : K → Option P) (fs
   IsScannedTo scan loaded upto k = IsOut scan k
       ⊎ ((slot : ℕ) × IsHeldIn g s table k slot × IsDealtWith scan loaded slot upto k)
 
-  -- the pair p, which was met, is the key's
+  -- p, the pair that was met, is the key's
   abbrev pub IsPairOf : Scan → P → K → Type 0
   IsPairOf Retain p k = m k ≡ Some p
   IsPairOf _ p k = g.same k (g.key p) ≡ true
 
-  -- so, and p was met in the slot to which the scan has come
+  -- the same as `IsScannedTo`, with p as the pair that was met in slot `upto`
   abbrev pub IsMetIn : Scan → LoadedPairs P → (upto : ℕ) → P → K → Type 0
   IsMetIn scan loaded upto p k = IsOut scan k
       ⊎ ((slot : ℕ) × IsHeldIn g s table k slot × IsDealtWith scan loaded slot upto k
       × (slot ≡ upto → IsPairOf scan p k) × (g.same k (g.key p) ≡ true → slot ≡ upto))
 
--- The words were s and the map m as the call began, and the exchanges since then are `since`.
+-- The words were s and the map m when the call began, and the exchanges since then are `since`.
 module _ {K P : Type 0} (g : Setting K P) (c : Coding K P) (s : Words P) (m : K → Option P)
     (since : List (Exchange P)) where
   -- the words after all exchanges
@@ -76,7 +78,7 @@ module _ {K P : Type 0} (g : Setting K P) (c : Coding K P) (s : Words P) (m : K 
   now = run since s
 
   -- The moment at which the table was taken: it was the root and, without blocking, had no next
-  -- table. Each pair that was given was in the map at a moment since then.
+  -- table. Each pair that was returned was in the map at some moment since then.
   pub record IsTaking (table : ℕ) (loaded : LoadedPairs P) (es fs : List (Exchange P)) : Type 0
     where
       pub is : es ++ fs ≡ since
@@ -87,15 +89,15 @@ module _ {K P : Type 0} (g : Setting K P) (c : Coding K P) (s : Words P) (m : K 
       pub given : (p : P) → IsOneOf loaded.given p
           → IsAtMoment g (map_of g m es) fs (g.key p) (Some p)
 
-  -- the slots of the table were scanned so far
+  -- the slots of the table before slot `upto` were scanned
   pub record IsScanning (scan : Scan) (loaded : LoadedPairs P) (table upto : ℕ) : Type 0 where
     pub es : List (Exchange P)
     pub fs : List (Exchange P)
     pub taken : IsTaking table loaded es fs
     pub each : (k : K) → IsScannedTo g (run es s) (map_of g m es) fs table scan loaded upto k
 
-  -- in the slot to which the scan has come this word stood, which named the pair last told of; and
-  -- the map had that pair at a moment since the table was taken
+  -- in the slot to which the scan has come this word was loaded, which named the pair learned of
+  -- last; and the map had that pair at some moment since the table was taken
   pub record IsMeeting (scan : Scan) (loaded : LoadedPairs P) (spot : Spot) (word : ℕ) : Type 0
     where
       pub es : List (Exchange P)
@@ -112,22 +114,23 @@ module _ {K P : Type 0} (g : Setting K P) (c : Coding K P) (s : Words P) (m : K 
   abbrev pub IsSpot : Spot → Type 0
   IsSpot spot = (spot.len ≡ g.size spot.table) × (spot.slot < spot.len)
 
-  -- the pair of the word may be taken out: retain has shown a pair of its number, and the last
-  -- answer was that it does not stay
+  -- the pair of the word may be removed: for a retain, its closure was called with a pair of this
+  -- number, and last returned that it does not stay
   abbrev pub MayTake : Scan → LoadedPairs P → (word : ℕ) → Type 0
   MayTake Walk loaded word = ⊥
   MayTake Clear loaded word = Unit {0}
   MayTake Retain loaded word = (p : P) × (c.number p ≡ pair_of word)
       × IsLastAnswer loaded.shown p false
 
-  -- a walk changes nothing
+  -- the scan may change the map: it is not an iteration
   abbrev pub Takes : Scan → Type 0
   Takes Walk = ⊥
   Takes _ = Unit {0}
 
-  -- The end of a walk. Since a moment of the call, at which there was no root or the root had no
-  -- next table without blocking, each pair that was given was in the map, and a key that had a pair
-  -- all the time was given just once.
+  -- The end of an iteration. There is a moment of the call, at which there was no root or, without
+  -- blocking, the root had no next table, such that each pair that was returned was in the map at
+  -- some moment since then, and for each key that has had a pair ever since exactly one was
+  -- returned.
   pub record HasWalked (loaded : LoadedPairs P) : Type 0 where
     pub es : List (Exchange P)
     pub fs : List (Exchange P)
@@ -139,11 +142,12 @@ module _ {K P : Type 0} (g : Setting K P) (c : Coding K P) (s : Words P) (m : K 
     pub each : (k : K) → IsAtMoment g (map_of g m es) fs k None
         ⊎ (count_of g loaded.given k ≡ 1)
 
-  -- the end of a clear: each pair that the map had as it began was taken out since
+  -- the end of a clear: each pair that the map had when it began was taken out since
   abbrev pub HasCleared : Type 0
   HasCleared = (k : K) → (m k ≡ None) ⊎ IsTakenOut g since k
 
-  -- the end of a retain: or it was shown, and the last answer was that it stays
+  -- the end of a retain: each such pair was taken out, or the closure was called with it and last
+  -- returned that it stays
   abbrev pub HasRetained : LoadedPairs P → Type 0
   HasRetained loaded = (k : K) → (m k ≡ None) ⊎ IsTakenOut g since k
       ⊎ ((p : P) × (m k ≡ Some p) × IsLastAnswer loaded.shown p true)
@@ -153,7 +157,8 @@ module _ {K P : Type 0} (g : Setting K P) (c : Coding K P) (s : Words P) (m : K 
   HasScanned Clear loaded = HasCleared
   HasScanned Retain loaded = HasRetained loaded
 
-  -- the copy of all looks for the table after one that was the root, and makes none
+  -- a stage to which the copy of all comes: it looks up the table after one that was the root, and
+  -- needs no size for it
   abbrev pub IsOfAll : Stage → Type 0
   IsOfAll stages.AtRoot = Unit {0}
   IsOfAll (stages.Looking root len room) = (now.was_root root ≡ true) × (room ≡ None)
@@ -178,7 +183,7 @@ module _ {K P : Type 0} (g : Setting K P) (c : Coding K P) (s : Words P) (m : K 
   ReliesState scan loaded Done = HasScanned scan loaded
   ReliesState scan loaded (Refused refused) = Unit {0}
 
-  -- a call that takes pairs out gives none
+  -- a clear and a retain return no pairs
   abbrev pub GivesNone : Scan → LoadedPairs P → Type 0
   GivesNone Walk loaded = Unit {0}
   GivesNone _ loaded = loaded.given ≡ []
@@ -189,8 +194,8 @@ module _ {K P : Type 0} (g : Setting K P) (c : Coding K P) (s : Words P) (m : K 
     pub gives : GivesNone scanner.scan loaded
     pub state : ReliesState scanner.scan loaded scanner.state
 
-  -- some pair of this number was last told of, and was in the map at a moment since the table was
-  -- taken, and so of the call
+  -- the pair learned of last has the number n, and was in the map at some moment since the table
+  -- was taken, and so at some moment of the call
   pub record HadPair (loaded : LoadedPairs P) (n : ℕ) : Type 0 where
     pub pair : P
     pub told : last_of loaded ≡ Some pair
@@ -200,15 +205,16 @@ module _ {K P : Type 0} (g : Setting K P) (c : Coding K P) (s : Words P) (m : K 
     pub had : IsAtMoment g (map_of g m loaded.before) fs (g.key pair) (Some pair)
     pub in_call : IsAtMoment g m since (g.key pair) (Some pair)
 
-  -- what is named in an ask is there, and a pair that is shown or given was the map's
+  -- what an ask names is there, and a pair that is returned, or with which the closure is called,
+  -- was the map's
   abbrev pub IsNamed : LoadedPairs P → ScanAsk → Type 0
   IsNamed loaded (Copy ask) = AreThere g c now loaded.copy.call.last loaded.copy.kept ask
   IsNamed loaded (Show n) = HadPair loaded n
   IsNamed loaded (Given n) = HadPair loaded n
   IsNamed loaded (AddToShard by) = Unit {0}
 
-  -- The exchange of the law that a scanner asks for: one of the copy, or the deletion of the pair
-  -- that stands in its slot.
+  -- The exchange of the law for which a scanner asks: one of the copy, or the removal of the pair
+  -- in its slot.
   abbrev pub IsScanAsked : Scan → ScannerState → At → ℕ → LoadedPairs P → Exchange P → Type 0
   IsScanAsked scan (Copying stage) at new loaded e = IsStageAsked g c now stage at new loaded.copy e
   IsScanAsked scan (Burying spot word) at new loaded e = MayTake scan loaded word
@@ -216,7 +222,7 @@ module _ {K P : Type 0} (g : Setting K P) (c : Coding K P) (s : Words P) (m : K 
       × (e ≡ Bury spot.table spot.slot p))
   IsScanAsked scan state at new loaded e = ⊥
 
--- the making of a table that is under way for the copy of all, if one is
+-- the making of a table that is under way for the copy of all, if there is one
 abbrev pub link_in_scan : ScannerState → Option Link
 link_in_scan (Copying stage) = link_of stage
 link_in_scan _ = None

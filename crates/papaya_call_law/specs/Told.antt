@@ -1,4 +1,4 @@
--- What an answer tells a machine of the words.
+-- What an answer says about the words.
 use Rattle.std.specs.Prelude.{◌≡◌, ◌⊎◌, ℕ, ◌+◌, ◌<◌, ◌==◌, cond, Bool, Option, None, Some, List, [], ◌∷◌, MatchBool}
 use Rattle.papaya_words.specs.Word.{pair_of}
 use Rattle.papaya_words.specs.declared.refused.Refused.{Refused}
@@ -23,8 +23,8 @@ use Rattle.papaya_words_law.specs.Invariant.{named}
 use Rattle.papaya_words_law.specs.Code.{Coding, code}
 use Rattle.papaya_words_law.specs.Hints.{IsHint}
 
--- The pairs that a machine has been told of: the one that the word last loaded names, and those
--- that it made, the newest first.
+-- The pairs that a machine has learned of: the one that the word loaded last names, and those that
+-- it made, the newest first.
 pub record LoadedPairs (P : Type 0) : Type 0 where
   pub last : Option P
   pub made : List P
@@ -32,18 +32,18 @@ pub record LoadedPairs (P : Type 0) : Type 0 where
 abbrev pub nothing_loaded : {P : Type 0} → LoadedPairs P
 nothing_loaded = record { last = None; made = [] }
 
--- p is one of these
+-- p is in the list
 abbrev pub IsOneOf : {P : Type 0} → List P → P → Type 0
 IsOneOf [] p = ⊥
 IsOneOf (q ∷ rest) p = (p ≡ q) ⊎ IsOneOf rest p
 
--- the pair that a word names, or else the one of before
+-- the pair that a word names, if it names one, and otherwise the one from before
 abbrev pub or_last : {P : Type 0} → Option P → Option P → Option P
 or_last (Some p) last = Some p
 or_last None last = last
 
 module _ {K P : Type 0} (g : Setting K P) (c : Coding K P) where
-  -- the word that stands at a place, as a number
+  -- the word at a place, as a number
   abbrev pub word_of : State P → At → ℕ
   word_of s Root = s.root
   word_of s (Next t) = s.next t
@@ -52,26 +52,26 @@ module _ {K P : Type 0} (g : Setting K P) (c : Coding K P) where
   word_of s (Slot t x) = code g c (s.slot t x)
   word_of s Made_word = s.made
 
-  -- just the word at this place is another
+  -- the word at `at` becomes `new`, and all other words stay the same
   pub record IsWritten (s : State P) (at : At) (new : ℕ) (s' : State P) : Type 0 where
     pub here : word_of s' at ≡ new
     pub others : (other : At) → (other ≡ at → ⊥) → word_of s' other ≡ word_of s other
 
--- what the machine has been told of after it was told of the word at a place
+-- the pairs that a machine has learned of once it has loaded the word at a place
 abbrev pub told_of : {P : Type 0} → State P → At → LoadedPairs P → LoadedPairs P
 told_of s (Slot t x) loaded = record loaded { last = or_last (named (s.slot t x)) loaded.last }
 told_of s _ loaded = loaded
 
--- the pair q was made by the call, and the new word names it
+-- the new word names the pair q, which the call made
 pub record IsOwnWord {K P : Type 0} (c : Coding K P) (loaded : LoadedPairs P) (new : ℕ)
     (q : P) : Type 0 where
   pub made : IsOneOf loaded.made q
   pub named : c.number q ≡ pair_of new
 
 module _ {K P : Type 0} (g : Setting K P) (c : Coding K P) (k : K) where
-  -- The exchange of the law that a machine asks for, by its kind: a pair that comes is one that the
-  -- machine made, of the call's key where it is claimed, and of the key of the one that goes where
-  -- it is replaced; and the one that goes is the one that stands there.
+  -- The exchange of the law for which a machine asks, by its kind. A pair that comes is one that
+  -- the machine made: with the call's key if it is claimed, and with the key of the pair that goes
+  -- if it replaces one. The pair that goes is the one in the slot.
   abbrev pub IsAsked : Option StepKind → At → ℕ → State P → LoadedPairs P → Exchange P → Type 0
   IsAsked (Some kinds.Open) Root new s loaded e = e ≡ Open new
   IsAsked (Some kinds.Claim) (Slot t x) new s loaded e = (q : P) × IsOwnWord c loaded new q
@@ -84,11 +84,11 @@ module _ {K P : Type 0} (g : Setting K P) (c : Coding K P) (k : K) where
   IsAsked (Some kinds.Take) Made_word new s loaded e = e ≡ Take s.made
   IsAsked _ _ new s loaded e = ⊥
 
-  -- nothing was exchanged, and no pair was told of
+  -- nothing was exchanged, and no pair was learned of
   abbrev pub Quiet : LoadedPairs P → List (Exchange P) → LoadedPairs P → Type 0
   Quiet loaded es loaded' = (es ≡ []) × (loaded' ≡ loaded)
 
-  -- something was to be made: it was refused, or there was nothing to make
+  -- nothing was made: it was refused, or there was nothing to make
   abbrev pub IsUnmade : Answer → Type 0
   IsUnmade answer = ((refused : Refused) × (answer ≡ Was_refused refused)) ⊎ (answer ≡ Ok_done)
 
@@ -97,18 +97,18 @@ module _ {K P : Type 0} (g : Setting K P) (c : Coding K P) (k : K) where
   IsNew q loaded answer es loaded' = (answer ≡ Made_number (c.number q)) × (es ≡ [])
       × (loaded' ≡ record loaded { made = q ∷ loaded.made })
 
-  -- it has the key of the pair of this number, which was loaded last
+  -- q has the key of pair n, if that is the pair learned of last
   abbrev pub IsOfLast : LoadedPairs P → ℕ → P → Type 0
   IsOfLast loaded n q = (p : P) → loaded.last ≡ Some p → c.number p ≡ n → g.key q ≡ g.key p
 
-  -- a closure answers as it likes; where there is none, it doesn't
+  -- the answer is any result of a closure, or says nothing if there is no closure
   abbrev pub IsSaying : Answer → Type 0
   IsSaying answer = ((agrees : Bool) × (answer ≡ Yes agrees))
       ⊎ ((kind : OpKind) × (answer ≡ Op kind)) ⊎ (answer ≡ Ok_done)
 
-  -- The answer to an ask is true of the words in s, for a call with key k: a load and an exchange
-  -- are answered by the word that stands there, and the load of a hint by one that may be there. es
-  -- has the exchange, if one was made.
+  -- The answer to an ask is true of the words in s, for a call with the key k: a load or an
+  -- exchange is answered by the word that is there, and the load of a hint by one that may be
+  -- there. `es` has the exchange, if one was made.
   abbrev pub IsTold : State P → Option StepKind → LoadedPairs P → Ask → Answer → List (Exchange P)
       → LoadedPairs P → Type 0
   IsTold s kind loaded (Load at) answer es loaded' = (answer ≡ Word_read (word_of g c s at))

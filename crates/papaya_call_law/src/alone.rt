@@ -10,8 +10,8 @@ use papaya_call::ask::{Answer, Ask, At};
 use papaya_call::call::Reply;
 use papaya_call::machine::Machine;
 
-/// Each answer brings a call nearer to its end, while no table has a next one. The words that the
-/// call has read have not changed, so no exchange fails.
+/// States that each answer brings a call nearer to its end, while no table has a next one. The
+/// words that the call has read have not changed, so no exchange fails.
 pub fn calls_end()
     ensures nearer { (words words' : At → ℕ) (m : Machine) (answer : Answer)
         → IsCurrent words m → ((t : ℕ) → words (At.Next t) ≡ 0)
@@ -24,7 +24,8 @@ pub fn calls_end()
         → (t : ℕ) → words' (At.Next t) ≡ 0 }
 {}
 
-/// A call that looks for its key and meets no pair with it only loads, and finds nothing.
+/// States that a call that looks for its key and meets no pair with it only loads, and finds
+/// nothing.
 pub fn unmatched_keys_are_absent()
     ensures goes_on { (m : Machine) (answer : Answer) → IsSeeker m.task → HasMetNone m.state
         → IsUnmatched (ask_of m) answer → HasMetNone (after m answer).state }

@@ -27,7 +27,7 @@ use papaya_call::chain::machine::Machine;
 use papaya_call::copy_ask::CopyAsk;
 use papaya_words::refused::Refused;
 
-/// A call that begins relies on the exchanges as they are.
+/// States that a call relies on the exchanges as they are when it begins.
 pub fn begins<K, P>()
     ensures { (g : Setting K P) (c : Coding K P)
         → (begun : List (Exchange P)) (k : K) (task : Task) (mode : ResizeMode)
@@ -36,7 +36,7 @@ pub fn begins<K, P>()
         → Relies g c begun [] k (started task (c.hash k) mode initial number limit) nothing_loaded }
 {}
 
-/// A call's facts stay true, whatever others exchange and whichever tables are made.
+/// States that a call's facts stay true, whatever others exchange and whichever tables are made.
 pub fn stable<K, P>()
     ensures exchanges { (g : Setting K P) (c : Coding K P) → IsHashed g c
         → (begun since es : List (Exchange P)) → AllAllowed g start (begun ++ (since ++ es))
@@ -49,8 +49,8 @@ pub fn stable<K, P>()
         → Relies g' c begun since k m loaded }
 {}
 
-/// An ask of the call itself relies on what calls rely on, so the laws of `papaya_call_law` hold
-/// for it. An ask of a copy names only what is there.
+/// States that an ask of the call itself relies on what calls rely on, so the laws of
+/// `papaya_call_law` hold for it. An ask of a copy names only what is there.
 pub fn names<K, P>()
     ensures calls { (g : Setting K P) (c : Coding K P) (begun since : List (Exchange P)) (k : K)
         (m : Machine) (loaded : LoadedPairs P) → Relies g c begun since k m loaded → (ask : CallAsk)
@@ -63,10 +63,10 @@ pub fn names<K, P>()
         → AreThere g c (run (begun ++ since) start) loaded.call.last loaded.kept ask }
 {}
 
-/// An exchange of a copy that finds its old word is one of the law, is allowed, and writes only its
-/// word. It never changes the map. It is a link, a mark, a sealed slot, a placed copy, a finished
-/// slot, the word of a chunk, a new root or a table that is given up. A table that is linked must
-/// have as many words for chunks as the ask said.
+/// States that an exchange of a copy that finds its old word is one of the law, is allowed, and
+/// writes only its word. It never changes the map. It is a link, a mark, a sealed slot, a placed
+/// copy, a finished slot, the word of a chunk, a new root or a table that is given up. A table that
+/// is linked must have as many words for chunks as the ask said.
 pub fn copies_guarantee<K, P>()
     ensures { (g : Setting K P) (c : Coding K P) → IsHashed g c → (begun since : List (Exchange P))
         → AllAllowed g start (begun ++ since) → (k : K) (m : Machine) (loaded : LoadedPairs P)
@@ -78,8 +78,8 @@ pub fn copies_guarantee<K, P>()
         new (state_after (run (begun ++ since) start) e) }
 {}
 
-/// A hint that a copy writes may be there: a pair of its key was put into that slot, or the slot
-/// was sealed.
+/// States that a hint that a copy writes may be there: a pair of its key was put into that slot, or
+/// the slot was sealed.
 pub fn copies_guarantee_hint<K, P>()
     ensures { (g : Setting K P) (c : Coding K P) → IsHashed g c → (begun since : List (Exchange P))
         → AllAllowed g start (begun ++ since) → (k : K) (m : Machine) (loaded : LoadedPairs P)
@@ -88,8 +88,8 @@ pub fn copies_guarantee_hint<K, P>()
         → IsHint g c (run (begun ++ since) start) t x n }
 {}
 
-/// After a true answer the facts on which the call relies hold again, and its exchange was allowed.
-/// A table that was linked must have as many words for chunks as the ask said.
+/// States that after a true answer the facts on which the call relies hold again, and its exchange
+/// was allowed. A table that was linked must have as many words for chunks as the ask said.
 pub fn learns<K, P>()
     ensures { (g : Setting K P) (c : Coding K P) → IsHashed g c → (begun since : List (Exchange P))
         → AllAllowed g start (begun ++ since) → (k : K) (m : Machine) (loaded : LoadedPairs P)
@@ -102,9 +102,9 @@ pub fn learns<K, P>()
         × Relies g c begun (since ++ es) k (after m answer) loaded' }
 {}
 
-/// An answer goes to the call itself, or to what the call waits for. Then the call still waits,
-/// continues in a later table, begins again at the root, or ends refused. So a copy changes no pair
-/// of the map, counts none and calls no closure.
+/// States that an answer goes to the call itself, or to what the call waits for. Then the call
+/// still waits, continues in a later table, begins again at the root, or ends refused. So a copy
+/// changes no pair of the map, counts none and calls no closure.
 pub fn goes<K, P>()
     ensures leaves { (g : Setting K P) (c : Coding K P) (begun since : List (Exchange P)) (k : K)
         (m : Machine) (loaded : LoadedPairs P) → Relies g c begun since k m loaded
@@ -149,8 +149,8 @@ pub fn goes<K, P>()
         → StandsOn m.call said ⊎ ((own : IsOwnStep m answer) × IsSaidBy m.call own.told said) }
 {}
 
-/// A closure is called at most once without a pair, however often the call is set aside: after that
-/// call it is not called so again.
+/// States that a closure is called at most once without a pair, however often the call is set
+/// aside: after that call it is not called so again.
 pub fn once<K, P>()
     ensures stable { (g : Setting K P) (c : Coding K P) (begun since : List (Exchange P)) (k : K)
         (m : Machine) (loaded : LoadedPairs P) → Relies g c begun since k m loaded
@@ -166,9 +166,9 @@ pub fn once<K, P>()
         (after m (Answer.Call (CallAnswer.Op kind))).call.state }
 {}
 
-/// A call is refused for one of five reasons: something that it asked for was refused, as many
-/// pairs were stored as the limit allows, or its closure returned a removal without a pair. Or,
-/// while it was set aside, the next table was refused or would be longer than a table may be.
+/// States that a call is refused for one of five reasons: something that it asked for was refused,
+/// as many pairs were stored as the limit allows, or its closure returned a removal without a pair.
+/// Or, while it was set aside, the next table was refused or would be longer than a table may be.
 pub fn refusals<K, P>()
     ensures { (g : Setting K P) (c : Coding K P) (begun since : List (Exchange P)) (k : K)
         (m : Machine) (loaded : LoadedPairs P) → Relies g c begun since k m loaded

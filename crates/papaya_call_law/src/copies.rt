@@ -28,7 +28,7 @@ ghost use Rattle.papaya_call_law.specs.Copier.{aim_of, last_after, link_in_copyi
 ghost use Rattle.papaya_call_law.specs.Relies.{IsCutAs, IsModeOf};
 ghost use Rattle.papaya_call_law.specs.Told.{IsWritten, word_of};
 
-/// A copier's facts stay true, whatever others exchange and whichever tables are made.
+/// States that a copier's facts stay true, whatever others exchange and whichever tables are made.
 pub fn copiers_stable<K, P>()
     ensures exchanges { (g : Setting K P) (c : Coding K P) → IsHashed g c
         → (s : State P) (m : K → Option P) → IsKeeping g s m → (es : List (Exchange P))
@@ -40,8 +40,8 @@ pub fn copiers_stable<K, P>()
         → ReliesCopying g' c s last kept copying }
 {}
 
-/// An exchange that finds its old word is one of the law, is allowed, and writes only its word. A
-/// table that is linked was made with as many words for chunks as the ask said.
+/// States that an exchange that finds its old word is one of the law, is allowed, and writes only
+/// its word. A table that is linked was made with as many words for chunks as the ask said.
 pub fn copiers_guarantee<K, P>()
     ensures guarantee { (g : Setting K P) (c : Coding K P) → IsHashed g c
         → (s : State P) (m : K → Option P) → IsKeeping g s m
@@ -56,7 +56,8 @@ pub fn copiers_guarantee<K, P>()
         → IsCopyAsked c kind at new s kept e' → e ≡ e' }
 {}
 
-/// A hint that a copier writes may be there: it put a pair of that key into the slot, or sealed it.
+/// States that a hint that a copier writes may be there: it put a pair of that key into the slot,
+/// or sealed it.
 pub fn copiers_guarantee_hint<K, P>()
     ensures { (g : Setting K P) (c : Coding K P) → IsHashed g c → (s : State P) (m : K → Option P)
         → IsKeeping g s m → (mode : ResizeMode) → IsModeOf mode g.blocking
@@ -64,16 +65,16 @@ pub fn copiers_guarantee_hint<K, P>()
         → (t x n : ℕ) → copying_ask copying ≡ asks.WriteHint t x n → IsHint g c s t x n }
 {}
 
-/// A copier names only words of tables that were opened or linked, slots within them, the pair that
-/// it was last given and the one that it carries.
+/// States that a copier names only words of tables that were opened or linked, slots within them,
+/// the pair that it was last given and the one that it carries.
 pub fn copiers_name<K, P>()
     ensures { (g : Setting K P) (c : Coding K P) → IsHashed g c → (s : State P) (m : K → Option P)
         → IsKeeping g s m → (last kept : Option P) (copying : Copying)
         → ReliesCopying g c s last kept copying → AreThere g c s last kept (copying_ask copying) }
 {}
 
-/// After a true answer the facts on which a copier relies hold again, or it returns where it ended:
-/// the table in which the call is to look for its key, or the root.
+/// States that after a true answer the facts on which a copier relies hold again, or it returns
+/// where it ended: the table in which the call is to look for its key, or the root.
 ///
 /// A load and an exchange are answered with the word that is there, and the load of a hint with any
 /// that may be there. A copier that asks for a hash carries the pair that it was last given. A new

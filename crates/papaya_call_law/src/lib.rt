@@ -1,6 +1,6 @@
-//! The laws of machines: the facts on which they rely while others exchange words; their replies.
+//! The laws of machines: what each relies on while others exchange words, and what it replies.
 //! It uses `papaya_call` and the law of exchanges in `papaya_words_law`.
-//! Every proof about a backend builds on it: of schedules, of one caller and of threads.
+//! The proofs of all three backends build on it: of schedules, of one caller and of threads.
 //!
 //! A backend that answers truly needs only these laws and never looks into a machine: [`relies`]
 //! for a call on one table under any schedule, [`chain`] for a call over many, [`alone`] for a call

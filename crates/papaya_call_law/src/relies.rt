@@ -29,7 +29,7 @@ use papaya_call::ask::{Answer, Ask, At, OpKind, StepKind};
 use papaya_call::call::{Reply, Task};
 use papaya_call::machine::Machine;
 
-/// A call that begins relies on the exchanges as they are.
+/// States that a call relies on the exchanges as they are when it begins.
 pub fn begins<K, P>()
     ensures { (g : Setting K P) (c : Coding K P)
         → (begun : List (Exchange P)) (k : K) (task : Task) (mode : ResizeMode) (initial : ℕ)
@@ -37,7 +37,7 @@ pub fn begins<K, P>()
         → Relies g c begun [] k (started task (c.hash k) mode initial limit) nothing_loaded }
 {}
 
-/// A machine's facts stay true, whatever others exchange and whichever tables are made.
+/// States that a machine's facts stay true, whatever others exchange and whichever tables are made.
 pub fn stable<K, P>()
     ensures exchanges { (g : Setting K P) (c : Coding K P) → IsHashed g c
         → (begun since es : List (Exchange P)) → AllAllowed g start (begun ++ (since ++ es))
@@ -50,8 +50,9 @@ pub fn stable<K, P>()
         → Relies g' c begun since k m loaded }
 {}
 
-/// A machine names only tables that were opened or linked, slots within them with their hints, and
-/// the pair last loaded. It makes a pair with that pair's key only if the key is the call's.
+/// States that a machine names only tables that were opened or linked, slots within them with their
+/// hints, and the pair last loaded. It makes a pair with that pair's key only if the key is the
+/// call's.
 pub fn names<K, P>()
     ensures size { (g : Setting K P) (c : Coding K P) → IsHashed g c
         → (begun since : List (Exchange P)) → AllAllowed g start (begun ++ since)
@@ -98,7 +99,8 @@ pub fn names<K, P>()
         ⊎ (ask_of m ≡ Ask.Exchange At.Root 0 t) }
 {}
 
-/// A hint that a machine writes may be there: a pair of its key was claimed in that slot.
+/// States that a hint that a machine writes may be there: a pair of its key was claimed in that
+/// slot.
 pub fn guarantees_hint<K, P>()
     ensures { (g : Setting K P) (c : Coding K P) → (begun since : List (Exchange P))
         → (k : K) (m : Machine) (loaded : LoadedPairs P) → Relies g c begun since k m loaded
@@ -106,8 +108,9 @@ pub fn guarantees_hint<K, P>()
         → ask_of m ≡ Ask.WriteHint t x n → IsHint g c (run (begun ++ since) start) t x n }
 {}
 
-/// A machine names no table but the one whose number it was given last, and asks only what its task
-/// asks. It tries to open a table once. After it changed the map it only counts and writes a hint.
+/// States that a machine names no table but the one whose number it was given last, and asks only
+/// what its task asks. It tries to open a table once. After it changed the map it only counts and
+/// writes a hint.
 pub fn follows()
     ensures begins { (task : Task) (hash : ℕ) (mode : ResizeMode) (initial table : ℕ)
         (limit : Option ℕ) → IsAtTable table (started task hash mode initial limit).state }
@@ -123,8 +126,8 @@ pub fn follows()
         → IsCounting (ask_of m) }
 {}
 
-/// A closure is called with what the map has at some point during the call: with no pair, or with
-/// the pair last loaded, which has the call's key.
+/// States that a closure is called with what the map has at some point during the call: with no
+/// pair, or with the pair last loaded, which has the call's key.
 pub fn shows<K, P>()
     ensures none { (g : Setting K P) (c : Coding K P) (begun since : List (Exchange P)) (k : K)
         (m : Machine) (loaded : LoadedPairs P) → Relies g c begun since k m loaded
@@ -137,7 +140,8 @@ pub fn shows<K, P>()
         × (g.same k (g.key p) ≡ true) × WasAtMoment g c begun since k (Some p) }
 {}
 
-/// A machine acts only on results that its closure returned for exactly the pair concerned.
+/// States that a machine acts only on results that its closure returned for exactly the pair
+/// concerned.
 ///
 /// A removal deletes a pair only after its closure was called with it and agreed. A compute stores
 /// a pair only if it was made of the value that its closure returned for what the pair replaces.
@@ -189,7 +193,7 @@ pub fn says()
         → HasShownNone (after m (Answer.Op kind)).remembered.fill (after m (Answer.Op kind)).state }
 {}
 
-/// While no table has a next one, a removal is never refused.
+/// States that a removal is never refused while no table has a next one.
 pub fn removals_are_not_refused<K, P>()
     ensures { (g : Setting K P) (c : Coding K P) → IsHashed g c → (begun since : List (Exchange P))
         → AllAllowed g start (begun ++ since) → ((t : ℕ) → (run (begun ++ since) start).next t ≡ 0)
@@ -199,7 +203,8 @@ pub fn removals_are_not_refused<K, P>()
         (Reply.Refused refused) → ⊥ }
 {}
 
-/// An exchange that finds its old word is one of the law, is allowed, and writes only its word.
+/// States that an exchange that finds its old word is one of the law, is allowed, and writes only
+/// its word.
 pub fn guarantees<K, P>()
     ensures { (g : Setting K P) (c : Coding K P) → IsHashed g c → (begun since : List (Exchange P))
         → AllAllowed g start (begun ++ since) → (k : K) (m : Machine) (loaded : LoadedPairs P)
@@ -211,8 +216,8 @@ pub fn guarantees<K, P>()
         new (state_after (run (begun ++ since) start) e) }
 {}
 
-/// After a true answer the facts on which the machine relies hold again, and its exchange was
-/// allowed.
+/// States that after a true answer the facts on which the machine relies hold again, and its
+/// exchange was allowed.
 pub fn learns<K, P>()
     ensures { (g : Setting K P) (c : Coding K P) → IsHashed g c → (begun since : List (Exchange P))
         → AllAllowed g start (begun ++ since) → (k : K) (m : Machine) (loaded : LoadedPairs P)
@@ -222,8 +227,8 @@ pub fn learns<K, P>()
         × Relies g c begun (since ++ es) k (after m answer) loaded' }
 {}
 
-/// A reply is true of the map at some point during the call. A change was made by an exchange of
-/// the call's own, at most one in a call, and no refusal follows a change.
+/// States that a reply is true of the map at some point during the call. A change was made by an
+/// exchange of the call's own, at most one in a call, and no refusal follows a change.
 pub fn replies<K, P>()
     ensures reply { (g : Setting K P) (c : Coding K P) (begun since : List (Exchange P)) (k : K)
         (m : Machine) (loaded : LoadedPairs P) → Relies g c begun since k m loaded → (reply : Reply)
@@ -250,8 +255,8 @@ pub fn replies<K, P>()
         × (answer ≡ Answer.Op OpKind.Remove)) }
 {}
 
-/// The amount that a machine has yet to add to the count after an answer is what the map grew by.
-/// It counts a claim in its next step, and a replacement never.
+/// States that the amount that a machine has yet to add to the count after an answer is what the
+/// map grew by. It counts a claim in its next step, and a replacement never.
 pub fn counts<K, P>()
     ensures { (g : Setting K P) (c : Coding K P) (k : K) (s : _) (m : Machine)
         (loaded : LoadedPairs P)
@@ -260,8 +265,8 @@ pub fn counts<K, P>()
         → owed_by (ask_of (after m answer)) ≡ grows_by (kind_of_ask m) (ask_of m) answer }
 {}
 
-/// A lookup by a further form of a key meets the words that there are. The law `further_keys`
-/// defines such a form.
+/// States that a lookup by a further form of a key meets the words that there are. The law
+/// `further_keys` defines such a form.
 pub fn further_words<K, P>()
     ensures { (g : Setting K P) (c : Coding K P) (matches : K → Bool) (hash : ℕ) (s : State P)
         (at : At) → word_of (with_key g matches hash) (coding_with c hash) s at ≡ word_of g c s at }

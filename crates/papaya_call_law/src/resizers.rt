@@ -26,8 +26,8 @@ use papaya_call::chain::ask::Answer;
 use papaya_call::chain::resizer::{Resize, Resizer};
 use papaya_call::copy_ask::CopyAsk;
 
-/// A resizer that begins relies on nothing. The facts on which it relies later stay true, whatever
-/// others exchange and whichever tables are made.
+/// States that a resizer relies on nothing when it begins. The facts on which it relies later stay
+/// true, whatever others exchange and whichever tables are made.
 pub fn resizers_rely<K, P>()
     ensures begins { (g : Setting K P) (c : Coding K P) (s : State P) (loaded : LoadedPairs P)
         (resize : Resize) (mode : ResizeMode) (initial number : ℕ) → IsModeOf mode g.blocking
@@ -42,11 +42,11 @@ pub fn resizers_rely<K, P>()
         → ReliesResizer g c s resizer loaded → ReliesResizer g' c s resizer loaded }
 {}
 
-/// A resizer names only what is there. Its exchange that finds its old word is allowed and writes
-/// only its word. A hint that it writes may be there. After a true answer the facts on which it
-/// relies hold again, and its exchange was allowed. It is refused for one of three reasons: a table
-/// was refused, the next one would be longer than a table may be, or no table has the room asked
-/// for. A table that is linked must have as many words for chunks as the ask said.
+/// States that a resizer names only what is there. Its exchange that finds its old word is allowed
+/// and writes only its word. A hint that it writes may be there. After a true answer the facts on
+/// which it relies hold again, and its exchange was allowed. It is refused for one of three
+/// reasons: a table was refused, the next one would be longer than a table may be, or no table has
+/// the room asked for. A table that is linked must have as many words for chunks as the ask said.
 pub fn resizers_go_on<K, P>()
     ensures names { (g : Setting K P) (c : Coding K P) → IsHashed g c
         → (s : State P) (m : K → Option P) → IsKeeping g s m

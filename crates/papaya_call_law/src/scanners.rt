@@ -28,8 +28,8 @@ use papaya_call::ask::At;
 use papaya_call::chain::ask::{Answer, ScanAsk};
 use papaya_call::chain::scanner::{Scan, Scanner};
 
-/// A scanner that begins relies on the words as they are. The facts on which it relies stay true,
-/// whatever others exchange and whichever tables are made.
+/// States that a scanner relies on the words as they are when it begins. The facts on which it
+/// relies stay true, whatever others exchange and whichever tables are made.
 pub fn scanners_rely<K, P>()
     ensures begins { (g : Setting K P) (c : Coding K P) (s : State P) (m : K → Option P)
         (scan : Scan) (mode : ResizeMode) (initial number : ℕ) → IsModeOf mode g.blocking
@@ -47,9 +47,9 @@ pub fn scanners_rely<K, P>()
         → ReliesScanner g' c s m since scanner loaded }
 {}
 
-/// A scanner names only what is there. Its exchange that finds its old word is allowed and writes
-/// only its word: it is one of the copy, or deletes the pair in its slot. A hint that it writes may
-/// be there. A table that is linked must have as many words for chunks as the ask said.
+/// States that a scanner names only what is there. Its exchange that finds its old word is allowed
+/// and writes only its word: it is one of the copy, or deletes the pair in its slot. A hint that it
+/// writes may be there. A table that is linked must have as many words for chunks as the ask said.
 pub fn scanners_ask<K, P>()
     ensures names { (g : Setting K P) (c : Coding K P) → IsHashed g c
         → (s : State P) (m : K → Option P) → IsKeeping g s m → (since : List (Exchange P))
@@ -73,8 +73,8 @@ pub fn scanners_ask<K, P>()
         → ask_of scanner ≡ Some (Copy_ask (WriteHint t x n)) → IsHint g c (run since s) t x n }
 {}
 
-/// After a true answer the facts on which a scanner relies hold again, and its exchange was
-/// allowed. A table that was linked must have as many words for chunks as the ask said.
+/// States that after a true answer the facts on which a scanner relies hold again, and its exchange
+/// was allowed. A table that was linked must have as many words for chunks as the ask said.
 pub fn scanners_learn<K, P>()
     ensures { (g : Setting K P) (c : Coding K P) → IsHashed g c
         → (s : State P) (m : K → Option P) → IsKeeping g s m → (since : List (Exchange P))
@@ -87,9 +87,9 @@ pub fn scanners_learn<K, P>()
         × ReliesScanner g c s m (since ++ es) (after scanner answer) loaded' }
 {}
 
-/// The effect of an answer. An iteration changes no pair of the map. A clear and a retain delete
-/// one pair at a time and take 1 from the count next; their other exchanges change no pair. All
-/// three are refused only if a table is refused or would be too long.
+/// States the effect of an answer to a scanner. An iteration changes no pair of the map. A clear
+/// and a retain delete one pair at a time and take 1 from the count next; their other exchanges
+/// change no pair. All three are refused only if a table is refused or would be too long.
 pub fn scanners_do<K, P>()
     ensures changes { (g : Setting K P) (c : Coding K P) (s : State P) (m : K → Option P)
         (since : List (Exchange P)) (scanner : Scanner) (loaded : LoadedPairs P)
@@ -106,8 +106,8 @@ pub fn scanners_do<K, P>()
         → IsScanCause scanner answer refused }
 {}
 
-/// While the root has no next table, and nobody else makes one, a scan copies nothing. So no table
-/// is made for it and it is not refused.
+/// States that while the root has no next table, and nobody else makes one, a scan copies nothing.
+/// So no table is made for it and it is not refused.
 pub fn scanners_undisturbed<K, P>()
     ensures begins { (s : State P) (scan : Scan) (mode : ResizeMode) (initial number : ℕ)
         → StandsAtRoot s (begun scan mode initial number).state }
@@ -123,9 +123,10 @@ pub fn scanners_undisturbed<K, P>()
         → StandsAtRoot s scanner.state → reply_of scanner ≡ Some (Reply_refused refused) → ⊥ }
 {}
 
-/// The end of a scan. An iteration has returned exactly once each key that was in the map all the
-/// time, and nothing that was not there; it deletes no pair. A clear leaves none of the pairs of
-/// the map as it began, and a retain those for which the closure last returned `true`.
+/// States what a scan has done when it ends. An iteration has returned exactly once each key that
+/// was in the map all the time, and nothing that was not there; it deletes no pair. A clear leaves
+/// none of the pairs of the map as it began, and a retain those for which the closure last returned
+/// `true`.
 pub fn scanners_end<K, P>()
     ensures walked { (g : Setting K P) (c : Coding K P) (s : State P) (m : K → Option P)
         (since : List (Exchange P)) (scanner : Scanner) (loaded : LoadedPairs P)

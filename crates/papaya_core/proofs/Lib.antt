@@ -1,4 +1,4 @@
--- Lemmas of their own: most stand in papaya_core_timeline.
+-- The lemmas of this crate alone: most are in papaya_core_timeline.
 pub mod LimitMet
 pub mod LimitRefusals
 pub mod NumbersTaken

@@ -1,4 +1,5 @@
--- A call that needs a number for a pair is refused for the limit where as many were taken as it says.
+-- A call that needs a number for a pair is refused with `Limit` if as many numbers are taken as the
+-- limit allows.
 use Rattle.std.proofs.Common.{◌≡◌, ◌⊎◌, inl, inr, ℕ, ◌==◌, ◌<◌, Bool, true, false, nat_lt, Option, None, Some, refl, sym, ◌∙◌, ap, subst, arith}
 use Rattle.std.proofs.lemmas.Bool.{cond_both, eqb-true, ltb-true}
 use Rattle.papaya_words.specs.declared.refused.Refused.TheVariants.{Limit}

@@ -1,4 +1,5 @@
--- A call is refused for the limit only where as many numbers were taken as it says: nothing that is made or copied is refused so.
+-- A call is refused with `Limit` only if as many numbers are taken as the limit allows: nothing
+-- that is made or copied is refused with `Limit`.
 use Rattle.std.proofs.Common.{◌≡◌, ◌⊎◌, inl, inr, ℕ, ◌==◌, ◌≤◌, Bool, Option, None, Some, sym, ◌∙◌, ap, subst}
 use Rattle.papaya_words.specs.Table.{TableWords}
 use Rattle.papaya_words.specs.declared.refused.Refused.TheVariants.{Limit}

@@ -1,4 +1,5 @@
--- How many numbers for pairs were taken: no more than the limit says, and each call has the core's limit.
+-- How many numbers for pairs are taken: no more than the limit allows, and each call has the core's
+-- limit.
 use Rattle.std.proofs.Common.{◌≡◌, ℕ, ◌+◌, ◌<◌, ◌≤◌, Bool, List, [], ◌∷◌, Option, None, Some, MatchOption, sym, ◌∙◌, ap, subst, arith}
 use Rattle.papaya_call.specs.declared.ask.At.TheVariants.{Made}
 use Rattle.papaya_words_law.specs.Allows.{Allows, AllAllowed}

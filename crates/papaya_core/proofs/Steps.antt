@@ -1,4 +1,4 @@
--- One step of what was under way keeps a core lawful and counted, and is a step of a caller.
+-- One step of what was under way leaves a core lawful and counted, and is a step of a caller.
 use Rattle.std.proofs.Common.{◌≡◌, inl, inr, Bool, ℕ, false, true, List, Option, None, Some, refl, sym, ◌∙◌, ap, subst}
 use Rattle.std.specs.Cmp.{IsEquivalence}
 use Rattle.papaya_call.specs.declared.call.Reply.{Reply}

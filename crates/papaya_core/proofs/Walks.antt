@@ -1,4 +1,4 @@
--- What a scan has given once its ask was answered.
+-- What a scan has returned once its ask was answered.
 use Rattle.std.proofs.Common.{◌≡◌, inl, inr, ℕ, Bool, None, Some, [], ◌++◌, append-nil, sym, ◌∙◌, ap}
 use Rattle.papaya_words.specs.declared.refused.Refused.TheVariants.{Memory}
 use Rattle.papaya_call.specs.Answers.{Says}

@@ -1,4 +1,4 @@
--- What one step makes of the work that a caller has under way.
+-- One step of the work that a caller has under way.
 use Rattle.std.specs.Prelude.{◌≡◌, ℕ, ℤ, Bool, IsSome, Option, None, Some}
 use Rattle.papaya_words.specs.Counter.{added}
 use Rattle.papaya_call.specs.declared.ask.Ask.TheVariants.{AddToShard}
@@ -26,7 +26,7 @@ use Rattle.papaya_call.specs.Scanner as scanner
 use Rattle.papaya_core_store.specs.declared.scans.Scanning.{Scanning}
 use Rattle.papaya_core_store.specs.Scans.{PerformsScan}
 
--- One ask of a call that resizes the map was answered, and it goes on unless it has ended.
+-- One ask of a call that resizes the map was answered, and the call goes on unless it has ended.
 module _ {K V S A : Type 0} (eq : K → K → Bool) (hash : S → K → ℕ) (refuse : Bool)
     (store store' : StoreState K V S) (event : Event) (reply : Option Reply)
     (work : Option (Work K V A)) where
@@ -76,7 +76,7 @@ module _ {K V S A : Type 0} (eq : K → K → Bool) (says : Says K V A) (hash : 
       before
   WorkGoes (works.Scan before) = ScanGoes before
 
--- it stands within its tables, and has not ended
+-- the work is within its tables, and has not ended
 abbrev pub IsStandingWork : {K V A : Type 0} → Work K V A → Type 0
 IsStandingWork (works.Call r) = IsStanding r.machine
 IsStandingWork (works.Resize z) = resizer.IsStandingResizer z × (resizer.reply_of z ≡ None)

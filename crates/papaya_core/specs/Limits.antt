@@ -1,4 +1,4 @@
--- The numbers for pairs that a limit leaves.
+-- The pair limit of a core, and the numbers for pairs that it leaves.
 use Rattle.std.specs.Prelude.{◌≡◌, ◌≤◌, ℕ, Some, MatchOption}
 use Rattle.papaya_call.specs.declared.ask.Ask.{Ask as Call_ask}
 use Rattle.papaya_call.specs.declared.ask.Ask.TheVariants.{Load, Exchange}
@@ -9,15 +9,15 @@ use Rattle.papaya_call.specs.ChainMachine.{ask_of}
 use Rattle.papaya_core_store.specs.declared.pairs.Running.{Running}
 use Rattle.papaya_core_timeline.specs.Core.{CoreState, call_of}
 
--- as many numbers were taken as the limit says
+-- as many numbers were taken for pairs as the pair limit allows
 abbrev pub IsSpent : {K V S A : Type 0} → CoreState K V S A → Type 0
 IsSpent s = s.mode.limit ≡ Some s.store.words.made
 
--- no more were taken, where there is a limit
+-- no more numbers were taken for pairs than the pair limit allows, if there is one
 abbrev pub IsWithin : {K V S A : Type 0} → CoreState K V S A → Type 0
 IsWithin s = MatchOption s.mode.limit (Unit {0}) (λ most. s.store.words.made ≤ most)
 
--- how many numbers were taken is loaded, or exchanged for one more
+-- the ask loads how many numbers were taken for pairs, or takes one more
 abbrev pub AsksNumber : Call_ask → Type 0
 AsksNumber (Load Made) = Unit {0}
 AsksNumber (Exchange Made old new) = Unit {0}

@@ -111,7 +111,11 @@ impl<K, V, A> Callers<K, V, A> {
 }
 
 impl<K: Drop, V: Drop, A: Drop> Callers<K, V, A> {
-    /// Makes a seat for this caller, unless it has one, or fails with `Refused::Memory`.
+    /// Makes a seat for this caller, unless it has one.
+    ///
+    /// # Errors
+    ///
+    /// Fails with `Refused::Memory` if memory runs out.
     pub fn seat(&mut self, caller: usize) -> Result<(), Refused>
         ensures ok { OnOk result ((self.new ≡ with_seat self.old caller)
             × IsSeated self.new caller) }

@@ -1,6 +1,6 @@
-//! The map on plain words, under any schedule of any number of callers' steps.
+//! `Core`, a map on plain words: any number of callers make their steps in any order.
 //! It uses `papaya_core_store` and the law of `papaya_core_timeline`.
-//! Tests of interleavings build on it, and `papaya-run core`.
+//! `papaya` re-exports it. `papaya_core_tests` and `papaya_run_lines` run calls by it.
 #![tactic(auto)]
 
 pub mod callers;

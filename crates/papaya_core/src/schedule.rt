@@ -323,8 +323,9 @@ impl<K: Hash + Eq + Drop, V: Drop, S: BuildHasher + Drop, A> Core<K, V, S, A> {
     /// # Errors
     ///
     /// Fails with `Refused::ZeroChunk` for chunks of no slots. Fails with `Refused::Capacity` for
-    /// more shards than [`papaya_words::limits::MAX_SHARDS`] or a table longer than
-    /// [`papaya_words::limits::MAX_TABLE_LEN`]. Fails with `Refused::Memory` if memory runs out.
+    /// more shards than [`papaya_words::limits::MAX_SHARDS`], or for a table longer than
+    /// [`papaya_words::limits::MAX_TABLE_LEN`] slots. Fails with `Refused::Memory` if memory runs
+    /// out.
     pub fn new(
         alloc: Global,
         mode: ResizeMode,
@@ -347,7 +348,8 @@ impl<K: Hash + Eq + Drop, V: Drop, S: BuildHasher + Drop, A> Core<K, V, S, A> {
     ///
     /// # Errors
     ///
-    /// Fails as [`Core::new`] does.
+    /// Fails with `Refused::ZeroChunk`, `Refused::Capacity` or `Refused::Memory`, as [`Core::new`]
+    /// does.
     pub fn with_pair_limit(
         alloc: Global,
         mode: ResizeMode,
@@ -399,8 +401,8 @@ impl<K: Hash + Eq + Drop, V: Drop, S: BuildHasher, A: Answers<K, V> + Drop> Core
     ///
     /// # Errors
     ///
-    /// Fails with `Refused::Memory` if memory runs out. The call and its arguments are then
-    /// dropped.
+    /// Fails with `Refused::Memory` if memory runs out, and then has dropped the call and its
+    /// arguments.
     pub fn begin(&mut self, caller: usize, call: Call<K, V, A>) -> Result<(), Refused>
         requires { work_of self.old caller ≡ None }
         ensures ok { OnOk result (Begins (hash_of K.hash_input S.build_hasher S.Hasher.write
@@ -493,8 +495,8 @@ impl<K: Hash + Eq + Drop, V: Drop, S: BuildHasher, A: Answers<K, V> + Drop> Core
     ///
     /// # Errors
     ///
-    /// Fails with `Refused::Memory` if memory for a `Begin` or for the trace runs out. The turns
-    /// before were made, and perhaps some steps of a `Finish`.
+    /// Fails with `Refused::Memory` if memory for a `Begin` or for the trace runs out. It has then
+    /// made the turns before, and perhaps some steps of a `Finish`.
     pub fn run(&mut self, schedule: Vec<Turn<K, V, A>>) -> Result<Trace, Refused>
         ensures ok { IfOk result (λ trace. TurnsRun K.eq
             (record { op = A.op_gives; yes = A.yes_gives })

@@ -1,4 +1,4 @@
--- What a number means in a log, and in a longer one.
+-- The stored pair of a number in an arena, and in a longer one.
 use Rattle.std.proofs.Common.{◌≡◌, ℕ, zero, suc, ◌<◌, List, [], ◌∷◌, ◌++◌, length, slice_get, Option, Some, None, refl, sym, ◌∙◌, ap, subst}
 use Rattle.std.proofs.lemmas.Option.{slice_get_within}
 use Rattle.papaya_call.specs.declared.ask.Answer.{Answer}

@@ -1,4 +1,4 @@
--- One ask of a copier is answered.
+-- The answer to one ask of a copier.
 use Rattle.std.specs.Prelude.{◌≡◌, ◌⊎◌, ℕ, ◌<◌, ◌^◌, Bool, false, Option, Some, None, MatchBool, length}
 use Rattle.papaya_words.specs.Counter.{count_of}
 use Rattle.papaya_words.specs.declared.limits.TheConstants.{MAX_TABLES}
@@ -13,29 +13,29 @@ use Rattle.papaya_core_store.specs.Performs.{Exchanges, MakesTable, Refuses, siz
 use Rattle.papaya_core_store.specs.Store.{StoreState, Stored, pair_of}
 use Rattle.papaya_core_store.specs.Tables.{hint_at, note, put, table_of, word_at}
 
--- have two pairs equal keys, where both are there
+-- whether both pairs are there and have equal keys
 abbrev pub same_keys : {K V : Type 0} → (K → K → Bool) → Option (Stored K V) → Option (Stored K V)
     → Bool
 same_keys eq (Some p) (Some q) = eq p.key q.key
 same_keys eq _ _ = false
 
--- the hash of a pair's key; where there is no such pair, nothing is told
+-- the answer with the hash of a pair's key; it says nothing if there is no such pair
 abbrev pub hash_in : {K V : Type 0} → (K → ℕ) → Option (Stored K V) → Answer
 hash_in hash None = answers.Call Ok_done
 hash_in hash (Some p) = answers.Hash (hash p.key)
 
--- a hash is a number of 64 bits
+-- if the answer is a hash, it is a number of 64 bits
 abbrev pub IsHash : Answer → Type 0
 IsHash (answers.Hash hash) = hash < 2 ^ 64
 IsHash _ = Unit {0}
 
--- the answer is one that calls are given
+-- the answer is one that a call may be given, and `Is` holds of it
 abbrev pub IsCallAnswer : Answer → (Call_answer → Type 0) → Type 0
 IsCallAnswer answer Is = (told : Call_answer) × (answer ≡ answers.Call told) × Is told
 
 module _ {K V S : Type 0} where
-  -- just one ask is answered: a load and an exchange by the word or the hint that stands there, a
-  -- size by the table, a hash and a comparison by the pairs of the log
+  -- exactly one ask is answered: a load or an exchange by the word or the hint that is there, a
+  -- size by the table, and a hash or a comparison by the pairs of the arena
   abbrev pub PerformsCopy : (K → K → Bool) → (S → K → ℕ) → Bool → CopyAsk → StoreState K V S
       → Answer → StoreState K V S → Type 0
   PerformsCopy eq hash refuse (Load at) s answer s' =

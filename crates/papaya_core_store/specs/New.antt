@@ -1,4 +1,4 @@
--- A store as it is made.
+-- A new store.
 use Rattle.std.specs.Prelude.{◌≡◌, ℕ, zero, suc, max, [], ◌∷◌, pos}
 use Rattle.std.specs.Int.{IsNextPowerOfTwo}
 use Rattle.papaya_words.specs.Table.{new_table}
@@ -7,7 +7,8 @@ use Rattle.papaya_words.specs.declared.limits.TheConstants.{LEAST_TABLE_LEN}
 use Rattle.papaya_core_store.specs.Tables.{Tables}
 use Rattle.papaya_core_store.specs.Store.{StoreState}
 
--- the first table: it is the root, and as long as was asked for, or of the least length
+-- the first table is the root, and is as long as was asked for, but no shorter than the least
+-- length
 abbrev pub IsOpened : ℕ → Tables → Type 0
 IsOpened asked words = (limit : ℕ) × IsLimit (max asked LEAST_TABLE_LEN) limit
     × (words ≡ record {
@@ -16,13 +17,13 @@ IsOpened asked words = (limit : ℕ) × IsLimit (max asked LEAST_TABLE_LEN) limi
       made = 0;
     })
 
--- a capacity of 0 makes no table
+-- the tables of a new store: none for a capacity of 0, and otherwise a first table
 abbrev pub HasCapacity : (capacity initial : ℕ) → Tables → Type 0
 HasCapacity zero initial words = words ≡ record { root = 0; tables = []; made = 0 }
 HasCapacity (suc n) initial words = IsOpened initial words
 
--- no pairs, a count of 0 in as many shards as were asked for, rounded up, and a table for
--- the capacity
+-- a new store: no pairs, a count of 0 in `shards` shards, rounded up to a power of two, and a table
+-- for the capacity
 pub record IsNewStore {K V S : Type 0} (capacity shards : ℕ) (hasher : S) (entries : ℕ)
     (s : StoreState K V S) : Type 0 where
   pub initial : IsEntriesFor capacity entries

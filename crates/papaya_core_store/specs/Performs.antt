@@ -1,4 +1,4 @@
--- One ask of one caller's machine is answered.
+-- The answer to one ask of a caller's machine.
 use Rattle.std.specs.Prelude.{◌≡◌, ℕ, ◌+◌, ◌<◌, ◌≤◌, ◌==◌, Bool, false, List, [], ◌∷◌, ◌++◌, length, Option, Some, None, slice_get, MatchBool, ◌⊎◌}
 use Rattle.papaya_words.specs.Counter.{added}
 use Rattle.papaya_words.specs.Table.{TableWords, new_table}
@@ -26,14 +26,15 @@ use Rattle.papaya_core_store.specs.Pairs.{brought_by, key_from, key_in, pair_wit
 use Rattle.papaya_core_store.specs.Tables.{Tables, hint_at, note, table_of, word_at, put}
 use Rattle.papaya_core_store.specs.Store.{StoreState, Stored, pair_of}
 
--- the key of a call under way, and its value, if it has one
+-- the key of a call under way; `own_value` is its value, if it has one
 abbrev pub own_key : {K V S A : Type 0} → StoreState K V S → Running K V A → Option K
 own_key s r = key_in s.pairs r.key
 
 abbrev pub own_value : {K V S A : Type 0} → StoreState K V S → Running K V A → Option V
 own_value s r = value_at s.pairs r.value
 
--- does the call's key compare as equal to the pair's, where both are there
+-- whether there is a pair whose key compares as equal to the call's; `same` is the same for a key
+-- that may be missing
 abbrev pub same_stored : {K V : Type 0} → (K → K → Bool) → K → Option (Stored K V) → Bool
 same_stored eq k None = false
 same_stored eq k (Some p) = eq k p.key
@@ -42,18 +43,18 @@ abbrev pub same : {K V : Type 0} → (K → K → Bool) → Option K → Option 
 same eq None found = false
 same eq (Some k) found = same_stored eq k found
 
--- the size of a table; where there is none, nothing is told
+-- the answer with the size of a table; it says nothing if there is no table
 abbrev pub size_of : Option TableWords → Answer
 size_of None = Ok_done
 size_of (Some t) = Size (length t.slots) t.limit
 
--- nothing is made for want of memory, or where as many are made as there may be
+-- making something fails with `Memory`, or with `Capacity` if there are as many as there may be
 abbrev pub Refuses : (most count : ℕ) → Answer → Type 0
 Refuses most count answer = (answer ≡ Was_refused Memory)
     ⊎ ((answer ≡ Was_refused Capacity) × (most ≤ count))
 
--- nothing is made where there is no value, or no pair of the number whose key is wanted; no machine
--- asks for it then
+-- nothing is made, as the call has no value, or, for `HasNoPairOf`, there is no pair n whose key is
+-- wanted; no machine asks for a pair then
 abbrev pub HasNoPair : {K V A : Type 0} → Answer → Running K V A → Type 0
 HasNoPair answer r = (answer ≡ Ok_done) × (r.value ≡ None)
 
@@ -63,7 +64,7 @@ HasNoPairOf n answer s r = (answer ≡ Ok_done)
     × ((r.value ≡ None) ⊎ (slice_get s.pairs n ≡ None))
 
 module _ {K V S : Type 0} where
-  -- an exchange writes the new word where the old one stands, and else nothing
+  -- an exchange writes the new word if the old one is there, and otherwise changes nothing
   abbrev pub Exchanges : (found old : ℕ) → Tables → Answer → StoreState K V S → StoreState K V S
       → Type 0
   Exchanges found old after answer s s' =
@@ -71,12 +72,12 @@ module _ {K V S : Type 0} where
       ((answer ≡ Exchanged) × (s' ≡ record s { words = after }))
       ((answer ≡ Found_instead found) × (s' ≡ s))
 
-  -- a pair of this key and this value went to the end of the log, under this number
+  -- a pair with this key and this value was added to the end of the arena, and n is its number
   abbrev pub IsLogged : ℕ → Part K → Part V → StoreState K V S → StoreState K V S → Type 0
   IsLogged n key value s s' = (n ≡ length s.pairs) × (length s.pairs < MAX_LOG_LEN)
       × (s' ≡ record s { pairs = s.pairs ++ pair_with key value ∷ [] })
 
-  -- the table goes to the end of the tables
+  -- a table of this size is added to the end of the tables, and the answer is its number
   abbrev pub MakesTable : Answer → (slots limit chunks : ℕ) → StoreState K V S → StoreState K V S
       → Type 0
   MakesTable answer slots limit chunks s s' =
@@ -87,25 +88,26 @@ module _ {K V S : Type 0} where
             { tables = s.words.tables ++ new_table n slots limit chunks ∷ [] };
       })
 
--- the value of an insertion that a closure answered
+-- the value of a call after its closure returned an operation: that of an insertion, or the one
+-- from before
 abbrev pub value_answered : {V : Type 0} → Operation V ℕ → Option (Part V) → Option (Part V)
 value_answered (ops.Insert v) before = Some (Own v)
 value_answered ops.Remove before = before
 value_answered (ops.Abort t) before = before
 
 module _ {K V S A : Type 0} where
-  -- nothing but the machine's state changes
+  -- nothing changes but the machine's state
   abbrev pub Stays : StoreState K V S → Running K V A → StoreState K V S → Running K V A → Type 0
   Stays s r s' r' = (s' ≡ s) × (r' ≡ r)
 
-  -- Nothing is made for a key or a value by itself: it goes into the log with the first pair that
-  -- has it, and has no number before.
+  -- Nothing is made for a key or a value by itself. It goes into the arena with the first pair that
+  -- has it, and has no number before that.
   abbrev pub IsPutOff : Answer → StoreState K V S → Running K V A → StoreState K V S → Running K V A
       → Type 0
   IsPutOff answer s r s' r' = (answer ≡ Made_number 0) × Stays s r s' r'
 
-  -- a pair of this key and the call's value goes to the end of the log, and the call knows both by
-  -- the numbers of the pairs that brought them
+  -- a pair with this key and the call's value is added to the end of the arena; after that the call
+  -- names both by the numbers of the pairs that own them
   abbrev pub LogsPair : (key later : Part K) → Answer → StoreState K V S → Running K V A
       → StoreState K V S → Running K V A → Type 0
   LogsPair key later answer s r s' r' =
@@ -117,24 +119,24 @@ module _ {K V S A : Type 0} where
         value = Some (Logged (brought_by (length s.pairs) value));
       })
 
-  -- it is the call's own key
+  -- the same with the call's own key
   abbrev pub LogsOwn : Answer → StoreState K V S → Running K V A → StoreState K V S → Running K V A
       → Type 0
   LogsOwn answer s r s' r' =
       LogsPair r.key (Logged (brought_by (length s.pairs) r.key)) answer s r s' r'
 
-  -- or that of the pair of this number: the pair that brought that one is named
+  -- the same with the key of pair n, by the number of the pair that owns it
   abbrev pub LogsOf : ℕ → Answer → StoreState K V S → Running K V A → StoreState K V S
       → Running K V A → Type 0
   LogsOf n answer s r s' r' = (first : ℕ) × (key_from n (slice_get s.pairs n) ≡ Some first)
       × LogsPair (Logged first) r.key answer s r s' r'
 
-  -- nothing is answered where there is no closure, or no such pair; no machine asks then
+  -- the answer says nothing, as there is no closure or no such pair; no machine asks then
   abbrev pub ShowsNothing : Answer → StoreState K V S → Running K V A → StoreState K V S
       → Running K V A → Type 0
   ShowsNothing answer s r s' r' = (answer ≡ Ok_done) × Stays s r s' r'
 
-  -- the closure of a removal is asked of the pair
+  -- the closure of a removal is called with pair n, and the answer is what it returned
   abbrev pub Judges : Says K V A → ℕ → StoreState K V S → Running K V A → Answer → StoreState K V S
       → Running K V A → Type 0
   Judges says n s r answer s' r' =
@@ -143,8 +145,8 @@ module _ {K V S A : Type 0} where
       × (pair_of s n ≡ Some p) × says.yes a p.key p.value agrees a'
       × (answer ≡ Yes agrees) × (s' ≡ s) × (r' ≡ record r { answers = Some a' }))
 
-  -- the closure of a compute is shown the key and the value of a pair, or that there is none, and
-  -- an insertion's value is kept
+  -- the closure of a compute is called with the key and the value of a pair, or with None, and the
+  -- value of an insertion that it returned is kept
   abbrev pub Decides : Says K V A → Option (K × V) → StoreState K V S → Running K V A → Answer
       → StoreState K V S → Running K V A → Type 0
   Decides says shown s r answer s' r' =
@@ -164,7 +166,7 @@ module _ {K V S A : Type 0} where
       ⊎ ((p : Stored K V) × (pair_of s n ≡ Some p)
       × Decides says (Some (p.key, p.value)) s r answer s' r')
 
-  -- which of them depends on the call
+  -- which closure is called depends on the task of the call
   abbrev pub ShowsPair : Task → Says K V A → ℕ → StoreState K V S → Running K V A → Answer
       → StoreState K V S → Running K V A → Type 0
   ShowsPair tasks.RemoveIf says n s r answer s' r' = Judges says n s r answer s' r'
@@ -172,14 +174,14 @@ module _ {K V S A : Type 0} where
   ShowsPair tasks.Get says n s r answer s' r' = ShowsNothing answer s r s' r'
   ShowsPair (tasks.Insert replace) says n s r answer s' r' = ShowsNothing answer s r s' r'
 
-  -- a growth is refused where the step has no memory
+  -- if the schedule refuses memory to this step, nothing is made; otherwise `Makes` holds
   abbrev pub MakesOr : Bool → Answer → StoreState K V S → Running K V A → StoreState K V S
       → Running K V A → Type 0 → Type 0
   MakesOr refuse answer s r s' r' Makes = MatchBool refuse
       ((answer ≡ Was_refused Memory) × Stays s r s' r') Makes
 
-  -- just one ask is answered: a load and an exchange by the word or the hint that stands there, a
-  -- size by the table, a showing by the closure's answers
+  -- exactly one ask is answered: a load or an exchange by the word or the hint that is there, a
+  -- size by the table, and a call of a closure by the closure's answers
   abbrev pub Performs : (K → K → Bool) → Says K V A → Bool → Ask → StoreState K V S → Running K V A
       → Answer → StoreState K V S → Running K V A → Type 0
   Performs eq says refuse (Load at) s r answer s' r' = (answer ≡ Word_read (word_at s.words at))

@@ -1,4 +1,4 @@
--- One ask of a call that scans a table is answered.
+-- The answer to one ask of a call that scans a table.
 use Rattle.std.specs.Prelude.{◌≡◌, ◌⊎◌, ℕ, Bool, Some, None, [], ◌∷◌, ◌++◌}
 use Rattle.papaya_words.specs.Counter.{added}
 use Rattle.papaya_words.specs.declared.refused.Refused.TheVariants.{Memory}
@@ -13,8 +13,8 @@ use Rattle.papaya_call.specs.declared.chain.ask.ScanAsk.{ScanAsk}
 use Rattle.papaya_call.specs.declared.chain.ask.ScanAsk.TheVariants.{Copy, Show, Given, AddToShard}
 use Rattle.papaya_core_store.specs.declared.scans.Scanning.{Scanning}
 
--- the closure is asked whether the pair stays; nothing is answered where there is no closure, or
--- no such pair, and no machine asks then
+-- the closure is called with pair n, and the answer is whether the pair stays; the answer says
+-- nothing if there is no closure or no such pair, but no machine asks then
 abbrev pub Shows : {K V S A : Type 0} → Says K V A → ℕ → StoreState K V S → Scanning A
     → Call_answer → Scanning A → Type 0
 Shows {K = K} {V = V} {A = A} says n s v answer v' =
@@ -23,7 +23,8 @@ Shows {K = K} {V = V} {A = A} says n s v answer v' =
     × (pair_of s n ≡ Some p) × says.yes a p.key p.value stays a' × (answer ≡ Yes stays)
     × (v' ≡ record v { answers = Some a' }))
 
--- the pair goes to the end of those that were given, unless there is no memory for it
+-- the number n is added to the end of the list of an iteration; `Gives` also allows that memory
+-- runs out for it
 pub record IsGiven {A : Type 0} (n : ℕ) (v v' : Scanning A) : Type 0 where
   pub scanner : v'.scanner ≡ v.scanner
   pub answers : v'.answers ≡ v.answers
@@ -34,8 +35,8 @@ Gives n v answer v' = ((answer ≡ Ok) × IsGiven n v v')
     ⊎ ((answer ≡ Refused Memory) × (v'.scanner ≡ v.scanner) × (v'.answers ≡ v.answers)
     × (v'.given ≡ v.given))
 
--- Just one ask is answered: of the copy of all as a copier's is, a showing by the
--- closure's answers.
+-- Exactly one ask is answered: an ask of the copy of all as a copier's is, and a call of the
+-- closure by the closure's answers.
 abbrev pub PerformsScan : {K V S A : Type 0} → (K → K → Bool) → Says K V A → (S → K → ℕ) → Bool
     → ScanAsk → StoreState K V S → Scanning A → Answer → StoreState K V S → Scanning A → Type 0
 PerformsScan eq says hash refuse (Copy ask) s v answer s' v' =

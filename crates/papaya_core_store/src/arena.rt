@@ -188,7 +188,11 @@ impl<K: Hash + Eq, V, S: BuildHasher> Store<K, V, S> {
 
 impl<K: Hash + Eq + Drop, V: Drop, S: BuildHasher> Store<K, V, S> {
     /// Stores a pair of this key and this value in the arena, and returns its number. Afterwards
-    /// both name the pairs that brought them. If it fails, they stay as they are.
+    /// both name the pairs that brought them.
+    ///
+    /// # Errors
+    ///
+    /// Fails with `Refused::Memory` or `Refused::Capacity`, and then leaves both as they are.
     #[inline(always)]
     pub fn log_pair(&mut self, key: &mut Part<K>, value: &mut Part<V>) -> Result<u64, Refused>
         ensures ok { IfOk result (λ n. IsLogged n key.old value.old self.old self.new

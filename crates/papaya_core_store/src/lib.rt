@@ -1,5 +1,5 @@
-//! The map on plain words: its tables, the arena of entries, and the count. It performs asks.
-//! It uses the machines of `papaya_call`, and `papaya_words_keys`.
+//! The store of a map on plain words: its tables, the arena of entries, and the count.
+//! It performs the steps that the machines of `papaya_call` ask for, and uses `papaya_words_keys`.
 //! `papaya_core` and `papaya_seq` keep their maps in it.
 #![tactic(auto)]
 

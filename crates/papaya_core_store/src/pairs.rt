@@ -91,9 +91,9 @@ impl<K, V> Pair<K, V> {
     }
 }
 
-/// A law, with an empty body: what the numbers of pairs mean. A pair that is stored for a call has
-/// the call's key, or that of the pair named, and the call's value. The call has both from then on.
-/// A number means the same after more pairs are stored.
+/// States what the numbers of pairs mean. A pair that is stored for a call has the call's key, or
+/// that of the pair named, and the call's value. The call has both from then on. A number means the
+/// same after more pairs are stored.
 pub fn numbers_mean<K, V, S, A>()
     ensures stays { (s : StoreState K V S) (more : List (Pair K V)) (n : ℕ) (p : Stored K V)
         → pair_of s n ≡ Some p → pair_of (record s { pairs = s.pairs ++ more }) n ≡ Some p }

@@ -1,4 +1,5 @@
--- A call that was made alone and is given up while it has changed nothing: the map is as it was, and the core is in order without it.
+-- A call that was made alone and is abandoned before it has changed anything: the map is as it was,
+-- and the core's invariant holds without the call.
 use Rattle.std.proofs.Common.{◌≡◌, ℕ, pos, ◌+ℤ◌, Bool, true, None, Some, List, [], ◌∷◌, inl, inr, sym, ◌∙◌, ap, subst}
 use Rattle.std.specs.Cmp.{IsEquivalence}
 use Rattle.std.specs.Int.{w64, int_wrap}

@@ -1,4 +1,4 @@
--- A step of a core is legal, and moves the map in the class of its call's key alone.
+-- A step of a core is legal, and changes the map only in the class of its call's key.
 use Rattle.std.proofs.Common.{inl, ◌≡◌, ℕ, Bool, true, false, Option, None, Some, List, [], ◌∷◌, ◌++◌, refl, sym, ◌∙◌, ap, subst}
 use Rattle.papaya_words.specs.Word.{pair_of}
 use Rattle.papaya_call.specs.Answers.{Says}

@@ -1,4 +1,4 @@
--- An answered ask spends of the budget what the law of a call that is alone counts on.
+-- An answered ask spends of the budget what the law of a call alone requires.
 use Rattle.std.proofs.Common.{◌≡◌, ◌⊎◌, inl, inr, ℕ, ◌+◌, ◌-◌, ◌^◌, ◌==◌, ◌<◌, ◌≤◌, Bool, true}
 use Rattle.std.proofs.Common.{Option, Some, None, List, [], ◌∷◌, ◌++◌, length, refl, sym, ◌∙◌, ap}
 use Rattle.std.proofs.Common.{subst, arith, eqb-true, length-append}

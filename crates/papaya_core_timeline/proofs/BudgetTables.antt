@@ -1,4 +1,4 @@
--- What a write of a word spends, and the making of a table; and how much may be spent at most.
+-- What a write of a word and the making of a table spend, and how much may be spent at most.
 use Rattle.std.proofs.Common.{◌≡◌, ℕ, suc, ◌+◌, ◌-◌, ◌^◌, ◌==◌, ◌<◌, ◌≤◌, Bool, true, false, cond}
 use Rattle.std.proofs.Common.{List, length, slice_get, slice_set, slice_index, sum_by, take, All}
 use Rattle.std.proofs.Common.{Some, refl, sym, ◌∙◌, ap, subst, arith, length-set, length-take}

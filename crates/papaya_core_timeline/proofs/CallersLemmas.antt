@@ -1,4 +1,4 @@
--- What each caller has under way, and what takes it and puts it back.
+-- What each caller has under way, and how it is taken out of its seat and put back.
 use Rattle.std.proofs.Common.{◌≡◌, ◌≢◌, ℕ, zero, suc, ◌<◌, ◌≤◌, ◌==◌, Bool, true, false, cond, List}
 use Rattle.std.proofs.Common.{[], ◌∷◌, length, slice_get, slice_set, Option, Some, None, refl, sym}
 use Rattle.std.proofs.Common.{◌∙◌, ap, subst, arith, ⊎_elim, eq-eqb, eqb-true, ◌++◌, IsSome}

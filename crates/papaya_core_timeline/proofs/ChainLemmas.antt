@@ -1,4 +1,4 @@
--- What a machine over a chain of tables keeps to where it asks as its call asks.
+-- What holds of a machine over a chain of tables while it asks what its call asks.
 use Rattle.std.proofs.Common.{◌≡◌, inl, inr, ℕ, Option, None, Some, sym, ◌∙◌, ap, subst}
 use Rattle.papaya_call.specs.declared.ask.At.{At}
 use Rattle.papaya_call.specs.declared.ask.Ask.{Ask as Call_ask}

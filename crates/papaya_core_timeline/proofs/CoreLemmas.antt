@@ -1,4 +1,4 @@
--- What always holds of the core, over its making, a begin and a step.
+-- The invariant of the core, for a new core, for the begin of a call and for a step.
 use Rattle.std.proofs.Common.{◌≡◌, ◌≢◌, ℕ, zero, suc, ◌==◌, ◌≤◌, ◌^◌, max, Bool, List, []}
 use Rattle.std.proofs.Common.{slice_get, Option, Some, None, ◌⊎◌, inl, inr, refl, sym, ◌∙◌, ap}
 use Rattle.std.proofs.Common.{subst}

@@ -1,4 +1,5 @@
--- The content of a core as a list: no key stands twice in it, and it has no more pairs than the log.
+-- The content of a core as a list: no two of its pairs have equal keys, and it has no more pairs
+-- than the arena.
 use Rattle.std.proofs.Common.{◌≡◌, ⊎_elim, ℕ, zero, suc, ◌≤◌, ◌==◌, Bool, true, false, List, []}
 use Rattle.std.proofs.Common.{◌∷◌, ◌++◌, length, map, Option, Some, None, refl, sym, ◌∙◌, ap, subst}
 use Rattle.std.proofs.Common.{arith, eqb-true}

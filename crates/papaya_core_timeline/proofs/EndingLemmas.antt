@@ -1,4 +1,4 @@
--- What ends a call of which the closure has the last word: an abort, and a removal where it was shown that there is none.
+-- Calls that their closure ends: by an abort, or by a removal when it was called with None.
 use Rattle.std.proofs.Common.{◌≡◌, inl, inr, ⊎_elim, ℕ, ◌==◌, Bool, Option, None, Some, List, ◌∷◌, sym, ◌∙◌, ap}
 use Rattle.papaya_words.specs.Table.{TableWords}
 use Rattle.papaya_words.specs.declared.refused.Refused.TheVariants.{Capacity, Limit, RemoveNothing}

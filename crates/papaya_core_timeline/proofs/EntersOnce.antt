@@ -1,4 +1,4 @@
--- A pair enters the map once, so one that has left it does not come back.
+-- A pair enters the map at most once, so one that has left it does not come back.
 use Rattle.std.proofs.Common.{◌≡◌, ◌⊎◌, inl, inr, ⊎_elim, ℕ, Bool, true, false, Option, None, Some, List, [], ◌∷◌, ◌++◌, sym, ◌∙◌, subst}
 use Rattle.std.proofs.lemmas.Bool.{cases_Bool}
 use Rattle.papaya_core_store.specs.Store.{Stored}

@@ -1,4 +1,4 @@
--- What the event of an ask of a call is: an exchange that was made, or nothing.
+-- The event of an ask of a call: an exchange that succeeded, or nothing.
 use Rattle.std.proofs.Common.{◌≡◌, ◌⊎◌, inl, inr, ⊎_elim, ℕ, ◌==◌, Bool, true, false, Option, None, Some, List, [], ◌∷◌, refl, sym, ◌∙◌, ap, eqb-true}
 use Rattle.papaya_call.specs.declared.ask.At.{At}
 use Rattle.papaya_call.specs.Answers.{op_kind}

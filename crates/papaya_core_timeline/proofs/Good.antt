@@ -1,4 +1,4 @@
--- A history with its maps, and how the calls under way stand to it.
+-- A history with its maps, and how the calls under way relate to it.
 use Rattle.std.proofs.Common.{◌≡◌, ℕ, ◌==◌, Bool, true, cond, Option, None, Some, List, [], ◌∷◌, ◌++◌}
 use Rattle.papaya_words.specs.declared.resize_mode.ResizeMode.TheVariants.{Blocking}
 use Rattle.papaya_call.specs.declared.call.Call.{Call}

@@ -1,4 +1,5 @@
--- What a scanner gives and shows was in the map at a moment of its call; and what is so at its end.
+-- A pair that a scanner returns, or with which it calls its closure, was in the map at some moment
+-- of its call; and what holds when the scan ends.
 use Rattle.std.proofs.Common.{◌≡◌, inl, inr, ⊎_elim, ℕ, suc, Bool, true, false, cond, Option, None}
 use Rattle.std.proofs.Common.{Some, is_some, IsSome, List, [], ◌∷◌, ◌++◌, refl, sym, ◌∙◌, ap, subst}
 use Rattle.std.proofs.Common.{eq-eqb}

@@ -1,4 +1,5 @@
--- What a scanner's ask leaves, and what its call may give, show, take out and reply.
+-- What a scanner's ask leaves, and which pairs its call may return, pass to its closure and remove,
+-- and what it may reply.
 use Rattle.std.proofs.Common.{rules, ◌≡◌, ◌⊎◌, inl, inr, ℕ, Bool, false, Option, None, Some, List, [], refl, sym, ◌∙◌, ap}
 use Rattle.papaya_words.specs.declared.refused.Refused.{Refused as Refusal}
 use Rattle.papaya_words.specs.declared.refused.Refused.TheVariants.{RemoveNothing, Memory}

@@ -1,4 +1,4 @@
--- How calls that scan a table stand to a history that grows by an entry.
+-- How calls that scan a table relate to a history that grows by an entry.
 use Rattle.std.proofs.Common.{◌≡◌, ◌≢◌, ◌⊎◌, inl, inr, ⊎_elim, ℕ, Bool, true, false, cond, Option}
 use Rattle.std.proofs.Common.{None, Some, List, [], ◌∷◌, ◌++◌, slice_get, refl, sym, ◌∙◌, ap, subst}
 use Rattle.std.proofs.Common.{eq-eqb, append-nil, append_assoc}

@@ -1,4 +1,5 @@
--- What a retain intends: the pair that it takes out is one that its closure has just answered does not stay.
+-- What a retain intends: the pair that it removes is one for which its closure has just returned
+-- that it does not stay.
 use Rattle.std.proofs.Common.{◌≡◌, negsuc, ◌⊎◌, inl, inr, ⊎_elim, ℕ, ◌+◌, ◌==◌, nat_lt, Bool, true, false, Option, None, Some, refl, sym, ◌∙◌, ap, subst}
 use Rattle.std.proofs.lemmas.Bool.{cond_both}
 use Rattle.papaya_words.specs.Word.{kind_of, pair_of as pair_in}

@@ -1,4 +1,4 @@
--- A step gives what is under way no other intent than what a closure answers in it.
+-- A step gives what is under way no other intent than what a closure returns in it.
 use Rattle.std.proofs.Common.{◌≡◌, ◌⊎◌, inl, inr, ⊎_elim, ℕ, Bool, true, Option, None, Some, List, refl, sym, ◌∙◌, ap, subst}
 use Rattle.std.specs.Cmp.{IsEquivalence}
 use Rattle.papaya_call.specs.declared.ask.Ask.TheVariants.{ShowNone}

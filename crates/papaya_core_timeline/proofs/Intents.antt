@@ -1,4 +1,5 @@
--- What a call on one key intends: by it the call changes the map, and a step gives it no other intent than what its closure answers in it.
+-- What a call on one key intends: this is how the call changes the map, and a step gives it no
+-- other intent than what its closure returns in it.
 use Rattle.std.proofs.Common.{rules, ◌≡◌, ◌⊎◌, inl, inr, ⊎_elim, ℕ, Bool, true, Option, None, Some, refl, sym, ◌∙◌, ap, subst, List}
 use Rattle.papaya_words.specs.declared.resize_mode.ResizeMode.{ResizeMode}
 use Rattle.papaya_words.specs.declared.resize_mode.ResizeMode.TheVariants.{Incremental, Blocking}

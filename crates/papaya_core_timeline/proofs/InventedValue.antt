@@ -1,5 +1,5 @@
--- A value that a compute stored is one that its own closure answered: of a run in which a compute stores a pair, which an
--- insertion replaces, the stored value is not free.
+-- A value that a compute stored is one that its own closure returned: in a run in which a compute
+-- stores a pair that an insertion replaces, the stored value is not free.
 use Rattle.std.proofs.Common.{◌≡◌, inl, inr, ℕ, Bool, true, Option, Some, None, List, [], ◌∷◌, refl, sym, subst}
 use Rattle.papaya_call.specs.declared.answers.Operation.{Operation}
 use Rattle.papaya_call.specs.declared.answers.Operation.TheVariants as ops

@@ -1,4 +1,5 @@
--- An answered ask, as the law of exchanges sees it: the answer is true of the words, and the words are those that the exchanges leave.
+-- An answered ask in terms of the law of exchanges: the answer is true of the words, and the words
+-- after it are those that the exchanges leave.
 use Rattle.std.proofs.Common.{◌≡◌, ℕ, ◌<◌, ◌≤◌, List, [], ◌∷◌, ◌++◌, length, Option, Some, None, ◌⊎◌, inl, inr, refl, sym, ◌∙◌, ap, subst, arith, append-nil}
 use Rattle.papaya_words.specs.Counter.{Count}
 use Rattle.papaya_words.specs.declared.limits.TheConstants.{MAX_LOG_LEN, MAX_TABLES}

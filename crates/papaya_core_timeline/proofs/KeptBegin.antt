@@ -1,4 +1,4 @@
--- A begin keeps a core's words to the law of exchanges, as a new core does.
+-- The words of a new core obey the law of exchanges, and they still do after a call begins.
 use Rattle.std.proofs.Common.{◌≡◌, ◌≢◌, ℕ, zero, suc, ◌-◌, ◌==◌, ◌<◌, ◌≤◌, ◌^◌, Bool, true, false}
 use Rattle.std.proofs.Common.{cond, max, List, [], ◌∷◌, length, Some, None, inl, inr, refl, sym}
 use Rattle.std.proofs.Common.{◌∙◌, ap, subst, arith, append-nil, eq-eqb, mod-eq_of_lt, slice_get}

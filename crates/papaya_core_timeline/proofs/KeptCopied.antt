@@ -1,4 +1,4 @@
--- Every answered ask of a copy keeps to the law.
+-- After each answered ask of a copy the words obey the law of exchanges.
 use Rattle.std.proofs.Common.{◌≡◌, ℕ, ◌<◌, Bool, List, ◌++◌, length, Option, Some, inl, sym, ◌∙◌, ap, subst, arith, ◌≤◌}
 use Rattle.papaya_call.specs.declared.ask.At.{At}
 use Rattle.papaya_call.specs.declared.ask.At.TheVariants.{Root}

@@ -1,4 +1,5 @@
--- A core keeps to the law when it is made, and by each begin and each step.
+-- The words of a core obey the law of exchanges when it is made, and after each begin and each
+-- step.
 use Rattle.std.proofs.Common.{◌≡◌, ℕ, ◌==◌, Bool, true, List, [], ◌++◌, Option, Some, inl, inr, refl, sym, ap, subst, fold}
 use Rattle.std.specs.Cmp.{IsEquivalence}
 use Rattle.papaya_call.specs.Answers.{Says}

@@ -1,4 +1,4 @@
--- Hints that stand in tables: what writes them, and what leaves them.
+-- The hints in tables: what writes them, and what leaves them as they are.
 use Rattle.std.proofs.Common.{◌≡◌, ℕ, zero, suc, ◌-◌, ◌==◌, Bool, true, false, cond, List, [], ◌∷◌}
 use Rattle.std.proofs.Common.{◌++◌, length, slice_get, slice_set, slice_index, nat_lt, replicate}
 use Rattle.std.proofs.Common.{Option, Some, None, ◌⊎◌, inl, inr, refl, sym, ◌∙◌, ap, subst}

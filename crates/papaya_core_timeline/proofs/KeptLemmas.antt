@@ -1,4 +1,4 @@
--- A core's words keep to the law of exchanges: the statements that the timeline relies on.
+-- The words of a core obey the law of exchanges: the statements that the timeline uses.
 use Rattle.std.proofs.Common.{◌≡◌, ℕ, Bool, Option, None, Some, List, [], ◌++◌, length, ◌≤◌, ◌⊎◌, refl, sym, subst}
 use Rattle.papaya_call.specs.Answers.{Says}
 use Rattle.papaya_call.specs.declared.call.Call.{Call}

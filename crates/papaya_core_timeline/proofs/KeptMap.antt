@@ -1,4 +1,4 @@
--- The map that a core's words mean is the replay of the exchanges.
+-- The map that the words of a core represent is the replay of the exchanges.
 use Rattle.std.proofs.Common.{◌≡◌, ⊎_elim, ℕ, zero, suc, ◌<◌, ◌≤◌, Bool, List, [], ◌∷◌, ◌++◌}
 use Rattle.std.proofs.Common.{length, slice_index, Some, inl, inr, refl, sym, ◌∙◌, ap, arith}
 use Rattle.std.proofs.Common.{append-nil, append_assoc}

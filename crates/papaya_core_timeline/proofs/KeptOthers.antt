@@ -1,4 +1,5 @@
--- A step of one caller leaves what all others rely on, and so keeps a core's words to the law of exchanges.
+-- After a step of one caller everything that others rely on still holds, so the words obey the law
+-- of exchanges.
 use Rattle.std.proofs.Common.{◌≡◌, ◌≢◌, ℕ, ◌<◌, ◌≤◌, Bool, cond, List, ◌++◌, length, Option, Some}
 use Rattle.std.proofs.Common.{None, ◌⊎◌, inl, inr, refl, sym, ◌∙◌, ap, subst, append_assoc, eq-eqb}
 use Rattle.papaya_words.specs.declared.limits.TheConstants.{MAX_LOG_LEN, MAX_TABLES}

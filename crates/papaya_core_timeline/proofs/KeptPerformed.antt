@@ -1,4 +1,4 @@
--- Every answered ask of a call itself keeps to the law.
+-- After each answered ask of a call itself the words obey the law of exchanges.
 use Rattle.std.proofs.Common.{◌≡◌, ℕ, ◌+◌, ◌==◌, ◌<◌, Bool, ◌≤◌, List, [], ◌∷◌, ◌++◌, length, Some, inl, inr, ◌⊎◌, refl, sym, ◌∙◌, ap, subst, arith, MatchBool}
 use Rattle.papaya_words.specs.declared.limits.TheConstants.{MAX_TABLES}
 use Rattle.papaya_words.specs.declared.refused.Refused.{Refused}

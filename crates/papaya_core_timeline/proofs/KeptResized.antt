@@ -1,4 +1,4 @@
--- A step of a call that resizes the map keeps a core's words to the law of exchanges.
+-- After a step of a call that resizes the map the words of a core obey the law of exchanges.
 use Rattle.std.proofs.Common.{◌≡◌, ℕ, ◌%◌, ◌^◌, ◌==◌, ◌≤◌, ◌<◌, Bool, List, [], ◌∷◌, ◌++◌, length}
 use Rattle.std.proofs.Common.{Option, Some, None, inl, inr, ◌⊎◌, refl, sym, ◌∙◌, ap, subst, arith}
 use Rattle.std.proofs.Common.{MatchBool, eqb-true}

@@ -1,4 +1,4 @@
--- A step of a call that scans a table keeps a core's words to the law of exchanges.
+-- After a step of a call that scans a table the words of a core obey the law of exchanges.
 use Rattle.std.proofs.Common.{◌≡◌, ◌≢◌, inl, inr, ◌⊎◌, ℕ, ◌==◌, Bool, cond, List, ◌++◌, Option, Some, None, refl, sym, ◌∙◌, ap, subst, eq-eqb}
 use Rattle.papaya_words.specs.declared.refused.Refused.TheVariants.{Memory}
 use Rattle.papaya_call.specs.declared.ask.Answer.TheVariants.{Refused as Was_refused}

@@ -1,4 +1,4 @@
--- A step of one caller keeps a core's words to the law of exchanges.
+-- After a step of one caller the words of a core obey the law of exchanges.
 use Rattle.std.proofs.Common.{◌≡◌, ◌≢◌, ℕ, ◌%◌, ◌^◌, ◌<◌, Bool, List, ◌++◌, length, Option, Some}
 use Rattle.std.proofs.Common.{None, ◌⊎◌, inl, inr, refl, sym, ◌∙◌, ap, subst, arith, append_assoc}
 use Rattle.papaya_call.specs.Answers.{Says}

@@ -1,4 +1,5 @@
--- What a step's event does to the map, and that it is legal: an exchange changes the class of the call's own key, as the call may, and any other event leaves the map.
+-- What a step's event does to the map, and that it is legal: an exchange changes the class of the
+-- call's own key, as the call may, and any other event leaves the map as it is.
 use mathlib.Core.Path.{fun_ext}
 use Rattle.std.proofs.Common.{◌≡◌, ◌⊎◌, inl, inr, ⊎_elim, ℕ, Bool, true, false, cond, Option, None}
 use Rattle.std.proofs.Common.{Some, List, [], ◌∷◌, ◌++◌, refl, sym, ◌∙◌, ap, subst, append-nil}

@@ -74,7 +74,7 @@ pub mod StoreLemmas
 pub mod TellLemmas
 pub mod TiedLemmas
 pub mod TimelineLemmas
--- an example: a made-up value is refused by what closures gave
+-- an example: a value that no closure returned is refused
 pub mod InventedValue
 -- what an answer leaves of the words and the logs
 pub mod ScanAnswers

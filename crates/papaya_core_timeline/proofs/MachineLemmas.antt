@@ -1,4 +1,4 @@
--- What every machine keeps to, of those laws of machines that stand on no words.
+-- The laws of machines that are not about words, for every machine.
 use Rattle.std.proofs.Common.{rules, ◌≡◌, ◌⊎◌, inl, inr, ℕ, true, Option, None, Some, sym, ◌∙◌, ap, subst, List}
 use Rattle.papaya_words.specs.Word.{pair_of}
 use Rattle.papaya_call.specs.declared.ask.At.{At}

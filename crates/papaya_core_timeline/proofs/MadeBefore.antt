@@ -1,4 +1,4 @@
--- The pairs that an insertion has made: before the answer, or by it.
+-- The pairs that an insertion has made: before the answer, or with it.
 use Rattle.std.proofs.Common.{◌≡◌, ◌⊎◌, inl, inr, ℕ, ◌==◌, nat_lt, Bool, true, false, cond, Option, None, Some, refl, sym, ◌∙◌, ap, subst}
 use Rattle.std.proofs.lemmas.Bool.{cond_both}
 use Rattle.papaya_call.specs.declared.ask.Answer.{Answer as Call_answer}

@@ -1,4 +1,4 @@
--- What a call stands on of the pair that it made: what its closure answered.
+-- The result of its closure on which a call acts with the pair that it made.
 use Rattle.std.proofs.Common.{◌≡◌, ◌⊎◌, inl, inr, ℕ, ◌<◌, Option, None, Some, sym, ◌∙◌, ap}
 use Rattle.papaya_words.specs.Word.{pair_of}
 use Rattle.papaya_call.specs.declared.ask.Answer.TheVariants.{Made as Made_number}

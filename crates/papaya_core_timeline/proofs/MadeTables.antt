@@ -1,4 +1,4 @@
--- A table that a call asks to open, or is told of, is one that was made.
+-- A table that a call asks to open, or learns of, is one that was made.
 use Rattle.std.proofs.Common.{◌≡◌, ◌⊎◌, inl, inr, ℕ, ◌+◌, Bool, [], ◌∷◌, ◌++◌, length, Some, refl, sym, ◌∙◌, ap, subst, arith, ◌≤◌}
 use Rattle.std.proofs.lemmas.List.{length-replicate}
 use Rattle.papaya_words.specs.Table.{new_table}

@@ -1,4 +1,5 @@
--- A step of a call over a chain leaves it what it is to make; and what it asks to be made is made or refused.
+-- After a step a call over a chain still has what it is to make, and what it asks to be made is
+-- made or refused.
 use Rattle.std.proofs.Common.{◌≡◌, ◌⊎◌, inl, inr, ℕ, ◌+◌, Bool, None, Some, length, refl, sym, ◌∙◌, ap, subst}
 use Rattle.papaya_words.specs.declared.limits.TheConstants.{MAX_LOG_LEN, MAX_TABLES}
 use Rattle.papaya_words.specs.declared.refused.Refused.TheVariants.{Memory}

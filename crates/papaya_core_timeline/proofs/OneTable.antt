@@ -1,4 +1,4 @@
--- Where no table has a next one, the content is that of the root table.
+-- If no table has a next one, the content is that of the root.
 use Rattle.std.proofs.Common.{◌≡◌, ℕ, zero, suc, ◌-◌, ◌<◌, Bool, List, [], length, Option, Some, None, refl, ◌∙◌, ap, append-nil, arith}
 use Rattle.std.proofs.lemmas.Option.{slice_get_within}
 use Rattle.papaya_words.specs.Table.{TableWords}

@@ -1,4 +1,5 @@
--- A call that is to make a pair of what its closure answered was to make one before, or its closure answers now.
+-- A call that is to make a pair of what its closure returned was to make one before, or its closure
+-- returns now.
 use Rattle.std.proofs.Common.{rules, ◌≡◌, ◌⊎◌, inl, inr, ℕ, Option, Some, refl}
 use Rattle.papaya_call.specs.declared.ask.Ask.TheVariants.{ShowNone, ShowPair}
 use Rattle.papaya_call.specs.declared.ask.Answer.{Answer as Call_answer}

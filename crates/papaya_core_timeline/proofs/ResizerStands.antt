@@ -1,4 +1,5 @@
--- A call that resizes the map stands within its tables after each answer within the limits, and asks for tables of sizes of tables.
+-- A resizer is within its tables after each answer within the limits, and asks only for tables of
+-- sizes that tables may have.
 use Rattle.std.proofs.Common.{◌≡◌, ⊎_elim, ℕ, zero, suc, ◌+◌, ◌*◌, ◌^◌, ◌/◌, ◌-◌, ◌<◌, ◌≤◌, ◌==◌}
 use Rattle.std.proofs.Common.{nat_le, max, Option, None, Some, refl, sym, subst, arith, leb-true}
 use Rattle.std.proofs.Common.{pow-suc}

@@ -1,4 +1,4 @@
--- The table that a resizer is about to open or to link was made: it stays so whatever is answered.
+-- The table that a resizer is about to open or to link was made, and so it is after each answer.
 use Rattle.std.proofs.Common.{◌≡◌, ℕ, ◌+◌, ◌==◌, nat_le, Option, None, Some, refl, ap, subst}
 use Rattle.std.proofs.lemmas.Bool.{cond_both}
 use Rattle.papaya_words.specs.declared.resize_mode.ResizeMode.{ResizeMode}

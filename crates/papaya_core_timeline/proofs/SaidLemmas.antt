@@ -1,4 +1,5 @@
--- What a machine stands on after a step was said by its closure in the call: before the step, or in it.
+-- A result on which a machine acts after a step was returned by its closure during the call: before
+-- the step, or in it.
 use Rattle.std.proofs.Common.{rules, ◌≡◌, ◌⊎◌, inl, inr, ⊎_elim, ℕ, Bool, true, Option, None, Some, ◌∷◌, refl, sym, ◌∙◌, ap, subst}
 use Rattle.papaya_call.specs.Answers.{Says, op_kind}
 use Rattle.papaya_call.specs.declared.answers.Operation.{Operation}

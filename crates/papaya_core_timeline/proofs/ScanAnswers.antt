@@ -1,4 +1,4 @@
--- What an answered ask of a call that scans a table leaves of the words and the logs.
+-- What an answered ask of a call that scans a table leaves of the words and the arena.
 use Rattle.std.proofs.Common.{◌≡◌, ◌⊎◌, inl, inr, ⊎_elim, ℕ, ℤ, pos, ◌+ℤ◌, ◌%◌, ◌^◌, ◌==◌, ◌<◌}
 use Rattle.std.proofs.Common.{◌&&◌, Bool, true, false, cond, Option, None, Some, List, [], ◌∷◌}
 use Rattle.std.proofs.Common.{◌++◌, negsuc, MatchBool, refl, sym, ap, ◌∙◌, subst, eqb-true}

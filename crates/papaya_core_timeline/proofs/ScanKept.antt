@@ -1,4 +1,4 @@
--- A step of a call that scans a table keeps a core's words to the law of exchanges.
+-- After a step of a call that scans a table the words of a core obey the law of exchanges.
 use Rattle.std.proofs.Common.{◌≡◌, ◌⊎◌, inl, inr, ⊎_elim, ℕ, ◌≤◌, ◌==◌, Bool, true, false, Option}
 use Rattle.std.proofs.Common.{None, Some, List, [], ◌∷◌, ◌++◌, cond, length, refl, sym, ap, ◌∙◌}
 use Rattle.std.proofs.Common.{subst, append_assoc}

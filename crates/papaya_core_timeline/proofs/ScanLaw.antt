@@ -1,4 +1,4 @@
--- The laws of a call that scans a table, of any list of exchanges.
+-- The laws of a call that scans a table, for any list of exchanges.
 use Rattle.std.proofs.Common.{IsSome, ◌≡◌, ◌⊎◌, ℕ, ◌<◌, Bool, None, Some, Option, List, refl, subst}
 use Rattle.papaya_call.specs.declared.call.Reply.{Reply}
 use Rattle.papaya_call.specs.declared.call.Reply.TheVariants.{Done as Reply_done}

@@ -1,4 +1,4 @@
--- A table that a scan is about to link was made: it makes tables for the copy of all alone.
+-- A table that a scan is about to link was made; a scan makes tables only for the copy of all.
 use Rattle.std.proofs.Common.{◌≡◌, Some, ℕ, ◌+◌, ◌==◌, nat_lt, Bool, true, false, refl}
 use Rattle.std.proofs.lemmas.Bool.{cond_both}
 use Rattle.papaya_words.specs.declared.resize_mode.ResizeMode.{ResizeMode}

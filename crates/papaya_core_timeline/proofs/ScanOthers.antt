@@ -1,4 +1,4 @@
--- What a scan relies on stays so at its begin and at each step of another caller.
+-- What a scan relies on holds when it begins, and after each step of another caller.
 use Rattle.std.proofs.Common.{◌≡◌, inl, inr, ⊎_elim, ℕ, Bool, Option, None, Some, List, [], ◌++◌, append-nil, sym, subst}
 use Rattle.papaya_call.specs.declared.call.Reply.{Reply}
 use Rattle.papaya_call.specs.Answers.{Says}

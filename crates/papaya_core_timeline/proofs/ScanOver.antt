@@ -1,4 +1,4 @@
--- What is so when a scan has ended; and until then it asks something.
+-- What holds when a scan has ended; until then it has an ask.
 use Rattle.std.proofs.Common.{◌≡◌, Option, None, Some, IsSome, List, refl}
 use Rattle.papaya_call.specs.declared.call.Reply.TheVariants.{Done as Reply_done}
 use Rattle.papaya_call.specs.declared.chain.resizer.ResizerState.TheVariants as stages

@@ -1,4 +1,5 @@
--- A scan stands within its table after each answer, and asks for tables of sizes of tables.
+-- A scan is within its table after each answer, and asks only for tables of sizes that tables may
+-- have.
 use Rattle.std.proofs.Common.{◌≡◌, ⊎_elim, ℕ, ◌+◌, ◌==◌, nat_lt, Bool, true, false, Option, None, Some, List, refl, sym, ap, ◌∙◌, subst, leb-true}
 use Rattle.std.proofs.lemmas.Bool.{cond_both}
 use Rattle.papaya_words.specs.Word.{kind_of}

@@ -1,4 +1,5 @@
--- What a showing to a closure does: the store stays, and of the call only its value and its answers may be others.
+-- What a call of a closure does: the store stays the same, and of the call only its value and its
+-- answers may change.
 use Rattle.std.proofs.Common.{◌≡◌, ℕ, Bool, Option, Some, ◌⊎◌, inl, inr, refl}
 use Rattle.papaya_call.specs.Answers.{Says, op_kind}
 use Rattle.papaya_call.specs.declared.ask.Answer.{Answer}

@@ -1,4 +1,4 @@
--- A call that resizes the map and is made alone comes to its end, and then what was wanted is done.
+-- A call that resizes the map and is made alone comes to its end, and has then done what it is for.
 use Rattle.std.proofs.Common.{◌≡◌, ℕ, ◌^◌, ◌+◌, ◌==◌, ◌<◌, ◌≤◌, Bool, true, Option, None, Some, List, ◌++◌, length, refl, sym, ◌∙◌, ap, subst, arith, eqb-true}
 use Rattle.std.specs.Cmp.{IsEquivalence}
 use mathlib.Core.Path.{fun_ext}

@@ -1,4 +1,4 @@
--- What a clear or a retain did that was made alone, as the timeline of its run says.
+-- What a clear or a retain did that was made alone, by the timeline of its run.
 use Rattle.std.proofs.Common.{◌≡◌, ◌⊎◌, inl, inr, ℕ, Bool, true, false, Option, None, Some, IsSome, List, [], ◌∷◌, refl, sym, ◌∙◌, ap, subst}
 use Rattle.std.proofs.lemmas.Bool.{cases_Bool}
 use Rattle.papaya_call_law.specs.Relies.{Change}

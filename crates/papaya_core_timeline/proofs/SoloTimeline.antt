@@ -1,4 +1,4 @@
--- What one call did that was made alone, as the timeline of its run says.
+-- What a call did that was made alone, by the timeline of its run.
 use Rattle.std.proofs.Common.{◌≡◌, ◌⊎◌, inl, inr, ℕ, Bool, true, cond, Option, None, Some, List, [], ◌∷◌, refl, sym, ◌∙◌, ap, subst}
 use Rattle.std.specs.Cmp.{IsEquivalence}
 use Rattle.papaya_words_law.specs.Content.{lookup}

@@ -1,4 +1,5 @@
--- What the event of a step is: that of an ask of the call, or of a copy. A copy shows nothing, and changes no pair of the map.
+-- The event of a step is that of an ask of the call, or of a copy. A copy calls no closure, and
+-- changes no pair of the map.
 use Rattle.std.proofs.Common.{◌≡◌, ◌⊎◌, inl, inr, ⊎_elim, ℕ, ◌==◌, Bool, true, false, Option, None, Some, List, [], ◌∷◌, refl, sym, ◌∙◌, ap, eqb-true}
 use Rattle.papaya_call.specs.declared.ask.At.{At}
 use Rattle.papaya_call.specs.declared.ask.Ask.{Ask as Call_ask}

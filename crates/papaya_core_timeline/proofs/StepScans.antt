@@ -1,4 +1,5 @@
--- What the event of a scanner's step is: that a pair was given, shown or deleted, or one that changes no pair of the map.
+-- The event of a scanner's step: a pair was returned, passed to the closure or removed, or no pair
+-- of the map changed.
 use Rattle.std.proofs.Common.{◌≡◌, ◌⊎◌, inl, inr, ℕ, negsuc, ◌==◌, Bool, true, false, Option, None}
 use Rattle.std.proofs.Common.{Some, List, [], ◌∷◌, ◌++◌, refl, sym, ◌∙◌, ap, subst, eqb-true}
 use Rattle.papaya_words.specs.Word.{pair_of as number_of}

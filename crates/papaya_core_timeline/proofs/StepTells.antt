@@ -1,4 +1,5 @@
--- What a step's event tells of its ask and the answer, what a closure answered in it, and which value is at hand after it. A copy asks no closure, and leaves the call as it was.
+-- What a step's event says about its ask and the answer, what a closure returned in it, and which
+-- value the call has after it. A copy calls no closure, and leaves the call as it was.
 use Rattle.std.proofs.Common.{◌≡◌, ◌⊎◌, inl, inr, ⊎_elim, ℕ, Bool, true, false, Option, List, ◌∷◌, refl, sym, ◌∙◌, ap, subst}
 use Rattle.papaya_call.specs.Answers.{Says}
 use Rattle.papaya_call.specs.declared.ask.At.{At}

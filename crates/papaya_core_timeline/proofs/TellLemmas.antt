@@ -1,4 +1,5 @@
--- What the event of an ask of a call tells of the ask and the answer, what a closure answered to it, and which value is at hand after it.
+-- What the event of an ask of a call says about the ask and the answer, what a closure returned,
+-- and which value the call has after it.
 use Rattle.std.proofs.Common.{◌≡◌, ◌⊎◌, inl, inr, ⊎_elim, ℕ, ◌==◌, Bool, true, false, Option, None, Some, List, ◌∷◌, refl, sym, ◌∙◌, ap, subst}
 use Rattle.papaya_call.specs.Answers.{Says, op_kind}
 use Rattle.papaya_call.specs.declared.answers.Operation.{Operation}

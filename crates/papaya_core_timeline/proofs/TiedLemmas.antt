@@ -1,4 +1,4 @@
--- How calls under way stand to a history that grows by an entry.
+-- How calls under way relate to a history that grows by an entry.
 use Rattle.std.proofs.Common.{◌≡◌, ◌≢◌, ◌⊎◌, inl, inr, ⊎_elim, ℕ, ◌==◌, Bool, true, false, cond}
 use Rattle.std.proofs.Common.{Option, None, Some, List, [], ◌∷◌, ◌++◌, slice_get, refl, sym, ◌∙◌}
 use Rattle.std.proofs.Common.{ap, subst}

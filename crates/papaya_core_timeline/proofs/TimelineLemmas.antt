@@ -1,4 +1,4 @@
--- One entry more in a history, and one map more in a timeline.
+-- A history with one more entry, and a timeline with one more map.
 use Rattle.std.proofs.Common.{◌≡◌, ◌≢◌, ℕ, Bool, ◌<◌, ◌==◌, false, cond, Option, Some, List, [], ◌∷◌, length, slice_get, inl, inr, refl, ◌∙◌, ap, arith, eq-eqb}
 use Rattle.std.proofs.lemmas.Bool.{cases_Bool}
 use Rattle.papaya_call.specs.Answers.{op_kind}

@@ -1,4 +1,5 @@
--- A call whose closure has answered a newer value than its pairs have: it makes a pair of it next, or is over.
+-- A call whose closure has returned a newer value than its pairs have: it makes a pair of it next,
+-- or is over.
 use Rattle.std.proofs.Common.{rules, ◌≡◌, ℕ, Option, None, Some, ◌⊎◌, inl, inr, refl, sym, ◌∙◌, ap, subst}
 use Rattle.papaya_call.specs.declared.ask.Ask.{Ask as Call_ask}
 use Rattle.papaya_call.specs.declared.ask.Ask.TheVariants.{Load, ShowNone, ShowPair}

@@ -30,8 +30,8 @@ use Rattle.papaya_call.specs.declared.chain.ask.ScanAsk.TheVariants as scan_asks
 use Rattle.papaya_call.specs.Scanner as scanner
 use Rattle.papaya_core_store.specs.declared.scans.Scanning.{Scanning}
 
--- the event of an exchange of this kind that was made: a change of the map names the pair that went
--- and the one that came
+-- the event of an exchange of this kind that succeeded: for a change of the map it names the pair
+-- that went and the pair that came
 abbrev pub exchange_event : StepKind → (old new : ℕ) → Event
 exchange_event Claim old new = Changed Claim None (Some (pair_of new))
 exchange_event Replace old new = Changed Replace (Some (pair_of old)) (Some (pair_of new))
@@ -47,7 +47,7 @@ exchange_event Promote old new = Moved Promote
 exchange_event Abort old new = Moved Abort
 exchange_event Take old new = Moved Take
 
--- the event of an exchange of no kind, which no machine asks for
+-- the same if the exchange has a kind; no machine asks for an exchange without one
 abbrev pub kind_event : Option StepKind → (old new : ℕ) → Event
 kind_event None old new = Other
 kind_event (Some kind) old new = exchange_event kind old new
@@ -56,47 +56,48 @@ abbrev pub answered_event : Option StepKind → (old new : ℕ) → Call_answer 
 answered_event kind old new Exchanged = kind_event kind old new
 answered_event kind old new _ = Other
 
--- whether a pair is to be removed is asked of a pair alone
+-- the event of a closure that returned whether a pair is to be removed, or is to stay; such a
+-- closure is called only with a pair
 abbrev pub asked_event : Option ℕ → Bool → Event
 asked_event None agrees = Other
 asked_event (Some n) agrees = Asked n agrees
 
--- the event of a showing: what the closure answered
+-- the event of a call of a closure: what it was called with, and what it returned
 abbrev pub shown_event : Option ℕ → Call_answer → Event
 shown_event shown (Op kind) = Shown shown kind
 shown_event shown (Yes agrees) = asked_event shown agrees
 shown_event shown _ = Other
 
--- the event of an ask of the call that was answered so
+-- the event of an ask of the call itself and its answer
 abbrev pub call_event : Option StepKind → Call_ask → Call_answer → Event
 call_event kind (Exchange at old new) answer = answered_event kind old new answer
 call_event kind ShowNone answer = shown_event None answer
 call_event kind (ShowPair n) answer = shown_event (Some n) answer
 call_event kind _ answer = Other
 
--- a copy shows nothing
+-- the event of an ask of a copy and its answer; a copy calls no closure
 abbrev pub copy_event : Option StepKind → CopyAsk → Call_answer → Event
 copy_event kind (Copy_exchange at old new) answer = answered_event kind old new answer
 copy_event kind _ answer = Other
 
--- the event of an ask that was answered so
+-- the event of an ask and its answer
 abbrev pub event_of : Option StepKind → Ask → Answer → Event
 event_of kind (asks.Call ask) (answers.Call answer) = call_event kind ask answer
 event_of kind (asks.Copy ask) (answers.Call answer) = copy_event kind ask answer
 event_of kind _ _ = Other
 
--- the reply of a machine that asks no more
+-- the reply of a machine that has replied
 abbrev pub reply_in : Ask → Option Reply
 reply_in (asks.Call (Ask_done reply)) = Some reply
 reply_in _ = None
 
--- the call goes on, unless it has replied
+-- what goes on unless the call has replied
 abbrev pub goes_on : {A : Type 0} → Option Reply → A → Option A
 goes_on None r = Some r
 goes_on (Some reply) r = None
 
--- What a step adds to the count goes to the shard that the caller's number picks: of a call on one
--- key, and of a clear or a retain, which takes 1 for each pair that it has deleted.
+-- What a step adds to the count goes to the shard that the caller's number picks: `call` is for a
+-- call on one key, and `scan` for a call that scans a table.
 pub record AddsToShard {K V S A : Type 0} (s : CoreState K V S A) (caller : ℕ)
     (s' : CoreState K V S A) : Type 0 where
   pub call : (r : Running K V A) (by : ℤ) → call_of s caller ≡ Some r
@@ -106,11 +107,11 @@ pub record AddsToShard {K V S A : Type 0} (s : CoreState K V S A) (caller : ℕ)
       → scanner.ask_of v.scanner ≡ Some (scan_asks.AddToShard by)
       → s'.store.count ≡ added s.store.count caller by
 
--- Just one ask of the caller's machine is answered, a load or an exchange by the word that stands
--- there. A reply is the one in the machine's Done. No other caller's call changes. A call is
--- refused where what it asked to be made was refused, where no number was left for its pair, where
--- its closure would remove a pair and there is none, or where the next table was refused or would
--- be longer than a table may be.
+-- Exactly one ask of the caller's machine is answered, a load or an exchange by the word that is
+-- there. A reply is the one in the machine's `Done`. No other caller's call changes. A call is
+-- refused if something that it asked to be made was refused, if no number was left for its pair, if
+-- its closure would remove an absent entry, or if the next table was refused or would be longer
+-- than a table may be.
 pub record Advances {K V S A : Type 0} (eq : K → K → Bool) (says : Says K V A) (hash : S → K → ℕ)
     (refuse : Bool) (s : CoreState K V S A) (caller : ℕ) (s' : CoreState K V S A) (event : Event)
     (reply : Option Reply) : Type 0 where

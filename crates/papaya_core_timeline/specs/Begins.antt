@@ -1,4 +1,4 @@
--- The begin of a call.
+-- How a call begins.
 use Rattle.std.specs.Prelude.{◌≡◌, ℕ, ◌<◌, ◌^◌, true, false, [], Option, Some, None}
 use Rattle.std.specs.Int.{IsPowerOfTwo}
 use Rattle.papaya_words.specs.declared.resize_mode.ResizeMode.{ResizeMode}
@@ -24,7 +24,8 @@ use Rattle.papaya_call.specs.declared.chain.scanner.Scan.TheVariants as scans
 use Rattle.papaya_call.specs.Scanner as scanner
 use Rattle.papaya_core_store.specs.declared.scans.Scanning.{Scanning}
 
--- the value that a call was handed, its closure's answers, and its task
+-- the value that was passed to a call; `answers_of_call` are the answers of its closure, and
+-- `task_of_call` is the task of its machine
 abbrev pub value_of_call : {K V A : Type 0} → Call K V A → Option V
 value_of_call (Insert k v) = Some v
 value_of_call (TryInsert k v) = Some v
@@ -44,7 +45,7 @@ task_of_call (RemoveIf k a) = Some tasks.RemoveIf
 task_of_call (Compute k a) = Some tasks.Compute
 task_of_call _ = None
 
--- a call that scans a table as it begins: it gave nothing yet
+-- a call that scans a table as it begins, with no pair returned yet
 abbrev pub scanner_begun : {A : Type 0} → ResizeMode → (initial number : ℕ) → Scan → Option A
     → Scanning A
 scanner_begun mode initial number scan answers = record {
@@ -53,12 +54,12 @@ scanner_begun mode initial number scan answers = record {
   given = [];
 }
 
--- a value that was handed in is the call's own
+-- a value that was passed in, as the call's own
 abbrev pub handed : {V : Type 0} → Option V → Option (Part V)
 handed None = None
 handed (Some v) = Some (Own v)
 
--- a call copies from the chunk on that its number picks
+-- `number` picks the chunk at which a call begins to copy
 module _ {K V A : Type 0} (hash : K → ℕ) (mode : Mode) (initial number : ℕ) where
   -- a call on this key as it begins
   abbrev pub begun : Task → K → Option V → Option A → Running K V A
@@ -88,7 +89,7 @@ module _ {K V A : Type 0} (hash : K → ℕ) (mode : Mode) (initial number : ℕ
       works.Scan (scanner_begun mode.resize initial number scans.Retain (Some a))
   begun_work Walk = works.Scan (scanner_begun mode.resize initial number scans.Walk None)
 
--- a begin changes no word, no log and no other caller's call
+-- a caller begins `call`, which changes no word, no pair of the arena and no other caller's call
 pub record Begins {K V S A : Type 0} (hash : K → ℕ) (s : CoreState K V S A) (caller : ℕ)
     (call : Call K V A) (s' : CoreState K V S A) : Type 0 where
   pub number : ℕ
@@ -99,5 +100,5 @@ pub record Begins {K V S A : Type 0} (hash : K → ℕ) (s : CoreState K V S A) 
   pub initial : s'.initial ≡ s.initial
   -- the hash of its key, if it has one, has 64 bits
   pub fits : (k : K) → key_of call ≡ Some k → hash k < 2 ^ 64
-  -- a table is made by an initial capacity that is a length of tables
+  -- `initial`, by which tables are sized, is a power of two
   pub power : IsPowerOfTwo s.initial

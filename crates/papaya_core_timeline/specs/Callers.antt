@@ -51,7 +51,7 @@ module _ {K V A : Type 0} where
   IsSeated seats caller = (place : ℕ) × (seat : Seat K V A) × (slice_get seats place ≡ Some seat)
       × (seat.caller ≡ caller)
 
-  -- the seats, with this work in that of the caller
+  -- the seats, with `work` in the caller's seat
   abbrev pub with_work : List (Seat K V A) → ℕ → Option (Work K V A) → List (Seat K V A)
   with_work [] caller work = []
   with_work (seat ∷ seats) caller work = if seat.caller == caller
@@ -62,17 +62,17 @@ module _ {K V A : Type 0} where
   as_work None = None
   as_work (Some r) = Some (Call r)
 
-  -- the seats, with this call on one key in that of the caller
+  -- the seats, with this call on one key in the caller's seat
   abbrev pub with_call : List (Seat K V A) → ℕ → Option (Running K V A) → List (Seat K V A)
   with_call seats caller call = with_work seats caller (as_work call)
 
-  -- the seats, with one for the caller
+  -- the seats, with a new one for the caller if it has none
   abbrev pub with_seat : List (Seat K V A) → ℕ → List (Seat K V A)
   with_seat [] caller = record { caller = caller; work = None } ∷ []
   with_seat (seat ∷ seats) caller = if seat.caller == caller then seat ∷ seats
       else seat ∷ with_seat seats caller
 
-  -- no seat before the place is the caller's, and that at the place is, where there is one
+  -- no seat before `place` is the caller's, and the seat at `place`, if there is one, is
   pub record IsSeatAt (seats : List (Seat K V A)) (caller place : ℕ) : Type 0 where
     pub within : place ≤ length seats
     pub before : (i : ℕ) (seat : Seat K V A) → i < place → slice_get seats i ≡ Some seat

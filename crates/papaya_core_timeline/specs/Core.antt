@@ -1,4 +1,4 @@
--- What the core holds, and what always holds of it.
+-- The state of a core, and an invariant of it.
 use Rattle.std.specs.Prelude.{◌≡◌, ℕ, List, None, Option, Some, length}
 use Rattle.papaya_words.specs.Table.{TableWords}
 use Rattle.papaya_words.specs.declared.resize_mode.ResizeMode.{ResizeMode}
@@ -22,15 +22,15 @@ use Rattle.papaya_core_store.specs.Store.{StoreState}
 use Rattle.papaya_call.specs.Scanner as scanner
 use Rattle.papaya_core_store.specs.declared.scans.Scanning.{Scanning}
 
--- the words, the log and the count; the callers with what they have under way; and how the core
--- resizes, and its limit
+-- the state of a core: its store, its callers with what each has under way, how it resizes and its
+-- pair limit, and the length of a table for its initial capacity
 pub record CoreState (K V S A : Type 0) : Type 0 where
   pub store : StoreState K V S
   pub callers : List (Seat K V A)
   pub mode : Mode
   pub initial : ℕ
 
--- how a core resizes that has no limit
+-- the mode of a core that resizes in this way and has no pair limit
 abbrev pub unlimited : ResizeMode → Mode
 unlimited mode = record { resize = mode; limit = None }
 
@@ -46,7 +46,7 @@ call_of s caller = running s.callers caller
 abbrev pub IsGoing : Machine → Type 0
 IsGoing m = (reply : Reply) → ask_of m ≡ Call (Ask_done reply) → ⊥
 
--- each table has the size of a table, each machine, each resizer and each scanner stands within its
+-- each table has a size that tables may have, each machine, resizer and scanner is within its
 -- tables, and no call under way has replied
 pub record IsCore {K V S A : Type 0} (store : StoreState K V S) (callers : List (Seat K V A))
     (mode : Mode) : Type 0 where

@@ -12,15 +12,15 @@ use Rattle.papaya_core_store.specs.Store.{StoreState}
 use Rattle.papaya_call.specs.declared.chain.scanner.ScannerState.{ScannerState}
 use Rattle.papaya_call.specs.declared.chain.scanner.ScannerState.TheVariants.{Uncounting}
 
--- what a call that scans a table has yet to add to the count: it takes 1 for a pair that it
--- has deleted
+-- what a call that scans a table has yet to add to the count: -1 if it has just deleted a pair, and
+-- otherwise 0
 abbrev pub owed_scan : ScannerState → ℤ
 owed_scan (Uncounting spot) = negsuc 0
 owed_scan state = pos 0
 
 module _ {K V A : Type 0} where
-  -- what a call on one key has yet to add to the count, for a change that it made; 0 where there is
-  -- no such call
+  -- what a call on one key has yet to add to the count, for a change that it made; 0 if there is no
+  -- such call
   abbrev pub owed_of : Option (Running K V A) → ℤ
   owed_of None = pos 0
   owed_of (Some r) = calls.owed_in (ask_of r.machine)
@@ -37,8 +37,8 @@ module _ {K V A : Type 0} where
   owed_in [] = pos 0
   owed_in (seat ∷ seats) = owed_work seat.work +ℤ owed_in seats
 
--- The sum of the shards, with what is yet to be added, is the number of pairs in the map. A sum is
--- one of 64 bits.
+-- The sum of the shards plus what is yet to be added, wrapped to 64 bits, is the number of pairs in
+-- the map.
 abbrev pub IsCounted : {K V S A : Type 0} → (K → K → Bool) → StoreState K V S → List (Seat K V A)
     → Type 0
 IsCounted eq store callers = int_wrap w64 (store.count.sum +ℤ owed_in callers) ≡ pos

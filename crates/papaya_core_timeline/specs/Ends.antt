@@ -1,5 +1,5 @@
--- The end of a call that is made alone: how many tables may still be made and words exchanged, and
--- what holds of the core while nobody else has a call under way.
+-- The end of a call while no other call is under way: how many tables may still be made and words
+-- exchanged, and what holds of the core until the call ends.
 use Rattle.std.specs.Prelude.{◌≡◌, ◌⊎◌, ℕ, ◌+◌, ◌-◌, ◌^◌, ◌<◌, ◌==◌, if◌then◌else◌, Bool, List, [], ◌∷◌, length, Option, Some, sum_by, take}
 use Rattle.papaya_words.specs.Table.{TableWords}
 use Rattle.papaya_words.specs.Word.{kind_of}
@@ -23,7 +23,7 @@ use Rattle.papaya_core_timeline.specs.declared.seat.Work.TheVariants.{Call}
 use Rattle.papaya_core_timeline.specs.Core.{CoreState}
 use Rattle.papaya_core_timeline.specs.Kept.{IsLawfulCore}
 
--- how often a slot of this kind may still change, but for a pair that takes the place of another
+-- how often a slot of this kind may still change, not counting pairs that replace others
 abbrev pub changes_of : Kind → ℕ
 changes_of Empty = 3
 changes_of Live = 2
@@ -33,15 +33,16 @@ changes_of _ = 0
 abbrev pub changes_of_word : ℕ → ℕ
 changes_of_word word = changes_of (kind_of word)
 
--- a table without a next one may get one
+-- how often the `next` word of a table may still change: once if there is no next table
 abbrev pub links_of : ℕ → ℕ
 links_of next = if next == 0 then 1 else 0
 
--- how often a chunk's word may still change, and how often a table may be given up
+-- how often a chunk's word may still change; `ends_of` says how often a table may still be aborted
 abbrev pub copies_of : ℕ → ℕ
 copies_of done = 1 - done
 
--- a table has no more chunks than it may have slots
+-- how often the words of a table's chunks may still change; a table has no more chunks than it may
+-- have slots
 unfoldable pub copies_in : List ℕ → ℕ
 copies_in done = sum_by copies_of (take (2 ^ 32) done)
 
@@ -53,7 +54,8 @@ abbrev pub exchanges_of : TableWords → ℕ
 exchanges_of t = sum_by changes_of_word t.slots + links_of t.next + copies_in t.done
     + ends_of t.aborted
 
--- the words of all tables, and the root, which goes to later tables alone
+-- how often the words of all tables and the root may still change; the root only goes to later
+-- tables
 abbrev pub exchanges_in : Tables → ℕ
 exchanges_in w = sum_by exchanges_of w.tables + (length w.tables - w.root)
 
@@ -63,7 +65,7 @@ budget_in w = record { tables = 2 ^ 32 - length w.tables; exchanges = exchanges_
 abbrev pub budget_of : {K V S : Type 0} → StoreState K V S → Budget
 budget_of store = budget_in store.words
 
--- something is there
+-- the option has a value
 abbrev pub IsThere : {X : Type 0} → Option X → Type 0
 IsThere {X = X} o = (x : X) × (o ≡ Some x)
 
@@ -72,18 +74,18 @@ abbrev pub HasValue : {V : Type 0} → Task → Option (Part V) → Type 0
 HasValue (Insert replace) value = IsThere value
 HasValue task value = Unit {0}
 
--- a compute is to make a pair of the value that its closure answered, now or again
+-- a compute has to make a pair of the value that its closure returned, now or perhaps again
 abbrev pub IsToPair : Machine → Type 0
 IsToPair m = ((purpose : Purpose) × (m.state ≡ Pairing purpose))
     ⊎ ((old : ℕ) × (new : Of) × (m.remembered.choice ≡ Some (To_replace old new)))
 
--- a call has the value that it has yet to make something of
+-- a call has the value of which it has yet to make something
 pub record IsMaker {K V A : Type 0} (r : Running K V A) : Type 0 where
   pub value : HasValue r.machine.call.task r.value
   pub answered : IsToPair r.machine.call → IsThere r.value
 
--- The one caller has this call under way: the core is in order, what the call has read stands there
--- still, and it has what it is to make.
+-- The only caller has this call under way, the core's invariant holds, the words that the call has
+-- read are unchanged, and the call has the value that it is to store.
 pub record IsLone {K V S A : Type 0} (eq : K → K → Bool) (hash : S → K → ℕ)
     (s : CoreState K V S A) (r : Running K V A) : Type 0 where
   pub callers : s.callers ≡ record { caller = 0; work = Some (Call r) } ∷ []
@@ -91,11 +93,11 @@ pub record IsLone {K V S A : Type 0} (eq : K → K → Bool) (hash : S → K →
   pub maker : IsMaker r
   pub current : IsCurrent (word_at s.store.words) r.machine
 
--- how far such a call is from its end, at most
+-- a bound on how far such a call is from its end
 abbrev pub lone_measure : {K V S A : Type 0} → CoreState K V S A → Running K V A → ℕ
 lone_measure s r = measure (budget_of s.store) s.store.words.root r.machine
 
--- a step has left the call under way, and nearer its end
+-- after a step the call is still under way, and its bound is smaller
 pub record IsNearer {K V S A : Type 0} (eq : K → K → Bool) (hash : S → K → ℕ)
     (s : CoreState K V S A) (r : Running K V A) (s' : CoreState K V S A) : Type 0 where
   pub later : Running K V A

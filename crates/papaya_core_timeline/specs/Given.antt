@@ -1,5 +1,5 @@
--- What closures gave in a run: each showing is answered by what the answers of its own call give of
--- what is shown.
+-- What closures returned in a run: each call of a closure returns what the answers of its own call
+-- give for its argument.
 use Rattle.std.specs.Prelude.{◌≡◌, ◌≢◌, ℕ, Bool, true, false, List, [], ◌∷◌, Option, Some, None, slice_get, ◌⊎◌}
 use Rattle.papaya_call.specs.Answers.{Says}
 use Rattle.papaya_call.specs.declared.answers.Operation.{Operation}
@@ -12,7 +12,7 @@ use Rattle.papaya_core_timeline.specs.Runs.{History}
 use Rattle.papaya_core_store.specs.Store.{StoreState, Stored, pair_of}
 use Rattle.papaya_core_timeline.specs.Timeline.{Answered, begins, begun_by, open_call}
 
--- is a closure asked?
+-- whether the event is a call of a closure
 abbrev pub asks_closure : Event → Bool
 asks_closure (Asked n agrees) = true
 asks_closure (Shown shown kind) = true
@@ -24,14 +24,15 @@ begun_answers None = None
 begun_answers (Some call) = answers_of_call call
 
 module _ {K V S A : Type 0} (says : Says K V A) (store : StoreState K V S) where
-  -- what is shown: the key and the value of the pair of this number, or that there is none
+  -- `entry` is what a closure is called with: the key and the value of the pair of number n, or
+  -- None
   abbrev pub IsEntryOf : Option ℕ → Option (K × V) → Type 0
   IsEntryOf None entry = entry ≡ None
   IsEntryOf (Some n) entry = (p : Stored K V) × (pair_of store n ≡ Some p)
       × (entry ≡ Some (p.key, p.value))
 
-  -- Answers a give in an event what it tells, and a' are left then. Events that ask no closure
-  -- leave them as they are.
+  -- If the event is a call of a closure, the answers a give what it returned, and a' is what is
+  -- left of them. Other events leave the answers as they are.
   abbrev pub GivesIn : Event → Option (Operation V ℕ) → A → A → Type 0
   GivesIn (Shown shown kind) answered a a' = (entry : Option (K × V)) × (op : Operation V ℕ)
       × IsEntryOf shown entry × (answered ≡ Some op) × says.op a entry op a'
@@ -40,8 +41,8 @@ module _ {K V S A : Type 0} (says : Says K V A) (store : StoreState K V S) where
   GivesIn _ answered a a' = a' ≡ a
 
   module _ (schedule : List (Turn K V A)) where
-    -- The closure of a caller's call has these answers left after a history: those that the call
-    -- was handed when it began, less what they gave since.
+    -- The closure of a caller's call has the answers a' left after a history: those with which the
+    -- call began, less those that were used since.
     abbrev pub HasLeft : A → ℕ → History → Answered V → Type 0
     HasLeft a' caller [] said = ⊥
     HasLeft a' caller (e ∷ before) [] = ⊥
@@ -52,8 +53,8 @@ module _ {K V S A : Type 0} (says : Says K V A) (store : StoreState K V S) where
         × ((a : A) × HasLeft a caller before said × GivesIn e.event answered a a'))
         ⊎ ((e.caller ≢ caller) × HasLeft a' caller before said)
 
-    -- Each showing of a call that began in the run was answered by what its closure had left. Of a
-    -- call that began before the run nothing is said.
+    -- If a call began in the run, each call of its closure returned what the answers that were left
+    -- give. Nothing is said about calls that began before the run.
     abbrev pub AreGiven : History → Answered V → Type 0
     AreGiven [] said = Unit {0}
     AreGiven (e ∷ before) [] = ⊥

@@ -13,29 +13,29 @@ use Rattle.papaya_core_store.specs.Store.{KeepsPairs, StoreState, Stored, pair_o
 use Rattle.papaya_core_timeline.specs.Timeline.{Answered, Timeline, open_call}
 use Rattle.papaya_core_timeline.specs.Content.{map_of}
 
--- each pair of each map is the pair of its number in the log
+-- each pair of each of these maps is in the arena under its number
 abbrev pub AreLogged : {K V S : Type 0} → StoreState K V S → List (Map K V) → Type 0
 AreLogged store [] = Unit {0}
 AreLogged {K = K} {V = V} store (m ∷ maps) = ((j : K) (p : Stored K V) → m j ≡ Some p
     → pair_of store p.number ≡ Some p) × AreLogged store maps
 
--- where a pair comes in an event, it is of a number that this log does not have
+-- if the event puts a pair into the map, no pair of this arena has its number
 abbrev pub ComesNew : {K V S : Type 0} → StoreState K V S → Event → Type 0
 ComesNew store (Changed kind old (Some n)) = pair_of store n ≡ None
 ComesNew store _ = Unit {0}
 
--- each pair that comes by a call that began in the run is of a number that the log did not have
--- where the run began
+-- if a call that began in the run put a pair into the map, no pair of this arena has the pair's
+-- number
 abbrev pub AreNew : {K V S A : Type 0} → StoreState K V S → List (Turn K V A) → History → Type 0
 AreNew store schedule [] = Unit {0}
 AreNew {K = K} {V = V} {A = A} store schedule (e ∷ before) =
     ((call : Call K V A) → open_call schedule e.caller before ≡ Some call → ComesNew store e.event)
     × AreNew store schedule before
 
--- The maps of a run, one a moment, and what closures answered in it are a legal timeline with its
--- history, from the core's map at its begin to the core's map at its end. The pair of a number in
--- them is the one that the core shows at the end, what closures answered is what the answers of
--- their calls give, and what comes has a new number. No pair is gone from the log.
+-- The maps of a run, one for each moment, and what closures returned in it are a legal timeline of
+-- the run's history, from the map of s to the map of s'. Each pair of these maps is in the arena of
+-- s' under its number. What closures returned is what the answers of their calls give. Each pair
+-- that comes has a new number, and each pair in the arena of s stays in that of s'.
 pub record HasTimeline {K V S A : Type 0} (eq : K → K → Bool) (says : Says K V A)
     (schedule : List (Turn K V A)) (s : CoreState K V S A) (h : History)
     (s' : CoreState K V S A) : Type 0 where

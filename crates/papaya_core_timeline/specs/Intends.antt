@@ -1,5 +1,5 @@
--- What a call under way would do to the class of a key, by what it was handed and by what its
--- closure answered. It changes the map by nothing else.
+-- What a call under way would do to the class of a key, by the value that was passed in and by what
+-- its closure returned. It changes the map in no other way.
 use Rattle.std.specs.Prelude.{◌≡◌, ◌⊎◌, ℕ, Bool, true, false, Option, Some, None}
 use Rattle.papaya_words.specs.Word.{pair_of as pair_in}
 use Rattle.papaya_call.specs.declared.call.Call.{Call}
@@ -25,27 +25,28 @@ use Rattle.papaya_core_timeline.specs.Begins.{value_of_call}
 use Rattle.papaya_core_timeline.specs.Core.{CoreState, work_of}
 use Rattle.papaya_core_timeline.specs.Given.{GivesIn}
 
--- a scan is about to take out the pair of this number
+-- a scan is about to remove the pair of number n
 abbrev pub TakesOut : ScannerState → ℕ → Type 0
 TakesOut (Burying spot word) n = pair_in word ≡ n
 TakesOut _ n = ⊥
 
--- an insertion made this pair, of its own key or of one that it met
+-- an insertion made the pair of number n, of its own key or of a key that it met
 abbrev pub HasMade : Made → ℕ → Type 0
 HasMade made n = (made.own ≡ Some n) ⊎ ((of : Of) × (made.of ≡ Some of) × (of.pair ≡ n))
 
--- the pair of this number has the value
+-- the pair of number n has the value v
 abbrev pub HasValue : {K V S : Type 0} → StoreState K V S → ℕ → V → Type 0
 HasValue {K = K} {V = V} store n v = (p : Stored K V) × (pair_of store n ≡ Some p) × (p.value ≡ v)
 
 module _ {K V S A : Type 0} (store : StoreState K V S) where
-  -- An insertion would store the value that it was handed. It has that, and so has each pair that
-  -- it made.
+  -- An insertion would store the value v, which was passed in: the call has this value, or a pair
+  -- that it made has it.
   abbrev pub WouldStore : Running K V A → V → Type 0
   WouldStore r v = (own_value store r ≡ Some v)
       ⊎ ((n : ℕ) × HasMade r.machine.call.made n × HasValue store n v)
 
-  -- A compute would store the value that its closure answered when it was shown this.
+  -- A compute would store the value v, which its closure returned when it was called with `shown`:
+  -- the call has this value, or a pair that it made has it.
   abbrev pub WouldStoreFor : Running K V A → Option ℕ → V → Type 0
   WouldStoreFor r shown v = (StandsOn r.machine.call (Inserts shown)
       × (own_value store r ≡ Some v))
@@ -58,8 +59,8 @@ module _ {K V S A : Type 0} (store : StoreState K V S) where
   IntendsAs Compute r (Some n) ops.Remove = StandsOn r.machine.call (Removes n)
   IntendsAs _ _ _ _ = ⊥
 
-  -- What is under way would do this where the class of its key has the pair `shown`, or none: store
-  -- a value, or remove the pair. A retain would remove it from whatever class has it.
+  -- What is under way would do `op` if the class of its key has the pair `shown`, or none: store a
+  -- value, or remove the pair. A retain would remove the pair from whatever class has it.
   abbrev pub Intends : Work K V A → (shown : Option ℕ) → Operation V ℕ → Type 0
   Intends (works.Call r) shown op = IntendsAs r.machine.call.task r shown op
   Intends (works.Scan v) (Some n) ops.Remove = (v.scanner.scan ≡ Retain)
@@ -67,13 +68,13 @@ module _ {K V S A : Type 0} (store : StoreState K V S) where
   Intends _ _ _ = ⊥
 
 module _ {K V A : Type 0} where
-  -- the answer by which a pair goes that a closure is asked of: a removal's agrees to that, and a
-  -- retain's says that the pair does not stay
+  -- what a closure returns to have the pair removed that it is called with: `true` for a removal,
+  -- and `false` for a retain
   abbrev pub word_to_go : Work K V A → Bool
   word_to_go (works.Scan v) = false
   word_to_go _ = true
 
-  -- the event tells that its closure was shown this, and answered so
+  -- the event says that the closure of `work` was called with `shown` and returned `op`
   abbrev pub IsAnswerIn : Event → Work K V A → Option ℕ → Operation V ℕ → Type 0
   IsAnswerIn (Shown asked kind) work shown op = (asked ≡ shown) × (op_kind op ≡ kind)
   IsAnswerIn (Asked n agrees) work shown op = (Some n ≡ shown) × (op ≡ ops.Remove)
@@ -86,7 +87,7 @@ module _ {K V A : Type 0} where
   answers_left (works.Resize resizer) = None
   answers_left (works.Scan v) = v.answers
 
--- in this step its closure is shown this, and answers so
+-- in this step the closure of `work` is called with `shown` and returns `op`
 pub record AnswersNow {K V S A : Type 0} (says : Says K V A) (store : StoreState K V S)
     (event : Event) (work : Work K V A) (shown : Option ℕ) (op : Operation V ℕ) : Type 0 where
   pub told : IsAnswerIn event work shown op
@@ -95,13 +96,14 @@ pub record AnswersNow {K V S A : Type 0} (says : Says K V A) (store : StoreState
   pub left : A
   pub gives : GivesIn says store event (Some op) answers left
 
--- a call that begins intends to store what it was handed, and nothing else
+-- a call that begins would store the value that was passed in, and do nothing else
 abbrev pub IntendsHanded : {K V S A : Type 0} → StoreState K V S → Call K V A → Work K V A → Type 0
 IntendsHanded {V = V} store call work = (shown : Option ℕ) (op : Operation V ℕ)
     → Intends store work shown op → (v : V) × (op ≡ ops.Insert v) × (value_of_call call ≡ Some v)
 
--- What is under way after a step was so before it, of any caller. What it intends it intended
--- before; or it is the caller's own that made the step, and its closure answers so in it.
+-- Each call that is under way after a step was under way before it. What it would do after the step
+-- it would have done before it, unless the call is the caller's own and its closure returned that
+-- in this step.
 abbrev pub KeepsIntents : {K V S A : Type 0} → Says K V A → CoreState K V S A → (caller : ℕ)
     → CoreState K V S A → Event → Type 0
 KeepsIntents {K = K} {V = V} {A = A} says s caller s' event = (other : ℕ) (later : Work K V A)

@@ -1,4 +1,4 @@
--- How the words and the logs of a core stand to the law of exchanges.
+-- How the words and the arena of a core relate to the law of exchanges.
 use Rattle.std.specs.Prelude.{◌≡◌, ◌≢◌, ℕ, ◌+◌, ◌%◌, ◌^◌, ◌<◌, ◌≤◌, ◌==◌, ◌⊎◌, Bool, true, false}
 use Rattle.std.specs.Prelude.{if◌then◌else◌, Option, None, Some, List, [], ◌∷◌, ◌++◌, length}
 use Rattle.papaya_words.specs.Chunks.{chunk_len, chunk_of}
@@ -49,7 +49,7 @@ use Rattle.papaya_call_law.specs.ScanTold as scans
 use Rattle.papaya_call_law.specs.Scans.{ReliesScanner}
 use Rattle.papaya_core_store.specs.declared.scans.Scanning.{Scanning}
 
--- does the core resize with blocking?
+-- whether the core resizes with blocking
 abbrev pub is_blocking : ResizeMode → Bool
 is_blocking (Incremental chunk) = false
 is_blocking Blocking = true
@@ -69,7 +69,7 @@ abbrev pub chunks_in : Option TableWords → ℕ
 chunks_in None = 0
 chunks_in (Some t) = length t.done
 
--- the setting of the law that tables are
+-- the setting of the law that is given by the tables of a core
 abbrev pub setting_of : {K V : Type 0} → (K → K → Bool) → (K → ℕ) → Mode → List TableWords
     → Setting K (Stored K V)
 setting_of eq hash mode tables =
@@ -78,25 +78,26 @@ setting_of eq hash mode tables =
     (λ t. slots_in (table_of tables t)) (λ t. places_in (table_of tables t))
     (λ t. chunks_in (table_of tables t))
 
--- pairs are named in words by their numbers
+-- the coding in which a word names a pair by its number
 abbrev pub coding_of : {K V : Type 0} → (K → ℕ) → Coding K (Stored K V)
 coding_of hash = record { number = λ p. p.number; hash = hash }
 
--- a hash as the 64 bits that it has
+-- the low 64 bits of a hash
 abbrev pub low : {K : Type 0} → (K → ℕ) → K → ℕ
 low hash k = hash k % 2 ^ 64
 
--- What is told of a call: the exchanges when it began, those since then, and the pairs that its
--- machine was told of, and the one that it carries to another table; and, where it scans a table,
--- what its scanner was told of, gave and showed.
+-- What a proof records of a call: the exchanges when it began, those since then, and the pairs that
+-- its machine has learned of, with the one that it carries to another table. For a call that scans
+-- a table it also has the pairs that its scanner has learned of, returned and called its closure
+-- with.
 pub record CallTrace (K V : Type 0) : Type 0 where
   pub begun : List (Exchange (Stored K V))
   pub since : List (Exchange (Stored K V))
   pub loaded : LoadedPairs (Stored K V)
   pub scan : scans.LoadedPairs (Stored K V)
 
--- What is told of a call that scans a table: the exchanges when it began, those since then, and the
--- pairs that its machine was told of, gave and showed.
+-- What a proof records of a call that scans a table: the exchanges when it began, those since then,
+-- and the pairs that its scanner has learned of, returned and called its closure with.
 pub record ScanTrace (K V : Type 0) : Type 0 where
   pub begun : List (Exchange (Stored K V))
   pub since : List (Exchange (Stored K V))
@@ -106,7 +107,7 @@ abbrev pub scan_trace : {K V : Type 0} → CallTrace K V → ScanTrace K V
 scan_trace call_trace =
     record { begun = call_trace.begun; since = call_trace.since; loaded = call_trace.scan }
 
--- the same after a step, which made these exchanges
+-- the same after a step that made the exchanges `made`
 abbrev pub told_more : {K V : Type 0} → ScanTrace K V → List (Exchange (Stored K V))
     → scans.LoadedPairs (Stored K V) → ScanTrace K V
 told_more call_trace made loaded = record {
@@ -115,17 +116,17 @@ told_more call_trace made loaded = record {
   loaded = loaded;
 }
 
--- the numbers of these pairs, of which the newest is the first, in the order in which they came
+-- the numbers of these pairs, oldest first; the list of pairs has the newest first
 abbrev pub numbers_of : {K V : Type 0} → List (Stored K V) → List ℕ
 numbers_of [] = []
 numbers_of (p ∷ older) = numbers_of older ++ p.number ∷ []
 
--- the making of a table that is under way for the copy of all
+-- `link` is the table that the copy of all is making
 abbrev pub IsScanLink : ScannerState → Link → Type 0
 IsScanLink (Copying stage) link = HasLink stage link
 IsScanLink state link = ⊥
 
--- its closure was shown this pair
+-- the closure was called with the pair p
 abbrev pub WasShown : {P : Type 0} → List (P × Bool) → P → Type 0
 WasShown [] p = ⊥
 WasShown (one ∷ older) p = (one.0 ≡ p) ⊎ WasShown older p
@@ -136,7 +137,7 @@ HasAnswers {A = A} Retain left = (a : A) × (left ≡ Some a)
 HasAnswers _ left = Unit {0}
 
 module _ {K V S : Type 0} (store : StoreState K V S) where
-  -- the log has this pair under its number
+  -- the arena has the pair p under its number
   abbrev pub IsLogged : Stored K V → Type 0
   IsLogged p = pair_of store p.number ≡ Some p
 
@@ -144,28 +145,28 @@ module _ {K V S : Type 0} (store : StoreState K V S) where
   abbrev pub IsMade : ℕ → Type 0
   IsMade t = (words : TableWords) × (table_of store.words.tables t ≡ Some words)
 
-  -- and it has words for so many chunks at least
+  -- there is a table of number t, with words for at least `chunks` chunks
   abbrev pub IsMadeFor : (t chunks : ℕ) → Type 0
   IsMadeFor t chunks = (words : TableWords) × (table_of store.words.tables t ≡ Some words)
       × (chunks ≤ length words.done)
 
 module _ {K V S : Type 0} (eq : K → K → Bool) (hash : K → ℕ) (mode : Mode)
     (store : StoreState K V S) where
-  -- a call that resizes the map relies on what is told of it, after the exchanges es
+  -- what a resizer relies on holds after the exchanges es, for the pairs that are recorded of it
   pub record IsResizing (resizer : Resizer) (es : List (Exchange (Stored K V)))
       (call_trace : CallTrace K V) : Type 0 where
     pub relies : ReliesResizer (setting_of eq (low hash) mode store.words.tables)
         (coding_of (low hash)) (run es start) resizer call_trace.loaded
     pub last : (p : Stored K V) → call_trace.loaded.call.last ≡ Some p → IsLogged store p
     pub carried : (p : Stored K V) → call_trace.loaded.kept ≡ Some p → IsLogged store p
-    -- the table that it is about to open or to link was made, as was asked for
+    -- the table that it is about to open or to link was made as requested
     pub opens : (t : ℕ) → resizer.state ≡ Opening t → IsMade store t
     pub links : (behind t chunks : ℕ) → HasLink resizer.state (Linking behind t chunks)
         → IsMadeFor store t chunks
 
 module _ {K V S A : Type 0} (eq : K → K → Bool) (hash : K → ℕ) (mode : Mode)
     (store : StoreState K V S) where
-  -- a call that scans a table relies on what is told of it, after the exchanges es
+  -- what a scanner relies on holds after the exchanges es, for the pairs that are recorded of it
   pub record IsScanning (v : Scanning A) (es : List (Exchange (Stored K V)))
       (call_trace : ScanTrace K V) : Type 0 where
     pub split : call_trace.begun ++ call_trace.since ≡ es
@@ -175,21 +176,22 @@ module _ {K V S A : Type 0} (eq : K → K → Bool) (hash : K → ℕ) (mode : M
         call_trace.since
         v.scanner call_trace.loaded
     pub answers : HasAnswers v.scanner.scan v.answers
-    -- its list names the pairs that it gave
+    -- its list has the numbers of the pairs that it returned
     pub given : v.given ≡ numbers_of call_trace.loaded.given
     pub last : (p : Stored K V) → call_trace.loaded.copy.call.last ≡ Some p → IsLogged store p
     pub carried : (p : Stored K V) → call_trace.loaded.copy.kept ≡ Some p → IsLogged store p
     pub shown : (p : Stored K V) → WasShown call_trace.loaded.shown p → IsLogged store p
-    -- the table that it is about to link was made, as was asked for
+    -- the table that it is about to link was made as requested
     pub links : (behind t chunks : ℕ) → IsScanLink v.scanner.state (Linking behind t chunks)
         → IsMadeFor store t chunks
 
-  -- the pair of this number has the value that a call has
+  -- the pair of number n has the call's value
   abbrev pub HasOwnValue : Running K V A → ℕ → Type 0
   HasOwnValue r n = (p : Stored K V) × (pair_of store n ≡ Some p)
       × (own_value store r ≡ Some p.value)
 
-  -- a call under way relies on what is told of it, after the exchanges es
+  -- what a call under way relies on holds after the exchanges es, for the pairs that are recorded
+  -- of it
   pub record IsCall (r : Running K V A) (es : List (Exchange (Stored K V)))
       (call_trace : CallTrace K V) : Type 0 where
     pub key : K
@@ -202,38 +204,39 @@ module _ {K V S A : Type 0} (eq : K → K → Bool) (hash : K → ℕ) (mode : M
     pub last : (p : Stored K V) → call_trace.loaded.call.last ≡ Some p → IsLogged store p
     pub carried : (p : Stored K V) → call_trace.loaded.kept ≡ Some p → IsLogged store p
     pub made : (p : Stored K V) → IsOneOf call_trace.loaded.call.made p → IsLogged store p
-    -- the table that a call is about to open or to link was made, as was asked for
+    -- the table that it is about to open or to link was made as requested
     pub opens : (t : ℕ) → ask_of r.machine ≡ Call (Asks_exchange Root 0 t) → IsMade store t
     pub links : (behind t chunks : ℕ) → link_in r.machine.phase ≡ Some (Linking behind t chunks)
         → IsMadeFor store t chunks
-    -- a pair that was made and is not written yet stands in no slot
+    -- before its change, no slot names a pair that it made
     pub unwritten : (p : Stored K V) → IsOneOf call_trace.loaded.call.made p
         → change_in r.machine.call.state ≡ None
         → (t x : ℕ) (q : Stored K V) → named ((run es start).slot t x) ≡ Some q
         → q.number ≢ p.number
-    -- a pair that its closure is shown, or was shown, has a word
+    -- the word of a pair that its closure is called with, or was called with, is not 0
     pub shows : ShowsPairs r.machine.call
-    -- the value that it is to store, if it has one, was handed in, answered or logged
+    -- the value that it is to store, if it has one, is its own or in the arena
     pub valued : (part : Part V) → r.value ≡ Some part → (v : V)
         × (value_in store.pairs part ≡ Some v)
-    -- and a pair that is to take the place of another has it, but while a newer answer waits
+    -- a pair that is to replace another one has that value, unless a newer value is yet to be
+    -- stored
     pub again : (i n : ℕ) → StandsOn r.machine.call (Makes (Some i) n)
         → IsAnswered r.machine.call.state ⊎ HasOwnValue r n
 
-  -- The words are those that the exchanges es leave, which were allowed, and each call under way
-  -- relies on what is told of it.
+  -- The words are those that the exchanges es leave, which were allowed, and what each call under
+  -- way relies on holds.
   pub record IsKept (callers : List (Seat K V A)) (es : List (Exchange (Stored K V)))
       (call_traces : ℕ → CallTrace K V) : Type 0 where
     pub allowed : AllAllowed (setting_of eq (low hash) mode store.words.tables) start es
     pub coded : (at : At) → word_of (setting_of eq (low hash) mode store.words.tables)
         (coding_of (low hash)) (run es start) at ≡ word_at store.words at
-    -- and each hint that stands may be there
+    -- each hint is one that the slot may have
     pub hints : (n i : ℕ) → IsHint (setting_of eq (low hash) mode store.words.tables)
         (coding_of (low hash)) (run es start) n i (hint_at store.words n i)
     pub made : (t : ℕ) → 0 < t → Comes (run es start) t → IsMade store t
     pub logged : (t x : ℕ) (p : Stored K V) → named ((run es start).slot t x) ≡ Some p
         → IsLogged store p
-    -- no log is longer than a log may be
+    -- the arena has no more pairs than it may have
     pub few : length store.pairs ≤ MAX_LOG_LEN
     -- there are no more tables than there may be
     pub tables_few : length store.words.tables ≤ MAX_TABLES
@@ -243,22 +246,22 @@ module _ {K V S A : Type 0} (eq : K → K → Bool) (hash : K → ℕ) (mode : M
         → IsResizing eq hash mode store resizer es (call_traces caller)
     pub scanners : (caller : ℕ) (v : Scanning A) → scanning callers caller ≡ Some v
         → IsScanning v es (scan_trace (call_traces caller))
-    -- two calls make two pairs
+    -- pairs that two calls made have different numbers
     pub apart : (c d : ℕ) (r q : Running K V A) → running callers c ≡ Some r
         → running callers d ≡ Some q → c ≢ d → (p p' : Stored K V)
         → IsOneOf (call_traces c).loaded.call.made p
         → IsOneOf (call_traces d).loaded.call.made p' → p.number ≢ p'.number
 
--- What always holds of a core: its tables and machines are in order, and there are exchanges by
--- which its words keep to the law.
+-- The invariant of a core: its tables and machines are in order, and there is a list of exchanges
+-- by which its words obey the law.
 pub record IsLawfulCore {K V S A : Type 0} (eq : K → K → Bool) (hash : K → ℕ)
     (store : StoreState K V S) (callers : List (Seat K V A)) (mode : Mode) : Type 0 where
   pub core : IsCore store callers mode
   pub law : (es : List (Exchange (Stored K V)))
       × ((call_traces : ℕ → CallTrace K V) × IsKept eq hash mode store callers es call_traces)
 
--- the traces after a step of a caller that made these exchanges, and of which its machine has these
--- pairs loaded
+-- the traces after a step of the caller that made the exchanges `made`, with `loaded` as the pairs
+-- that its machine has learned of
 abbrev pub told_call_traces : {K V : Type 0} → (ℕ → CallTrace K V) → ℕ
     → List (Exchange (Stored K V)) → LoadedPairs (Stored K V) → ℕ → CallTrace K V
 told_call_traces call_traces caller made loaded d = record {

@@ -13,16 +13,16 @@ pub mod Kept
 pub mod Maps
 pub mod Moves
 pub mod New
--- what a call comes to
+-- the outcome of a call
 pub mod Outcomes
 pub mod Resized
 pub mod Resizes
 pub mod Runs
 pub mod Solo
 pub mod Timeline
--- how a call that scans a table stands to the law of exchanges
+-- how a call that scans a table relates to the law of exchanges
 pub mod Scans
--- what one step makes of it
+-- one step of such a call
 pub mod ScanGoes
 -- a pair that has left the map does not come back
 pub mod Once

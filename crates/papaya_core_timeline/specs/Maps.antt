@@ -24,26 +24,26 @@ key_of Clear = None
 key_of (Retain a) = None
 key_of Walk = None
 
--- what the class of this key has, where there is a key
+-- what the class of this key has, None if there is no key
 abbrev pub at_key : {K V : Type 0} → Map K V → Option K → Option (Stored K V)
 at_key m None = None
 at_key m (Some k) = m k
 
 module _ {K V : Type 0} where
-  -- a pair of this number that was made of this key and this value
+  -- q is a pair of number n with the key k and the value v
   pub record IsMadeOf (k : K) (v : V) (n : ℕ) (q : Stored K V) : Type 0 where
     pub number : q.number ≡ n
     pub key : q.key ≡ k
     pub value : q.value ≡ v
 
-  -- and one of a value that the call's closure answered
+  -- the same with some value, which the call's closure returned
   abbrev pub IsMadeWith : K → ℕ → Stored K V → Type 0
   IsMadeWith k n q = (v : V) × IsMadeOf k v n q
 
 module _ {K V A : Type 0} where
-  -- What a call on one key does where the class of its key has `here`: what it replies, and which
-  -- pair the class has next. What comes where the class has a pair has that pair's key, and only
-  -- what comes where it has none has the key that the call was handed.
+  -- What a call on one key does if the class of its key has a pair, or none: its reply, and the
+  -- pair `next` that the class has afterwards. A pair that replaces another one has the key of that
+  -- one; only a pair that replaces none has the key that was passed to the call.
   abbrev pub Does : Call K V A → Option (Stored K V) → Reply → Option (Stored K V) → Type 0
   Does (Get k) None Absent next = next ≡ None
   Does (Get k) (Some p) (Found n) next = (p.number ≡ n) × (next ≡ Some p)
@@ -65,18 +65,19 @@ module _ {K V A : Type 0} where
   Does (Compute k a) (Some p) (Aborted t) next = next ≡ Some p
   Does _ _ _ _ = ⊥
 
--- two maps are one
+-- two maps have the same pair, or none, at each key
 abbrev pub Same : {K V : Type 0} → Map K V → Map K V → Type 0
 Same {K = K} m m' = (j : K) → m' j ≡ m j
 
--- the class of this key, which had `old`, has `new`, and every other class has what it had
+-- the class of k goes from `old` in m to `new` in m', and every other class has in m' what it has
+-- in m
 pub record IsUpdate {K V : Type 0} (eq : K → K → Bool) (k : K) (old new : Option (Stored K V))
     (m m' : Map K V) : Type 0 where
   pub before : m k ≡ old
   pub class : (j : K) → eq j k ≡ true → m' j ≡ new
   pub others : (j : K) → eq j k ≡ false → m' j ≡ m j
 
--- the same of the class of a call's key, where it has one
+-- the same for the class of a call's key, which the call must have
 abbrev pub IsUpdateBy : {K V : Type 0} → (K → K → Bool) → Option K → (old new : Option (Stored K V))
     → (m m' : Map K V) → Type 0
 IsUpdateBy eq None old new m m' = ⊥

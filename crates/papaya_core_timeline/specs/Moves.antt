@@ -23,8 +23,8 @@ use Rattle.papaya_core_store.specs.declared.scans.Scanning.{Scanning}
 
 module _ {K V S A : Type 0} (eq : K → K → Bool) (s : CoreState K V S A) (caller : ℕ)
     (s' : CoreState K V S A) where
-  -- The class of the key of the caller's own call has another pair, as such a call does, and no
-  -- other class changes.
+  -- The step changes the class of the key of the caller's own call, as such a call may, and no
+  -- other class.
   pub record IsOwnChange (old new : Option ℕ) : Type 0 where
     pub running_call : Running K V A
     pub is_running : call_of s caller ≡ Some running_call
@@ -39,16 +39,17 @@ module _ {K V S A : Type 0} (eq : K → K → Bool) (s : CoreState K V S A) (cal
     pub update : IsUpdateBy eq (key_of call) went came (map_of eq s) (map_of eq s')
     pub went_is : number_in went ≡ old
     pub came_is : number_in came ≡ new
-    -- no pair of the map has the number of the one that comes
+    -- no pair of the map has the number of the pair that comes
     pub fresh : IsFresh came (map_of eq s ∷ [])
     pub reply : Reply
     pub does : Does call went reply came
     pub tells : change_of_reply reply ≡ Some (old, new)
-    -- what comes has the value that it was handed, or that its closure answered when it was shown
-    -- what goes; what goes where none comes, its closure would have removed
+    -- The pair that comes has the value that was passed in, or that the closure returned when it
+    -- was called with what goes. If no pair comes, the closure returned that the pair which goes is
+    -- to be removed.
     pub intended : Intends s.store (works.Call running_call) old (operation_for came)
 
-  -- A clear or a retain takes the pair of this number out of the map, and no other class changes.
+  -- A clear or a retain removes the pair of number `old` from the map, and no other class changes.
   pub record IsTakenByScan (old new : Option ℕ) : Type 0 where
     pub scanner : Scanning A
     pub is_scanning : scanning s.callers caller ≡ Some scanner
@@ -57,12 +58,12 @@ module _ {K V S A : Type 0} (eq : K → K → Bool) (s : CoreState K V S A) (cal
     pub update : IsUpdate eq pair.key (Some pair) None (map_of eq s) (map_of eq s')
     pub went_is : old ≡ Some pair.number
     pub came_is : new ≡ None
-    -- of a retain, its closure has answered that the pair does not stay
+    -- if the call is a retain, its closure returned that the pair does not stay
     pub intended : scanner.scanner.scan ≡ Retain
         → Intends s.store (works.Scan scanner) (Some pair.number) ops.Remove
 
-  -- a step whose event is a change of the map changes the class of its own call's key, or takes out
-  -- a pair that its call scans, and every other step leaves the map
+  -- a step whose event is a change of the map changes the class of its own call's key, or removes a
+  -- pair that its call scans; every other step leaves the map as it is
   abbrev pub MovesMap : Event → Type 0
   MovesMap (Changed kind old new) = IsOwnChange old new ⊎ IsTakenByScan old new
   MovesMap _ = Same (map_of eq s) (map_of eq s')

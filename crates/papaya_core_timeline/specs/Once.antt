@@ -1,11 +1,11 @@
--- A pair enters the map once.
+-- A pair enters the map at most once.
 use Rattle.std.specs.Prelude.{◌≡◌, ◌⊎◌, Some, List, [], ◌∷◌}
 use Rattle.papaya_core_store.specs.Store.{Stored}
 use Rattle.papaya_core_timeline.specs.Maps.{Map}
 use Rattle.papaya_core_timeline.specs.Timeline.{IsUnused}
 
--- Of these maps, of which the newest is the first, each has of a key the pair that the map before
--- it has, or one of a number that no map before it has.
+-- In this list of maps, the newest first, a pair that a map has at a key is also at that key in the
+-- map before it, or its number is of no pair in any earlier map.
 abbrev pub IsSteady : {K V : Type 0} → List (Map K V) → Type 0
 IsSteady [] = Unit {0}
 IsSteady (m ∷ []) = Unit {0}
@@ -14,7 +14,7 @@ IsSteady {K = K} {V = V} (m ∷ before ∷ maps) =
     ⊎ IsUnused p.number (before ∷ maps))
     × IsSteady (before ∷ maps)
 
--- none of these maps has this pair of the key
+-- none of these maps has the pair p at the key j
 abbrev pub HaveNot : {K V : Type 0} → K → Stored K V → List (Map K V) → Type 0
 HaveNot j p [] = Unit {0}
 HaveNot j p (m ∷ maps) = (m j ≡ Some p → ⊥) × HaveNot j p maps

@@ -16,9 +16,10 @@ use Rattle.papaya_core_timeline.specs.Advances.{event_of, goes_on}
 use Rattle.papaya_core_timeline.specs.Callers.{resizing, with_work}
 use Rattle.papaya_core_timeline.specs.Core.{CoreState}
 
--- Just one ask of the caller's resizer is answered, as a copy's asks are. A reply is the one that
--- it has ended with. No other caller's call changes. It is refused where a table was refused, where
--- the next one would be longer than a table may be, or where room was asked for that no table has.
+-- Exactly one ask of the caller's resizer is answered, as the asks of a copy are. A reply is the
+-- one with which the resizer has ended. No other caller's call changes. The call is refused if a
+-- table was refused, if the next table would be longer than a table may be, or if it reserves room
+-- that no table may have.
 pub record Resizes {K V S A : Type 0} (eq : K → K → Bool) (hash : S → K → ℕ) (refuse : Bool)
     (s : CoreState K V S A) (caller : ℕ) (s' : CoreState K V S A) (event : Event)
     (reply : Option Reply) : Type 0 where

@@ -19,12 +19,12 @@ use Rattle.papaya_core_timeline.specs.ScanGoes.{Scans}
 abbrev pub History : Type 0
 History = List Entry
 
--- an entry of this turn and caller
+-- a history with one more entry, of this turn and caller
 abbrev pub with_event : (turn caller : ℕ) → Event → History → History
 with_event turn caller event before = record { turn = turn; caller = caller; event = event }
     ∷ before
 
--- the entries of a step: its event, and its reply where it gave one
+-- a history with the entries of a step: its event, and its reply if it gave one
 abbrev pub with_step : (turn caller : ℕ) → Event → Option Reply → History → History
 with_step turn caller event None before = with_event turn caller event before
 with_step turn caller event (Some reply) before =
@@ -59,7 +59,7 @@ module _ {K V S A : Type 0} (eq : K → K → Bool) (says : Says K V A) (hash : 
       × (after ≡ with_step turn caller event reply before))
       ⊎ ((work_of s caller ≡ None) × PassesOver s before s' after)
 
-  -- so many steps of one caller, with memory
+  -- `steps` steps of one caller, with no memory refused by the schedule
   abbrev pub StepsRun : (turn caller steps : ℕ) → CoreState K V S A → History → CoreState K V S A
       → History → Type 0
   StepsRun turn caller zero s before s' after = PassesOver s before s' after
@@ -74,7 +74,7 @@ module _ {K V S A : Type 0} (eq : K → K → Bool) (says : Says K V A) (hash : 
   TurnRuns turn (Step caller refuse) = StepRuns turn caller refuse
   TurnRuns turn (Finish caller steps) = StepsRun turn caller steps
 
-  -- the first turns of a schedule, so many
+  -- the first n turns of a schedule
   abbrev pub TurnsRun : List (Turn K V A) → ℕ → CoreState K V S A → CoreState K V S A → History
       → Type 0
   TurnsRun schedule zero s s' history = (s' ≡ s) × (history ≡ [])
@@ -83,14 +83,14 @@ module _ {K V S A : Type 0} (eq : K → K → Bool) (says : Says K V A) (hash : 
       × (slice_get schedule turn ≡ Some what) × TurnsRun schedule turn s middle so_far
       × TurnRuns turn what middle so_far s' history
 
-  -- a turn that was cut short: of a Finish some steps were made, of another turn nothing
+  -- a turn that was cut short: some steps of a `Finish` were made, and nothing of any other turn
   abbrev pub IsCutShort : ℕ → Turn K V A → CoreState K V S A → History → CoreState K V S A → Type 0
   IsCutShort turn (Begin caller call) s before s' = s' ≡ s
   IsCutShort turn (Step caller refuse) s before s' = s' ≡ s
   IsCutShort turn (Finish caller steps) s before s' = (made : ℕ) × (made < steps)
       × (after : History) × StepsRun turn caller made s before s' after
 
-  -- the turns before one of the schedule were made, and that one was cut short
+  -- the turns before some turn of the schedule were made, and that turn was cut short
   abbrev pub StopsEarly : List (Turn K V A) → CoreState K V S A → CoreState K V S A → Type 0
   StopsEarly schedule s s' =
       (turn : ℕ) × (what : Turn K V A) × (middle : CoreState K V S A) × (so_far : History)

@@ -1,4 +1,4 @@
--- What one step makes of a call that scans a table.
+-- One step of a call that scans a table.
 use Rattle.std.specs.Prelude.{◌≡◌, ◌⊎◌, ℕ, Bool, Option, Some, None}
 use Rattle.papaya_words.specs.declared.refused.Refused.{Refused}
 use Rattle.papaya_call.specs.declared.ask.Answer.{Answer as Call_answer}
@@ -22,17 +22,17 @@ use Rattle.papaya_call_law.specs.ScanOutcomes.{IsScanCause}
 use Rattle.papaya_core_store.specs.declared.scans.Scanning.{Scanning}
 use Rattle.papaya_core_store.specs.Scans.{PerformsScan}
 
--- the list of a scan could not grow, for this cause: its machine is told nothing then
+-- why the list of a scan could not grow, if it could not; the scanner is given no answer then
 abbrev pub unheard : ScanAsk → Answer → Option Refused
 unheard (Given n) (answers.Call (Was_refused refused)) = Some refused
 unheard ask answer = None
 
--- the call is refused so, or replies as its machine does
+-- the refusal, if there is one, and otherwise the reply of the scanner
 abbrev pub reply_or : Option Refused → Option Reply → Option Reply
 reply_or None reply = reply
 reply_or (Some refused) reply = Some (Reply_refused refused)
 
--- the event of an ask that was answered so
+-- the event of an ask and its answer
 abbrev pub scan_event : Option StepKind → ScanAsk → Call_answer → Event
 scan_event kind (Copy ask) answer = copy_event kind ask answer
 scan_event kind (Show n) answer = shown_event (Some n) answer
@@ -44,9 +44,9 @@ abbrev pub event_of_scan : Option StepKind → ScanAsk → Answer → Event
 event_of_scan kind ask (answers.Call answer) = scan_event kind ask answer
 event_of_scan kind ask _ = Other
 
--- Just one ask of the caller's scanner is answered. A reply is the one that it has ended with, or
--- that its list could not grow. No other caller's call changes. It is refused where its copy of all
--- was, or its list.
+-- Exactly one ask of the caller's scanner is answered. A reply is the one with which the scanner
+-- has ended, or the refusal to let its list grow. No other caller's call changes. The call is
+-- refused if its copy of all was refused, or its list could not grow.
 pub record Scans {K V S A : Type 0} (eq : K → K → Bool) (says : Says K V A) (hash : S → K → ℕ)
     (refuse : Bool) (s : CoreState K V S A) (caller : ℕ) (s' : CoreState K V S A) (event : Event)
     (reply : Option Reply) : Type 0 where

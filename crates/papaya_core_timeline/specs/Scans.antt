@@ -1,4 +1,4 @@
--- How a call that scans a table stands to the law of exchanges, beside any number of callers.
+-- How a call that scans a table relates to the law of exchanges, beside any number of callers.
 use Rattle.std.specs.Prelude.{◌≡◌, ◌⊎◌, ℕ, pos, ◌+ℤ◌, Bool, false, length, Some, None, List, ◌++◌}
 use Rattle.std.specs.Int.{w64, int_wrap}
 use Rattle.papaya_words.specs.declared.refused.Refused.TheVariants.{Memory}
@@ -30,17 +30,18 @@ use Rattle.papaya_call_law.specs.ScanTold.{IsLastAnswer, IsScanTold, LoadedPairs
 use Rattle.papaya_call_law.specs.Scans.{HasScanned}
 use Rattle.papaya_core_store.specs.declared.scans.Scanning.{Scanning}
 
--- The sum of the shards, with what it and all calls beside it have yet to add, is the number
--- of pairs.
+-- The sum of the shards plus what the scan and all calls beside it have yet to add, wrapped to 64
+-- bits, is the number of pairs.
 abbrev pub IsCountedBeside : {K V S A : Type 0} → (K → K → Bool) → StoreState K V S
     → List (Seat K V A) → ScannerState → Type 0
 IsCountedBeside eq store callers state =
     int_wrap w64 (store.count.sum +ℤ (owed_in callers +ℤ owed_scan state)) ≡ pos
     (length (content eq store))
 
--- Each slot was scanned: since a moment of the call, a walk's list has each key that was in the map
--- all the time once, and nothing that was not there; of the pairs that the map had as the call
--- began a clear has left none, and a retain just those of which the last answer was that they stay.
+-- The scan of a table has ended. For an iteration there is a moment of the call such that its list
+-- has each key exactly once that was in the map ever since, and no pair that was not in the map. Of
+-- the pairs that the map had when the call began, a clear has left none, and a retain only those
+-- for which its closure last returned that they stay.
 pub record HasScannedIn {K V S A : Type 0} (eq : K → K → Bool) (hash : K → ℕ) (mode : Mode)
     (store : StoreState K V S) (v : Scanning A) (call_trace : ScanTrace K V) : Type 0 where
   pub scanned : HasScanned (setting_of eq (low hash) mode store.words.tables)
@@ -50,15 +51,15 @@ pub record HasScannedIn {K V S A : Type 0} (eq : K → K → Bool) (hash : K →
       v.scanner.scan call_trace.loaded
   pub list : v.given ≡ numbers_of call_trace.loaded.given
 
--- there was no memory for a pair of its list: it was told nothing
+-- memory ran out for a pair of the scan's list, and the store did not change
 pub record IsUnheard {K V S A : Type 0} (store : StoreState K V S) (v : Scanning A)
     (answer : Answer) (store' : StoreState K V S) : Type 0 where
   pub giving : (spot : _) × (word : ℕ) × (v.scanner.state ≡ Giving spot word)
   pub refused : answer ≡ answers.Call (Was_refused Memory)
   pub same : store' ≡ store
 
--- The answer to what a scanner asked is true of the words; the calls of all callers beside it rest
--- on what is told of them, and so does the scanner. No pair is gone from the log.
+-- The answer to a scanner's ask is true of the words, and what the scanner and the calls of all
+-- callers beside it rely on still holds. No pair is gone from the arena.
 pub record IsHeard {K V S A : Type 0} (eq : K → K → Bool) (hash : K → ℕ) (s : CoreState K V S A)
     (caller : ℕ) (es : List (Exchange (Stored K V))) (call_traces : ℕ
     → CallTrace K V) (v : Scanning A)
@@ -73,14 +74,15 @@ pub record IsHeard {K V S A : Type 0} (eq : K → K → Bool) (hash : K → ℕ)
       (told_call_traces call_traces caller made (call_traces caller).loaded)
   pub scanning : IsScanning eq hash s.mode store' (record v' { scanner = after v.scanner answer })
       (es ++ made) (told_more call_trace made loaded)
-  -- and so does any other that scans a table
+  -- what any other scanner relies on still holds
   pub others : (u : Scanning A) (other : ScanTrace K V)
       → IsScanning eq hash s.mode s.store u es other
       → IsScanning eq hash s.mode store' u (es ++ made) (told_more other made other.loaded)
   pub keeps : KeepsPairs s.store store'
   pub hasher : store'.hasher ≡ s.store.hasher
   pub pairs : store'.pairs ≡ s.store.pairs
-  -- what was exchanged was allowed, and the map that it leaves is the same in the grown setting
+  -- the exchanges were allowed, and the map that they leave is the same in the setting of the store
+  -- after them
   pub allowed : AllAllowed (setting_of eq (low hash) s.mode s.store.words.tables) start (es ++ made)
   pub map_same : (k : K)
       → map_left (setting_of eq (low hash) s.mode store'.words.tables) (es ++ made) k
@@ -91,7 +93,7 @@ pub record IsHeard {K V S A : Type 0} (eq : K → K → Bool) (hash : K → ℕ)
   pub sum : int_wrap w64 store'.count.sum
       ≡ int_wrap w64 (s.store.count.sum +ℤ owed_scan v.scanner.state)
 
--- A step of another caller leaves the scanner what it relies on.
+-- What a scanner relies on still holds after a step of another caller.
 pub record StaysBeside {K V S A : Type 0} (eq : K → K → Bool) (hash : K → ℕ)
     (s' : CoreState K V S A) (es : List (Exchange (Stored K V))) (v : Scanning A)
     (call_trace : ScanTrace K V) : Type 0 where
@@ -101,16 +103,16 @@ pub record StaysBeside {K V S A : Type 0} (eq : K → K → Bool) (hash : K → 
   pub scanning : IsScanning eq hash s'.mode s'.store v (es ++ made)
       (told_more call_trace made call_trace.loaded)
 
--- A scanner's step leaves the map, or takes one pair out of it: no walk does, and a retain takes
--- out only a pair that it has shown, of which the last answer was that it does not stay.
+-- A scanner's step leaves the map as it is, or removes one pair from it. An iteration removes none,
+-- and a retain removes only a pair for which its closure last returned that it does not stay.
 abbrev pub MovesScan : {K V S : Type 0} → (K → K → Bool) → StoreState K V S → StoreState K V S
     → Scan → List (Stored K V × Bool) → Type 0
 MovesScan {K = K} {V = V} eq store store' scan shown = Same (map_in eq store) (map_in eq store')
     ⊎ ((p : Stored K V) × IsUpdate eq p.key (Some p) None (map_in eq store) (map_in eq store')
     × (scan ≡ Walk → ⊥) × (scan ≡ Retain → IsLastAnswer shown p false))
 
--- What such a step's event tells of the map: a deletion takes this pair out, and what is no change
--- leaves the map.
+-- The same by the event of the step: a change removes the pair of number `old`, and any other event
+-- leaves the map as it is.
 abbrev pub MovesByScan : {K V S : Type 0} → (K → K → Bool) → StoreState K V S → StoreState K V S
     → Scan → List (Stored K V × Bool) → Event → Type 0
 MovesByScan {K = K} {V = V} eq store store' scan shown (Changed kind old new) = (p : Stored K V)

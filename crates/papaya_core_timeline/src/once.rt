@@ -7,8 +7,8 @@ ghost use Rattle.papaya_core_timeline.specs.Runs.{History};
 ghost use Rattle.papaya_core_timeline.specs.Timeline.{Answered, IsUnused, Timeline};
 ghost use Rattle.papaya_core_timeline.specs.Once.{HaveNot, IsSteady};
 
-/// Along a timeline, each map has for a key the pair that the map before has, or one that no map
-/// before had. So a pair that has left the map does not come back.
+/// States that along a timeline, each map has for a key the pair that the map before has, or one
+/// that no map before had. So a pair that has left the map does not come back.
 pub fn pairs_enter_once<K: Eq, V, A>()
     ensures steady { (schedule : List (Turn K V A)) (start : Map K V) (h : History)
         (maps : List (Map K V)) (said : Answered V)

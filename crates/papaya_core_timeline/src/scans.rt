@@ -26,8 +26,9 @@ use papaya_call::chain::scanner::Scan;
 use papaya_core_store::scans::Scanning;
 use std::hash::{BuildHasher, Hash};
 
-/// A scanner runs beside any number of callers. The facts on which it relies stay true from its
-/// begin on, whatever the others do; and so do the facts on which they rely, whatever it does.
+/// States that a scanner can run beside any number of callers. The facts on which it relies stay
+/// true from its begin on, whatever the others do; and so do the facts on which they rely, whatever
+/// it does.
 pub fn scans_keep<K: Hash + Eq, V, S: BuildHasher, A: Answers<K, V>>()
     ensures begins { (s : CoreState K V S A) → IsCore s.store s.callers s.mode
         → (es : List (Exchange (Stored K V))) (scan : Scan) (initial number : ℕ)
@@ -83,9 +84,9 @@ pub fn scans_keep<K: Hash + Eq, V, S: BuildHasher, A: Answers<K, V>>()
         call_trace }
 {}
 
-/// A scanner's step leaves the map as it is, or takes one pair out, and an iteration takes none. A
-/// retain takes out only pairs for which its closure last returned `false`. The count, with what
-/// the scanner and all callers have yet to add, is always the number of pairs.
+/// States that a scanner's step leaves the map as it is, or takes one pair out, and an iteration
+/// takes none. A retain takes out only pairs for which its closure last returned `false`. The
+/// count, with what the scanner and all callers have yet to add, is always the number of pairs.
 pub fn scans_move<K: Hash + Eq, V, S: BuildHasher, A>()
     ensures moves { (s : CoreState K V S A) → IsCore s.store s.callers s.mode
         → (es : List (Exchange (Stored K V))) (call_traces : ℕ → CallTrace K V) → IsKept K.eq
@@ -112,9 +113,9 @@ pub fn scans_move<K: Hash + Eq, V, S: BuildHasher, A>()
         → IsCountedBeside K.eq store' s.callers (after v.scanner a).state }
 {}
 
-/// If nobody else changes the words, each step of a scanner brings it nearer to its end, by a
-/// measure of the words. The words that it has read have not changed. So a single caller may step
-/// it until it replies.
+/// States that each step of a scanner brings it nearer to its end, by a measure of the words, if
+/// nobody else changes them. The words that it has read have not changed. So a single caller may
+/// step it until it replies.
 pub fn scans_end<K: Hash + Eq, V, S: BuildHasher, A: Answers<K, V>>()
     ensures { (refuse : Bool) (s : CoreState K V S A) → IsCore s.store s.callers s.mode
         → (es : List (Exchange (Stored K V))) (call_traces : ℕ → CallTrace K V) → IsKept K.eq

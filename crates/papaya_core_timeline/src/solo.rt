@@ -23,8 +23,8 @@ use papaya_core_store::pairs::Running;
 use papaya_core_store::scans::Scanning;
 use std::hash::{BuildHasher, Hash};
 
-/// A call that runs alone does what the finite map does, and leaves the words and the count in
-/// order. A map for one caller relies on this.
+/// States that a call that runs alone does what the finite map does, and leaves the words and the
+/// count in order. A map for one caller relies on this.
 pub fn one_call<K: Hash + Eq, V, S: BuildHasher, A, B>()
     ensures answers { (s s' : CoreState K V S A) (call : Call K V A) (reply : Reply)
         → IsLawfulCore K.eq (hash_of K.hash_input S.build_hasher S.Hasher.write S.Hasher.finish
@@ -49,10 +49,10 @@ pub fn one_call<K: Hash + Eq, V, S: BuildHasher, A, B>()
         S.Hasher.finish s.store.hasher) s.store [] s.mode }
 {}
 
-/// A call that runs alone ends. Until it replies, each of its steps lowers a measure of the words
-/// and of what is under way, whatever its closure returns. So a map for one caller may step it
-/// until it replies. When a call that resizes the map ends, the resize that was wanted is finished:
-/// nothing is left to copy, or there is room.
+/// States that a call that runs alone ends. Until it replies, each of its steps lowers a measure of
+/// the words and of what is under way, whatever its closure returns. So a map for one caller may
+/// step it until it replies. When a call that resizes the map ends, the resize that was wanted is
+/// finished: nothing is left to copy, or there is room.
 pub fn one_call_ends<K: Hash + Eq, V, S: BuildHasher, A>()
     ensures begins { (s s' : CoreState K V S A) (call : Call K V A) → s.callers ≡ []
         → IsLawfulCore K.eq (hash_of K.hash_input S.build_hasher S.Hasher.write S.Hasher.finish

@@ -1,4 +1,4 @@
--- An object, one pair on.
+-- The object of some pairs, after one more pair.
 use Rattle.std.proofs.Common.{◌≡◌, suc, ◌+◌, ◌<◌, ◌≤◌, ◌||◌, not, cond, Bool, true, false, List, []}
 use Rattle.std.proofs.Common.{◌∷◌, ◌++◌, length, map, Option, Some, String, Global, string_bytes}
 use Rattle.std.proofs.Common.{string_cmp, refl, sym, ap, ◌∙◌, subst, arith}

@@ -1,4 +1,4 @@
--- A map of what is read of a list, one item on.
+-- A map of what was read from a list, after one more item.
 use Rattle.std.proofs.Common.{◌≡◌, Bool, List, [], ◌∷◌, ◌++◌, Ok, Err, ◌∙◌}
 use Rattle.std.specs.List.{AllZip}
 use Rattle.papaya_words.specs.declared.limits.TheConstants.{DEFAULT_CHUNK}

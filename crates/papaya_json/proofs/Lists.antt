@@ -1,4 +1,4 @@
--- Items of lists that go together.
+-- Items of two lists that belong together.
 use Rattle.std.proofs.Common.{◌≡◌, ◌⊎◌, inl, inr, ⊎_elim, List, [], ◌∷◌, map, refl, subst}
 use Rattle.std.specs.List.{AllZip}
 

@@ -1,4 +1,4 @@
--- The members of an object that were put in one by one, and none in the place of another.
+-- The members of an object that were inserted one by one, none in place of another.
 use Rattle.std.proofs.Common.{◌≡◌, ◌⊎◌, inl, inr, ⊎_elim, ℕ, suc, ◌+◌, ◌≤◌, List, [], ◌∷◌, length}
 use Rattle.std.proofs.Common.{Ordering, Less, Equal, Greater, nat_cmp, is_eq, string_bytes, refl}
 use Rattle.std.proofs.Common.{sym, ap, ◌∙◌, subst, arith}

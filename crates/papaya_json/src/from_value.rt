@@ -58,8 +58,9 @@ where
 /// # Errors
 ///
 /// Fails with `Refused::Shape`, before all else, if the value is not an object. Fails with
-/// `Refused::Item` at the first member for which a function returns `None`, and with
-/// `Refused::Memory` if memory for the map runs out. Otherwise fails as [`HashMap::put`] does.
+/// `Refused::Item` at the first member for which a function returns `None`. Fails with
+/// `Refused::Memory` if memory runs out, and with `Refused::Capacity` if an entry has no room, as
+/// [`HashMap::put`] does.
 pub fn map_from_value<K: Hash + Eq + Drop, V: Drop, S: BuildHasher + Drop, T, W>(
     alloc: Global,
     v: &Value,
@@ -118,8 +119,9 @@ fn set_of<K: Hash + Eq + Drop, S: BuildHasher + Drop, T: Fn(&Value) -> Option<K>
 /// # Errors
 ///
 /// Fails with `Refused::Shape`, before all else, if the value is not an array. Fails with
-/// `Refused::Item` at the first item for which the function returns `None`, and with
-/// `Refused::Memory` if memory for the set runs out. Otherwise fails as [`HashSet::insert`] does.
+/// `Refused::Item` at the first item for which the function returns `None`. Fails with
+/// `Refused::Memory` if memory runs out, and with `Refused::Capacity` if a key has no room, as
+/// [`HashSet::insert`] does.
 pub fn set_from_value<K: Hash + Eq + Drop, S: BuildHasher + Drop, T: Fn(&Value) -> Option<K>>(
     alloc: Global,
     v: &Value,

@@ -15,7 +15,7 @@ ghost use Rattle.papaya_json.specs.Undoing.{UndoesItems, UndoesTexts, UndoesValu
 use serde_json::Value;
 use std::hash::Hash;
 
-/// A map that is read from the JSON of a map is equal to it if the reading functions undo the
+/// States that a map read from the JSON of a map is equal to it if the reading functions undo the
 /// writing ones. `text` and `member` are those of [`crate::to_value::map_to_value`], `key` and
 /// `value` those of [`crate::from_value::map_from_value`].
 ///
@@ -36,8 +36,8 @@ where
         → AreEqual K.eq same s.store t.store }
 {}
 
-/// A set that is read from the JSON of a set has the same keys if the reading function `key` undoes
-/// the writing one.
+/// States that a set read from the JSON of a set has the same keys if the reading function `key`
+/// undoes the writing one.
 pub fn sets_read_back<K: Hash + Eq, S, Z, T, R>(item: &T, key: &R)
 where
     T: Fn(&K) -> Option<Value>,

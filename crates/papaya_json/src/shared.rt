@@ -28,7 +28,8 @@ use std::sync::Wait;
 ///
 /// # Errors
 ///
-/// Fails as `map_to_value` does, and as the iteration does: also with `Refused::Capacity`.
+/// Fails with `Refused::Item`, `Refused::KeyClash` or `Refused::Memory`, as `map_to_value` does. If
+/// the iteration needs a table, it may also fail with `Refused::Capacity`.
 pub fn shared_map_to_value<R: Wait, K: Hash + Eq, V, S: BuildHasher, T, W>(
     rt: &R,
     alloc: Global,
@@ -125,8 +126,9 @@ where
 /// # Errors
 ///
 /// Fails with `Refused::Shape` if the value is not an object, before the map is made. Fails with
-/// `Refused::Item` at the first member for which a function returns `None`. Otherwise fails as
-/// [`papaya_map::map::HashMap::with_hasher`] or an insertion does. The map has no limit on entries.
+/// `Refused::Item` at the first member for which a function returns `None`. Fails with
+/// `Refused::Memory` if an allocation fails, and with `Refused::Capacity` if an entry has no room,
+/// as an insertion does. The map has no limit on entries.
 pub fn shared_map_from_value<R: Wait, K: Hash + Eq + Drop, V: Drop, S: BuildHasher + Drop, T, W>(
     rt: &R,
     alloc: Global,
@@ -161,7 +163,8 @@ where
 ///
 /// # Errors
 ///
-/// Fails as `set_to_value` does, and as the iteration does: also with `Refused::Capacity`.
+/// Fails with `Refused::Item` or `Refused::Memory`, as `set_to_value` does. If the iteration needs
+/// a table, it may also fail with `Refused::Capacity`.
 pub fn shared_set_to_value<R: Wait, K: Hash + Eq, S: BuildHasher, T: Fn(&K) -> Option<Value>>(
     rt: &R,
     alloc: Global,
@@ -240,8 +243,9 @@ where
 /// # Errors
 ///
 /// Fails with `Refused::Shape` if the value is not an array, before the set is made. Fails with
-/// `Refused::Item` at the first item for which the function returns `None`. Otherwise fails as
-/// [`papaya_set::set::HashSet::with_hasher`] or an insertion does. The set has no limit on keys.
+/// `Refused::Item` at the first item for which the function returns `None`. Fails with
+/// `Refused::Memory` if an allocation fails, and with `Refused::Capacity` if a key has no room, as
+/// an insertion does. The set has no limit on keys.
 pub fn shared_set_from_value<R: Wait, K: Hash + Eq + Drop, S: BuildHasher + Drop, T>(
     rt: &R,
     alloc: Global,

@@ -1,4 +1,4 @@
--- Where the closure of a retain says of no pair that it stays, none is left.
+-- If the closure of `retain` never returned `true`, no entry is left.
 use Rattle.std.proofs.Common.{◌≡◌, inl, inr, ⊎_elim, Bool, true, false, Ok, Err, Result, IfOk, List, [], ◌∷◌, sym, ap, ◌∙◌}
 use Rattle.papaya_words.specs.declared.refused.Refused.{Refused}
 use Rattle.papaya_call_law.specs.ScanTold.{IsLastAnswer}

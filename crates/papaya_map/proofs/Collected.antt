@@ -1,4 +1,4 @@
--- Entries that are stored one after the other; and a map that has learned of them is for the same.
+-- Entries that are stored one after the other; and a map that has learned of them has the same settings.
 use Rattle.std.proofs.Common.{◌≡◌, ◌<◌, ◌≤◌, ℕ, Bool, Option, None, List, [], ◌∷◌, ◌++◌, map, append-nil, refl, sym, ap, ◌∙◌, subst}
 use Rattle.std.specs.Int.{IsNextPowerOfTwo}
 use Rattle.std.specs.Iterator.{Yields}

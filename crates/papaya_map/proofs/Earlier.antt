@@ -1,4 +1,4 @@
--- What is so between a history and a later one is so from the empty history on.
+-- A fact about a history and a later one also holds of the empty history and the later one.
 use Rattle.std.proofs.Common.{inl, inr, Bool, Option, None, Some, Result, Ok, Err, List, [], refl}
 use Rattle.std.specs.Prelude.{IfOk}
 use mathlib.Core.List.{IsPrefix}

@@ -1,4 +1,4 @@
--- How long the first table of a map is that is made anew.
+-- The length of the first table of a new map.
 use Rattle.std.proofs.Common.{ℕ, ◌*◌, ◌-◌, ◌<◌, ◌≤◌, List, arith}
 use Rattle.std.specs.Prelude.{max, ◌/◌}
 use Rattle.papaya_words.specs.Probe.{IsEntriesFor}

@@ -1,4 +1,4 @@
--- A call that asks another for an answer that is told meets its contract where it hands over what shows the log. Assumes `Logic`.
+-- A call that returns the result of another call with its evidence meets its contract if it passes on the evidence of the log. Assumes `Logic`.
 use Rattle.std.proofs.Common.{◌≡◌, ℕ, List, [], ◌∷◌, refl, ap}
 use seplogic.Ra.Ura.{Ura}
 use mir.Syntax.{Callee, Fn, Ty}

@@ -1,5 +1,5 @@
 pub mod Ruled
--- how long the first table of a map is that is made anew
+-- The length of the first table of a new map.
 pub mod FirstTable
 -- entries that are stored one after the other
 pub mod Collected

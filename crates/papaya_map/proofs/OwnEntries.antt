@@ -1,4 +1,4 @@
--- The steps that a pass made, as entries of the log: they tell the changes that the pass made.
+-- The steps that a pass made, as entries of the log: they determine the changes that the pass made.
 use Rattle.std.proofs.Common.{◌≡◌, List, [], ◌∷◌, ◌++◌, map, refl, ap}
 use Rattle.papaya_map_book.specs.declared.rule.entry.Event.{Event}
 use Rattle.papaya_map_book.specs.declared.rule.entry.Event.TheVariants.{Stepped}

@@ -1,4 +1,4 @@
--- What the calls answer that store a value where their rule says so, by what the rule may answer.
+-- The results of the calls that store a value only under a condition, by what their rule may return.
 use Rattle.std.proofs.Common.{◌≡◌, ◌⊎◌, inl, inr, ⊎_elim, Bool, MatchOption, Option, None, Some}
 use Rattle.std.proofs.Common.{Result, Ok, Err, List, [], ◌∷◌, option_map, refl, sym, ap, ◌∙◌, subst}
 use denote.Bor.{Bor}

@@ -1,4 +1,4 @@
--- The machine value of an answer that is told. Assumes `Logic`.
+-- The machine value of a result with its evidence. Assumes `Logic`.
 use Rattle.std.proofs.Common.{◌≡◌, ℕ, List, [], ◌∷◌, ◌++◌, refl, subst}
 use mathlib.Core.Bool.{Bool, ◌&&◌, true, false}
 use mathlib.Core.Path.{◌∙◌}

@@ -1,4 +1,4 @@
--- The walk of a call that asks another for an answer that is told, and answers it. Assumes `Logic`.
+-- The run of a call that calls another for a result with its evidence, and returns that result. Assumes `Logic`.
 use Rattle.std.proofs.Common.{◌≡◌, ℕ, List, [], ◌∷◌, ◌++◌, refl, sym, subst}
 use lib.Dec.{T}
 use seplogic.Ra.Ura.{Ura}

@@ -1,4 +1,5 @@
--- What a call leaves that stores many entries, which ones an iteration gave, and clones of those.
+-- The effect of a call that stores many entries, the entries that an iteration returned, and clones
+-- of these.
 use Rattle.std.specs.Prelude.{◌≡◌, Bool, Option, None, Result, List, [], ◌∷◌, map, IfErr, IfOk}
 use Rattle.std.specs.Iterator.{Yields}
 use Rattle.std.specs.List.{AllZip}
@@ -15,15 +16,15 @@ use Rattle.papaya_seq.specs.Entries.{AllCome, ComesNext}
 use Rattle.papaya_seq.specs.Map.{deref_pair}
 
 module _ {K V : Type 0} (eq : K → K → Bool) where
-  -- These entries were put in one after the other, between the two histories: each by the last
-  -- change of a history that goes on from the one before.
+  -- These entries were put in one after the other between the two histories. Each was put in by the
+  -- last change of a history that extends the one before.
   abbrev pub AreStored : List (K × V) → (old new : List (Change K (Stored K V))) → Type 0
   AreStored [] old new = IsPrefix old new
   AreStored (e ∷ es) old new = (next : List (Change K (Stored K V))) × (answer : Option (Bor V))
       × IsPut eq e.0 e.1 old next answer × AreStored es next new
 
-  -- The entries of all items of `iter` were put in between the two histories, or those of the items
-  -- before one that was refused.
+  -- If the call succeeds, the entries of all items of `iter` were put in between the two histories.
+  -- If it is refused, the entries of all items before the refused one were put in.
   abbrev pub Stores : {U T A : Type 0} (becomes : U → T → Type 0)
       (steps : T → Option A → T → Type 0) (shows : List A → List (K × V)) → U
       → (old new : List (Change K (Stored K V))) → Result (Unit {0}) Refused → Type 0
@@ -32,8 +33,8 @@ module _ {K V : Type 0} (eq : K → K → Bool) where
       × IfErr result (λ why. ComesNext becomes steps iter
       (λ items item. AreStored (shows items) old new))
 
-  -- An iteration over the map of this book gave just these entries, until it gave none. It began
-  -- when this was seen, or later.
+  -- An iteration over the map of this book returned exactly these entries and then `None`. When it
+  -- began, at least the history `seen` had been observed.
   pub record AreWalked (book : Book) (seen : List (Change K (Stored K V))) (pairs : List (K × V))
       : Type 0 where
     pub first : Walked K V
@@ -48,12 +49,12 @@ module _ {K V : Type 0} (eq : K → K → Bool) where
     pub are : map deref_pair lent ≡ pairs
 
   module _ (clones_key : K → K → Type 0) (clones_value : V → V → Type 0) where
-    -- clones of these entries were put in, in their order
+    -- Clones of these entries were put in, in the same order.
     abbrev pub AreCloned : List (K × V) → (old new : List (Change K (Stored K V))) → Type 0
     AreCloned pairs old new = (clones : List (K × V))
         × AllZip (Clones clones_key clones_value) pairs clones × AreStored clones old new
 
-    -- clones of what an iteration over the map of this book gave were put in
+    -- An iteration over the map of this book returned some entries, and clones of them were put in.
     abbrev pub AreCopied : Book → (seen old new : List (Change K (Stored K V))) → Type 0
     AreCopied book seen old new = (pairs : List (K × V)) × AreWalked book seen pairs
         × AreCloned pairs old new

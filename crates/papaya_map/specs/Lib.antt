@@ -1,15 +1,15 @@
--- what of a map is fixed when it is made, and of its initial capacity
+-- The properties of a map that are fixed when it is made, and a lemma on its initial capacity.
 pub mod Fixed
 pub mod Powers
--- what a call says that takes no pass
+-- The contracts of calls that take no pass.
 pub mod Plain
--- what the calls answer that store where their rule says so
+-- The results of calls that store a value only under a condition.
 pub mod Storing
--- what is asked for of a map before it is built
+-- The settings of a map before it is built.
 pub mod Wanted
--- what the calls leave that store many entries
+-- The effects of calls that store many entries.
 pub mod Collected
--- why a call is refused that makes a pair
+-- Why a call that stores an entry is refused.
 pub mod Limited
--- what a session shows
+-- A session as contracts see it.
 pub mod Known

@@ -1,15 +1,17 @@
--- Why a call is refused that makes a pair: for want of memory or of room, or at the map's limit
--- on pairs.
+-- Why a call that stores an entry is refused: memory or room ran out, or the map's limit on entries
+-- was reached.
 use Rattle.std.specs.Prelude.{◌≡◌, ◌⊎◌, ℕ, IsSome, Option, Some}
 use Rattle.papaya_words.specs.declared.refused.Refused.{Refused}
 use Rattle.papaya_words.specs.declared.refused.Refused.TheVariants.{Limit}
 use Rattle.papaya_map_change.specs.Writing.{IsMemoryOrCapacity}
 
--- at the limit just where so many numbers were taken for pairs
+-- The call was refused because memory or room ran out; or with `Limit`, when as many numbers for
+-- entries had been taken as the limit allows.
 abbrev pub IsWriteRefusal : (limit : Option ℕ) → (taken : ℕ) → Refused → Type 0
 IsWriteRefusal limit taken refused = IsMemoryOrCapacity refused
     ⊎ ((refused ≡ Limit) × (limit ≡ Some taken))
 
--- the same of a call that shows no log: at the limit only where there is one
+-- The same for a call whose contract does not show `taken`: it is refused with `Limit` only if the
+-- map has a limit.
 abbrev pub IsPlainRefusal : (limit : Option ℕ) → Refused → Type 0
 IsPlainRefusal limit refused = IsMemoryOrCapacity refused ⊎ ((refused ≡ Limit) × IsSome limit)

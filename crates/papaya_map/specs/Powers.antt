@@ -1,4 +1,4 @@
--- A number is a power of two in one way.
+-- A number is a power of two in at most one way.
 use Rattle.std.specs.Prelude.{◌≡◌, ℕ, ◌+◌, ◌<◌, ◌≤◌, ◌^◌}
 use Rattle.std.specs.Int.{IsPowerOfTwo}
 use Rattle.std.proofs.Common.{arith, sym, ◌∙◌, lt_of_not-le}
@@ -6,7 +6,7 @@ use mathlib.Core.HLevel.{Σ_prop_path}
 use native.Mathlib.Nat.{ℕ_set}
 use lib.Pow.{pow-lt}
 
--- a power that is no greater has no greater exponent
+-- If one power of two is no greater than another, neither is its exponent.
 exponent_le : (k j : ℕ) → 2 ^ k ≤ 2 ^ j → k ≤ j
 exponent_le k j le =
     let below : k < j + 1 = lt_of_not-le (λ (above : j + 1 ≤ k). let more : 2 ^ j < 2 ^ k = pow-lt (omega (arith, above)) in omega (arith, more, le)) in

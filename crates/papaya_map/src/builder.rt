@@ -50,8 +50,18 @@ impl<K, V, S> Model for HashMapBuilder<K, V, S> {
 
 impl<K: Hash + Eq, V> HashMap<K, V, BuildHasherDefault<FoldHasher>> {
     /// Returns a builder with the default settings: `builder` of 0.2.5. The map has no initial
-    /// capacity, resizes by [`ResizeMode::default`] and counts over [`DEFAULT_SHARDS`] shards. It
-    /// has no limit on stored entries, and its collector has number 0.
+    /// capacity, resizes by [`ResizeMode::default`], copying 64 slots at a time, and counts over
+    /// [`DEFAULT_SHARDS`] shards, 16. It has no limit on stored entries, and its collector has
+    /// number 0.
+    ///
+    /// # Examples
+    ///
+    /// ```
+    /// let map: HashMap<u64, u64> = HashMap::builder()
+    ///     .capacity(1000)
+    ///     .resize_mode(ResizeMode::Blocking)
+    ///     .build(rt, alloc)?;
+    /// ```
     pub fn builder() -> HashMapBuilder<K, V, BuildHasherDefault<FoldHasher>>
         ensures collector { result.collector ≡ 0 }
         ensures capacity { result.capacity ≡ 0 }
@@ -72,7 +82,7 @@ impl<K: Hash + Eq, V> HashMap<K, V, BuildHasherDefault<FoldHasher>> {
 }
 
 impl<K, V, S: Drop> HashMapBuilder<K, V, S> {
-    /// Sets the hasher: `hasher` of 0.2.5.
+    /// Sets the hasher, by default a `FoldHasher` with a fixed seed: `hasher` of 0.2.5.
     pub fn hasher<T>(self, hasher: T) -> HashMapBuilder<K, V, T>
         ensures { result ≡ record {
           hasher = hasher;
@@ -136,7 +146,8 @@ impl<K, V, S> HashMapBuilder<K, V, S> {
         self.collector(Collector::new(number))
     }
 
-    /// Sets the number of entries that the first table has room for: `capacity` of 0.2.5.
+    /// Sets the number of entries that the first table has room for, by default 0: `capacity` of
+    /// 0.2.5. With 0 the first change allocates a table of 32 slots.
     pub fn capacity(self, capacity: usize) -> HashMapBuilder<K, V, S>
         ensures { result ≡ record {
           hasher = self.hasher;
@@ -150,7 +161,7 @@ impl<K, V, S> HashMapBuilder<K, V, S> {
         HashMapBuilder { capacity, ..self }
     }
 
-    /// Sets how the map resizes: `resize_mode` of 0.2.5.
+    /// Sets how the map resizes, by default `Incremental(64)`: `resize_mode` of 0.2.5.
     pub fn resize_mode(self, mode: ResizeMode) -> HashMapBuilder<K, V, S>
         ensures { result ≡ record {
           hasher = self.hasher;
@@ -164,8 +175,8 @@ impl<K, V, S> HashMapBuilder<K, V, S> {
         HashMapBuilder { mode, ..self }
     }
 
-    /// Sets the number of shards of the count, which is rounded up to a power of two. 0.2.5 derives
-    /// it from the number of processors.
+    /// Sets the number of shards of the count, by default 16. It is rounded up to a power of two.
+    /// 0.2.5 derives it from the number of processors.
     pub fn shards(self, shards: usize) -> HashMapBuilder<K, V, S>
         ensures { result ≡ record {
           hasher = self.hasher;
@@ -181,7 +192,7 @@ impl<K, V, S> HashMapBuilder<K, V, S> {
 
     /// Limits how many entries the map may store, including those that were replaced or removed. A
     /// call that would store one more fails with `Refused::Limit`. After `reclaim` only the entries
-    /// of the map count. With 0 no entry is ever stored. 0.2.5 has no such limit.
+    /// that are in the map count. With 0 no entry is ever stored. 0.2.5 has no such limit.
     pub fn pair_limit(self, pairs: u64) -> HashMapBuilder<K, V, S>
         ensures { result ≡ record {
           hasher = self.hasher;
@@ -203,7 +214,9 @@ impl<K: Hash + Eq + Drop, V: Drop, S: BuildHasher + Drop> HashMapBuilder<K, V, S
     /// Builds the map: `build` of 0.2.5.
     ///
     /// # Errors
-    /// As [`HashMap::with_parts`].
+    ///
+    /// Fails with `Refused::ZeroChunk`, `Refused::Capacity` or `Refused::Memory`, as
+    /// [`HashMap::with_parts`] does.
     pub fn build<R: Wait>(self, rt: &R, alloc: Global) -> Result<HashMap<K, V, S>, Refused>
         ensures ok { IfOk result (λ map. IsAllowed self.mode self.capacity self.shards) }
         ensures made { IfOk result (IsFor self.mode self.capacity self.shards self.limit) }
@@ -227,7 +240,9 @@ impl<K: Hash + Eq + Drop, V: Drop, S: BuildHasher + Drop> HashMapBuilder<K, V, S
     /// map.
     ///
     /// # Errors
-    /// As [`seq::HashMap::with_parts`].
+    ///
+    /// Fails with `Refused::ZeroChunk`, `Refused::Capacity` or `Refused::Memory`, as
+    /// [`seq::HashMap::with_parts`] does.
     pub fn build_seq(self, alloc: Global) -> Result<seq::HashMap<K, V, S>, Refused>
         ensures ok { IfOk result (λ map. IsAllowed self.mode self.capacity self.shards
             × IsNewLimited {A = Unit {0}} self.mode self.capacity self.shards self.hasher self.limit

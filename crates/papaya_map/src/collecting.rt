@@ -29,8 +29,11 @@ impl<K: Hash + Eq + Drop, V: Drop, S: BuildHasher> HashMap<K, V, S> {
     /// an empty iterator changes nothing at all. Other calls may take effect between the entries.
     ///
     /// # Errors
-    /// As [`HashMapRef::insert_as`](crate::map::HashMapRef::insert_as) for one entry. The entries
-    /// before it are stored then, and those after it are not taken from the iterator.
+    ///
+    /// Fails with `Refused::Memory`, `Refused::Capacity` or `Refused::Limit`, as
+    /// [`HashMapRef::insert_as`](crate::map::HashMapRef::insert_as) does for one of the entries.
+    /// The entries before that one have then been stored, and those after it are not taken from the
+    /// iterator.
     pub fn extend<R: Wait, U: IntoIterator<Item = (K, V)>>(
         &self,
         rt: &R,
@@ -88,7 +91,9 @@ impl<K: Hash + Eq + Copy + Drop, V: Copy + Drop, S: BuildHasher> HashMap<K, V, S
     /// entries of another map can be passed: `map.extend_ref(rt, other.pin().iter(rt)?)`.
     ///
     /// # Errors
-    /// As [`HashMap::extend`].
+    ///
+    /// Fails with `Refused::Memory`, `Refused::Capacity` or `Refused::Limit`, as
+    /// [`HashMap::extend`] does.
     pub fn extend_ref<'a, R: Wait, U: IntoIterator<Item = (&'a K, &'a V)>>(
         &self,
         rt: &R,
@@ -152,7 +157,9 @@ impl<K: Hash + Eq + Drop, V: Drop, S: BuildHasher + Default + Drop> HashMap<K, V
     /// [`HashMap::with_hasher`], and has no table if there are no entries.
     ///
     /// # Errors
-    /// `Refused::Memory` if the map cannot be allocated; otherwise as [`HashMap::extend`].
+    ///
+    /// Fails with `Refused::Memory` if the map cannot be allocated, and otherwise as
+    /// [`HashMap::extend`] does.
     pub fn from_iter<R: Wait, U: IntoIterator<Item = (K, V)>>(
         rt: &R,
         alloc: Global,
@@ -182,8 +189,9 @@ impl<K: Hash + Eq + Drop, V: Drop> HashMap<K, V, BuildHasherDefault<FoldHasher>>
     /// keys, it has the first key and the later value.
     ///
     /// # Errors
-    /// `Refused::Memory` if there is no memory for the map or for the array; otherwise as
-    /// [`HashMap::extend`].
+    ///
+    /// Fails with `Refused::Memory` if there is no memory for the map or for the array, and
+    /// otherwise as [`HashMap::extend`] does.
     pub fn from_array<R: Wait, const N: usize>(
         rt: &R,
         alloc: Global,
@@ -218,7 +226,9 @@ impl<K: Hash + Eq, V: PartialEq, S: BuildHasher> HashMap<K, V, S> {
     /// either order, or a map with itself.
     ///
     /// # Errors
-    /// As [`HashMapRef::iter_as`](crate::map::HashMapRef::iter_as), since the iteration may first
+    ///
+    /// Fails with `Refused::Memory` or `Refused::Capacity`, as
+    /// [`HashMapRef::iter_as`](crate::map::HashMapRef::iter_as) does, since the iteration may first
     /// copy what is left to copy.
     pub fn eq<R: Wait>(&self, rt: &R, other: &HashMap<K, V, S>) -> Result<bool, Refused>
         ensures { IfErr result IsMemoryOrCapacity }
@@ -298,9 +308,10 @@ impl<K: Hash + Eq + Clone + Drop, V: Clone + Drop, S: BuildHasher + Clone + Drop
     /// A key's clone must be equal to the key. If one is not, the copy may have fewer entries.
     ///
     /// # Errors
-    /// `Refused::Memory` if an allocation fails or a clone is not made. `Refused::Capacity` if
-    /// there is no room, as for [`HashMap::with_parts`] and [`HashMap::extend`]. This map keeps its
-    /// entries then.
+    ///
+    /// Fails with `Refused::Memory` if an allocation fails or a clone is not made. Fails with
+    /// `Refused::Capacity` if there is no room, as [`HashMap::with_parts`] and [`HashMap::extend`]
+    /// do. This map then keeps its entries.
     pub fn try_clone<R: Wait>(&self, rt: &R, alloc: Global) -> Result<HashMap<K, V, S>, Refused>
         ensures made { IfOk result (λ map. (pairs : ℕ)
             × IsFor (ResizeMode.Incremental DEFAULT_CHUNK) pairs DEFAULT_SHARDS None map) }
@@ -319,11 +330,13 @@ impl<K: Hash + Eq + Clone + Drop, V: Clone + Drop, S: BuildHasher + Clone + Drop
 
     /// Rebuilds the map from clones of its entries, and frees all keys and values that it had
     /// before. It also frees those that were replaced or removed, which stay in memory until this
-    /// call. 0.2.5 frees those while the map is shared, and has no such call. Mode, limit, initial
-    /// capacity, collector and shards stay, and the hasher is a clone of the old one. The map opens
-    /// a table with room for its entries, no shorter than the initial capacity. It opens none if it
-    /// has no entries and was given no capacity. Only the entries that are kept count against the
-    /// limit, so the call does not reach it: a test shows that, and no clause states it.
+    /// call. 0.2.5 frees those while the map is shared, and has no such call.
+    ///
+    /// Mode, limit, initial capacity, collector and shards stay, and the hasher is a clone of the
+    /// old one. The map opens a table with room for its entries, no shorter than the initial
+    /// capacity. It opens none if it has no entries and was given no capacity. Only the entries
+    /// that are kept count against the limit, so the call does not reach it: a test shows that, and
+    /// no clause states it.
     ///
     /// The call takes `&mut self`, so no other thread, no pinned map and no reference to a key or a
     /// value outlasts it. A [`Pass`](crate::map::Pass) from before is of no use afterwards, since
@@ -333,8 +346,20 @@ impl<K: Hash + Eq + Clone + Drop, V: Clone + Drop, S: BuildHasher + Clone + Drop
     /// A key's clone must be equal to the key. If one is not, the map may have fewer entries then.
     ///
     /// # Errors
-    /// `Refused::Memory` if an allocation fails or a clone is not made: there must be room for the
-    /// new map beside the old one. `Refused::Capacity` as for [`HashMap::extend`].
+    ///
+    /// Fails with `Refused::Memory` if an allocation fails or a clone is not made: there must be
+    /// memory for the new map beside the old one. Fails with `Refused::Capacity` if there is no
+    /// room, as [`HashMap::extend`] does. The map is then as it was.
+    ///
+    /// # Examples
+    ///
+    /// ```
+    /// map.pin().insert(rt, 1, 10)?;
+    /// map.pin().insert(rt, 1, 11)?;
+    /// let before = map.stored(); // 2, since the old entry is still in memory
+    /// map.reclaim(rt)?;
+    /// let after = map.stored(); // 1
+    /// ```
     pub fn reclaim<R: Wait>(&mut self, rt: &R) -> Result<(), Refused>
         ensures ok { IfOk result (λ _. HasSettingsOf self.old self.new) }
         ensures hasher { IfOk result (λ _. S.is_clone self.old.begun.hasher

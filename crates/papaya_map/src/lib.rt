@@ -1,11 +1,12 @@
 //! The map that threads share: sessions, pinned maps, calls with a guard, and the builder.
-//! It uses the four `papaya_map_*` crates of calls, which build on `papaya_map_book`.
+//! It uses `papaya_map_lookup`, `papaya_map_change`, `papaya_map_scan` and `papaya_map_compute`.
 //! `papaya_set`, `papaya_json` and `papaya_reclaiming` build on it.
 //!
 //! ```
+//! let map: HashMap<u64, u64> = HashMap::new(rt, alloc)?;
 //! let mut session = Session::new(&map);
 //! session.insert(rt, 1, 10)?;
-//! let read = session.get(&1); // the map's value at some point after that insertion
+//! let value = session.get(&1); // Some(&10)
 //! ```
 //!
 //! - [`map`] has the map, and the calls of a pinned map or with a guard, a file for each kind.

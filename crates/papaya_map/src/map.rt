@@ -32,10 +32,19 @@ use std::alloc::Global;
 use std::hash::{BuildHasher, BuildHasherDefault, FoldHasher, Hash};
 use std::marker::Model;
 
-/// A map that threads share. Contracts see what is fixed when it is made: its book, hasher,
-/// resize mode and arenas, the initial capacity that sizes its first table, and its number of
-/// shards. They also see the tables that it had at once, and the history observed at that
-/// point.
+/// A hash map that threads share: `HashMap` of 0.2.5. Threads call it through a
+/// [`Session`](crate::session::Session), through a pinned map ([`HashMap::pin`]), or with a guard
+/// ([`HashMap::guard`]).
+///
+/// A replaced or removed entry stays in memory until [`HashMap::reclaim`], or until the map is
+/// dropped: 24 bytes for two `u64`s.
+///
+/// In the examples of its calls, `map` is an empty `HashMap<u64, u64>` that no other thread changes.
+/// `rt` is the runtime that `main` gets, and `alloc` is the allocator, `rt.alloc()`.
+///
+/// Contracts see what is fixed when the map is made: its book, hasher, resize mode and arenas, the
+/// initial capacity that sizes its first table, and its number of shards. They also see the tables
+/// that it had at once, and the history observed at that point.
 #[derive(Drop)]
 pub struct HashMap<K: Hash + Eq, V, S: BuildHasher = BuildHasherDefault<FoldHasher>> {
     pub(crate) alloc: Global,
@@ -64,10 +73,11 @@ impl<K: Hash + Eq, V, S: BuildHasher> Model for HashMap<K, V, S> {
     ghost invariant = { λ m. IsLegalHistory K.eq key_of (history_of m.opened.log) };
 }
 
-/// A pinned map, on which calls are made. References that it returns live as long as the map. It
-/// keeps the root table found when the map was pinned, so that calls need not look it up again.
-/// Contracts see what they see of the map, and the history that had been observed at the
-/// pin.
+/// A pinned map, on which calls are made: `HashMapRef` of 0.2.5, but without a guard. References
+/// that it returns live as long as the map, and in 0.2.5 only as long as the pin. It keeps the root
+/// table found when the map was pinned, so that calls need not look it up again.
+///
+/// Contracts see what they see of the map, and the history that had been observed at the pin.
 pub struct HashMapRef<'a, K: Hash + Eq, V, S: BuildHasher> {
     pub(crate) map: &'a HashMap<K, V, S>,
     kept: KeptRoot<'a, K, V, S>,
@@ -94,8 +104,16 @@ impl<'a, K: Hash + Eq, V, S: BuildHasher> Drop for HashMapRef<'a, K, V, S> {
 }
 
 impl<K: Hash + Eq, V, S: BuildHasher> HashMap<K, V, S> {
-    /// Pins the map, and returns the reference on which calls are made. It writes no word. It has
-    /// observed the history up to the map's creation: see [`HashMapRef::after`].
+    /// Pins the map, and returns the reference on which calls are made: `pin` of 0.2.5. It writes
+    /// no word. It has observed the history up to the map's creation: see [`HashMapRef::after`].
+    ///
+    /// # Examples
+    ///
+    /// ```
+    /// let pinned = map.pin();
+    /// let old = pinned.insert(rt, 1, 10)?; // None
+    /// let value = pinned.get(&1); // Some(&10)
+    /// ```
     #[inline]
     pub fn pin(&self) -> HashMapRef<'_, K, V, S>
         ensures map { result.map ≡ self.now }
@@ -120,12 +138,22 @@ impl<K: Hash + Eq, V, S: BuildHasher> HashMap<K, V, S> {
         self.pin()
     }
 
-    /// Returns the number of entries counted. A change is counted one step after it is made.
+    /// Returns the number of entries: `len` of 0.2.5. It adds up the shards of the count. Each
+    /// change is counted one step after it is made, so a change that another thread is making may
+    /// be counted or not.
+    ///
+    /// # Examples
+    ///
+    /// ```
+    /// map.pin().insert(rt, 1, 10)?;
+    /// map.pin().insert(rt, 1, 11)?;
+    /// let len = map.len(); // 1
+    /// ```
     pub fn len(&self) -> usize {
         self.count.sum()
     }
 
-    /// Returns whether no entries are counted.
+    /// Returns whether [`HashMap::len`] is 0: `is_empty` of 0.2.5.
     pub fn is_empty(&self) -> bool {
         self.len() == 0
     }
@@ -238,12 +266,14 @@ impl<'a, K: Hash + Eq, V, S: BuildHasher> HashMapRef<'a, K, V, S> {
         }
     }
 
-    /// Returns the number of entries counted. A change is counted one step after it is made.
+    /// Returns the number of entries: `len` of 0.2.5. It adds up the shards of the count. Each
+    /// change is counted one step after it is made, so a change that another thread is making may
+    /// be counted or not.
     pub fn len(&self) -> usize {
         self.map.len()
     }
 
-    /// Returns whether no entries are counted.
+    /// Returns whether [`HashMap::len`] is 0: `is_empty` of 0.2.5.
     pub fn is_empty(&self) -> bool {
         self.map.is_empty()
     }

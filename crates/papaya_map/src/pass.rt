@@ -21,18 +21,20 @@ use papaya_map_book::window::Window;
 use std::hash::{BuildHasher, Hash};
 use std::marker::Model;
 
-/// The part of a map's history that a caller has observed, and the caller's own changes. At run
-/// time it holds only a number, by which its calls pick a shard of the map's count. Contracts
-/// observe the history, which is legal, the changes made by this pass, oldest first, and the book
-/// of both. They see the number of slots of each table that the pass has observed, oldest
-/// first. If its last change failed with `Refused::Capacity`, they see the number that a full
-/// arena of tables gave. Or they see the sum of the map's count by which the table after one of
-/// those would be too long. For a map with a limit on entries they see how many numbers were
-/// taken for entries.
+/// The part of a map's history that a caller has observed, and the caller's own changes. 0.2.5 has
+/// no such type. At run time it holds only a number, by which its calls pick a shard of the map's
+/// count.
 ///
 /// Each call by a pass takes effect after all that the pass had observed before. Afterwards the
 /// pass has observed the call's own point in time. A call that changes the map makes one change by
 /// its pass, and any other call makes none.
+///
+/// Contracts see the history, which is legal, the changes made by this pass, oldest first, and the
+/// book of both. They see the number of slots of each table that the pass has observed, oldest
+/// first. If its last change failed with `Refused::Capacity`, they see the number that a full arena
+/// of tables gave. Or they see the sum of the map's count by which the table after one of those
+/// would be too long. For a map with a limit on entries they see how many numbers were taken for
+/// entries.
 #[derive(Drop)]
 pub struct Pass<K: Hash + Eq, V, S: BuildHasher> {
     pub(crate) number: Option<u64>,

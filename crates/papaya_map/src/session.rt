@@ -21,16 +21,16 @@ use papaya_words_keys::guard::Guard;
 use std::hash::{BuildHasher, BuildHasherDefault, FoldHasher, Hash};
 use std::marker::Model;
 
-/// One thread's access to a map: the pinned map, and a pass of it. Contracts see what is fixed
-/// of the map, the observed history, and the changes that this session made, oldest first. They
-/// observe the number of slots of each table that the session has observed. If the last change
-/// failed with `Refused::Capacity`, they see the number that a full arena of tables gave, or
-/// the sum of the map's count. If the map has a limit on entries, they see how many numbers
-/// were taken for entries.
+/// One thread's access to a map: a pinned map, and a pass of it. 0.2.5 has no such type. Each call
+/// takes effect after all that the session had observed before, and afterwards the session has
+/// observed the call's own point in time. So a thread reads its own writes: the map had what the
+/// thread reads at some point after them.
 ///
-/// Each call takes effect after all that the session had observed before. Afterwards the session
-/// has observed the call's own point in time. So a thread reads its own writes: the map had what it
-/// reads at some point after them.
+/// Contracts see what is fixed of the map, the observed history, and the changes that this session
+/// made, oldest first. They see the number of slots of each table that the session has observed. If
+/// the last change failed with `Refused::Capacity`, they see the number that a full arena of tables
+/// gave, or the sum of the map's count. If the map has a limit on entries, they see how many
+/// numbers were taken for entries.
 #[derive(Drop)]
 pub struct Session<'a, K: Hash + Eq, V, S: BuildHasher = BuildHasherDefault<FoldHasher>> {
     map: HashMapRef<'a, K, V, S>,
@@ -59,6 +59,15 @@ impl<'a, K: Hash + Eq, V, S: BuildHasher> Session<'a, K, V, S> {
     /// Returns a session of this map, in the place of `pin` of 0.2.5. It has observed no change
     /// yet: each history of a map begins as that of the empty one. The map's collector numbers its
     /// pass by one addition; no word of a table is written.
+    ///
+    /// # Examples
+    ///
+    /// ```
+    /// let map: HashMap<u64, u64> = HashMap::new(rt, alloc)?;
+    /// let mut session = Session::new(&map);
+    /// session.insert(rt, 1, 10)?;
+    /// let value = session.get(&1); // Some(&10)
+    /// ```
     pub fn new(map: &'a HashMap<K, V, S>) -> Session<'a, K, V, S>
         ensures map { result.map ≡ map.now }
         ensures new { result.history ≡ [] }
@@ -93,13 +102,13 @@ impl<'a, K: Hash + Eq, V, S: BuildHasher> Session<'a, K, V, S> {
         self.map.after(&self.pass)
     }
 
-    /// Returns the number of entries counted: `len` of 0.2.5. A change is counted one step after it
-    /// is made.
+    /// Returns the number of entries: `len` of 0.2.5. Each change is counted one step after it is
+    /// made, so a change that another thread is making may be counted or not.
     pub fn len(&self) -> usize {
         self.map.len()
     }
 
-    /// Returns whether no entries are counted.
+    /// Returns whether [`Session::len`] is 0: `is_empty` of 0.2.5.
     pub fn is_empty(&self) -> bool {
         self.map.is_empty()
     }

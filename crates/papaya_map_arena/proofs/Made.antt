@@ -1,4 +1,4 @@
--- A token of a log is made of what it shows and its bytes. Assumes `Logic`.
+-- A token of the arena is made of what contracts see of it and of its bytes. Assumes `Logic`.
 use Rattle.std.proofs.Common.{◌≡◌, ℕ, ◌^◌, ◌<◌, List, [], ◌∷◌, refl, ap, subst, w64}
 use seplogic.Ra.Ura.{Ura}
 use mir.Val.{Val, vint, vstruct, of_list, vcons, vnil}

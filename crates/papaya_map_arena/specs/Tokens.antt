@@ -1,4 +1,4 @@
--- What a token of a log owns, without its bytes.
+-- The resources that a token of the arena owns, apart from its bytes.
 use Rattle.std.specs.Prelude.{◌≡◌}
 use base.Fml.{Fml, fsep, fex}
 use denote.RattleType.{RattleType}
@@ -18,11 +18,11 @@ token_row R = Pushed.the_row R
 abbrev pub fields_row : RattleType → RattleType
 fields_row R = Inside.the_row R
 
--- the row that a slot lies in
+-- The type of the row that has a slot.
 abbrev pub row_row : RattleType → RattleType
 row_row R = Vec.the_row (Slot.the_row R) Global.the_row GlobalAllocator.ghosts
 
--- the private fields of a token that shows this, and what holds of them
+-- The private fields of a token that contracts see as `w`, and what holds of them.
 abbrev pub Fields : (R : RattleType) → Where R.Denot → Type 0
 Fields R w = (a : (fields_row R).Denot) × ((record {
   index = a.number;

@@ -1,4 +1,4 @@
--- An exchange with which a table comes keeps the rule: it takes the pen of the table's seal, so no other table has a word of it.
+-- An exchange that brings in a table preserves the rule: it uses up the pen of the table's seal, so no other table has a word of it.
 use Rattle.std.proofs.Common.{◌≡◌, ◌≢◌, ◌⊎◌, inl, inr, ⊎_elim, ℕ, ◌+◌, ◌-◌, ◌<◌, ◌≤◌, ◌==◌, Bool}
 use Rattle.std.proofs.Common.{true, false, MatchBool, Option, None, Some, List, [], ◌∷◌, ◌++◌}
 use Rattle.std.proofs.Common.{length, slice_get, slice_set, refl, sym, ap, ◌∙◌, subst, arith}

@@ -1,4 +1,4 @@
--- A number with a byte of 0, to which another byte is added there: its bytes, and that it has no more of them.
+-- A number with a byte of 0, and another byte added there: the bytes of the sum, which has no further ones.
 use Rattle.std.proofs.Common.{◌≡◌, ◌≢◌, ⊎_elim, ℕ, ◌+◌, ◌*◌, ◌/◌, ◌%◌, ◌^◌, ◌-◌, ◌<◌, sym, ap, ◌∙◌, subst, arith}
 use Rattle.std.proofs.lemmas.Bool.{cases_order}
 use Rattle.std.proofs.lemmas.Nat.{div-add-mod', div-mul-add, field_of, mod-mul-add, mod_below, mul-add-lt, pow-add, pow_pos, shr-shr, shr_below}

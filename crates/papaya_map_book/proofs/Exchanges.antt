@@ -1,4 +1,4 @@
--- An exchange of a word keeps the rule, whatever its kind, and tells what was exchanged.
+-- An exchange of a word preserves the rule, whatever its kind, and returns what was exchanged.
 use Rattle.std.proofs.Common.{◌≡◌, ◌≢◌, inl, inr, ⊎_elim, ℕ, ◌+◌, ◌<◌, ◌≤◌, ◌==◌, Bool, true, false}
 use Rattle.std.proofs.Common.{Option, None, Some, List, [], ◌∷◌, ◌++◌, length, slice_set, refl, sym}
 use Rattle.std.proofs.Common.{ap, ◌∙◌, subst, arith, length-set}

@@ -1,4 +1,4 @@
--- A load that looks for a table by its number leaves the book as it is, and tells the table.
+-- A load that looks for a table by its number leaves the book the same, and returns the table.
 use Rattle.std.proofs.Common.{◌≡◌, inr, inl, ℕ, Bool, true, Option, None, Some, List, [], ◌∷◌, ◌++◌, refl, sym, ap, ◌∙◌, subst}
 use Rattle.std.proofs.lemmas.List.{append-nil}
 use mathlib.Core.List.{IsPrefix}

@@ -1,4 +1,4 @@
--- What a word that was found says of the pair or the table that it names.
+-- A word that was found, and the pair or the table that it names.
 use Rattle.std.proofs.Common.{◌≡◌, ◌≢◌, ◌⊎◌, inl, inr, ⊎_elim, ℕ, ◌<◌, ◌==◌, true, Option, None, Some, List, [], ◌∷◌, map, refl, sym, ap, ◌∙◌, subst, arith}
 use Rattle.std.proofs.lemmas.Bool.{cond-true}
 use Rattle.boxcar.specs.Table.{Where}

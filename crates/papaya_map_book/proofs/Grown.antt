@@ -1,4 +1,4 @@
--- The log after one more exchange with which no table comes: it keeps to the rule.
+-- The log after one more exchange that brings in no table: it satisfies the rule.
 use Rattle.std.proofs.Common.{◌≡◌, ◌⊎◌, inl, inr, ⊎_elim, ℕ, ◌<◌, Bool, true, false, cond, Option}
 use Rattle.std.proofs.Common.{None, Some, List, [], ◌∷◌, ◌++◌, slice_get, refl, sym, ap, ◌∙◌, subst}
 use Rattle.std.proofs.Common.{arith}

@@ -1,4 +1,4 @@
--- What was a hint of a slot is one for good, so what the rule says of a slot's hint is true by now.
+-- A hint of a slot stays one for good, so the rule for a slot's hint holds of it now.
 use Rattle.std.proofs.Common.{◌≡◌, ◌≢◌, inl, inr, ⊎_elim, ℕ, ◌+◌, ◌*◌, ◌%◌, ◌^◌, ◌<◌, Bool, true, List, [], ◌∷◌, ◌++◌, Some, refl, sym, ap, ◌∙◌, subst}
 use Rattle.std.proofs.Math.Nat.{zero-div}
 use Rattle.std.proofs.lemmas.Bool.{cases_eq}

@@ -1,4 +1,5 @@
--- The setting in which a table comes next: it says of the tables that have come what the log's setting says, and how many words for chunks this one has.
+-- The setting in which a table is brought in next: it agrees with the log's setting on the tables in the log, and has this table's number of words
+-- for chunks.
 use Rattle.std.proofs.Common.{◌≡◌, ⊎_elim, ℕ, ◌==◌, Bool, true, cond, None, Some, List, [], ◌∷◌, ◌++◌, length, map, refl, sym, ap, ◌∙◌, eq-eqb, eqb-true}
 use Rattle.std.proofs.lemmas.Bool.{cases_Bool, cond-true, cond-false}
 use Rattle.std.proofs.lemmas.List.{map-append}

@@ -1,4 +1,4 @@
--- A root that was kept: its table is the root's as long as the number is.
+-- A root that was kept: its table is the root's as long as the number is the same.
 use Rattle.std.proofs.Common.{◌≡◌, ℕ, Option, None, Some, List, sym, ◌∙◌, subst}
 use mathlib.Core.List.{IsPrefix}
 use denote.Bor.{Bor}

@@ -1,4 +1,4 @@
--- How many slots the tables have that came: a longer log names them too, and a table that has come is among them.
+-- The numbers of slots of the tables in a log: a longer log has them too, and each table in the log is among them.
 use Rattle.std.proofs.Common.{◌≡◌, ◌⊎◌, inl, inr, ⊎_elim, ℕ, ◌==◌, Option, None, Some, List, [], ◌∷◌, ◌++◌, length, refl, sym, ap, ◌∙◌, append_assoc, subst}
 use Rattle.std.proofs.lemmas.Bool.{cases_Bool, cond-true, cond-false}
 use mathlib.Core.List.{IsPrefix}

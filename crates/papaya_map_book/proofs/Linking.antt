@@ -1,4 +1,4 @@
--- A table that is linked has come under no number yet: all that have come are on the chain, whose last one has a smaller number.
+-- A table that is linked has a number that no table in the log has: all of these are on the chain, whose last one has a smaller number.
 use Rattle.std.proofs.Common.{◌≡◌, inl, inr, ⊎_elim, ℕ, zero, suc, ◌<◌, ◌≤◌, ◌==◌, Bool, true}
 use Rattle.std.proofs.Common.{Option, None, Some, List, [], ◌∷◌, ◌++◌, length, map, refl, ap, ◌∙◌}
 use Rattle.std.proofs.Common.{subst, arith}

@@ -1,4 +1,4 @@
--- What a load of the root or of a slot tells of the table or the pair that is named.
+-- A load of the root or of a slot, and the table or the pair that the word names.
 use Rattle.std.proofs.Common.{refl, ◌≡◌, ◌≢◌, ◌⊎◌, inl, inr, ⊎_elim, ℕ, ◌+◌, ◌^◌, ◌<◌, Bool, Option, None, Some, List, slice_get, sym, ap, ◌∙◌}
 use Rattle.boxcar.specs.Table.{Where, Shows}
 use Rattle.logbook.specs.Pages.{Book}

@@ -1,4 +1,4 @@
--- A load leaves the book as it is, and tells what stands there.
+-- A load leaves the book the same, and returns the word at the place.
 use Rattle.std.proofs.Common.{◌≡◌, ℕ, true, false, None, Some, List, [], ◌++◌, slice_set, inl, inr, refl, sym, ap, ◌∙◌, subst, Bool}
 use Rattle.std.proofs.lemmas.List.{append-nil, set-get_or}
 use mathlib.Core.List.{IsPrefix}

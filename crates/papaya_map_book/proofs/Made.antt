@@ -1,4 +1,4 @@
--- A token of a vector is made of what it shows and its bytes. Assumes `Logic`.
+-- A token of a vector is made of what contracts see of it and of its bytes. Assumes `Logic`.
 use Rattle.std.proofs.Common.{◌≡◌, ℕ, ◌^◌, ◌<◌, List, [], ◌∷◌, refl, ap, subst, w64}
 use Rattle.boxcar.proofs.Spans.{one_bucket, one_slot}
 use seplogic.Ra.Ura.{Ura}

@@ -1,4 +1,4 @@
--- Steps on the makers' word keep the rule: a seal is added and words are dealt for it, or the book is told its name.
+-- Steps on the makers' word preserve the rule: a seal is added and words are dealt for it, or the book learns its name.
 use Rattle.std.proofs.Common.{◌≡◌, ◌≢◌, ◌⊎◌, inl, inr, ⊎_elim, ℕ, ◌+◌, ◌-◌, ◌<◌, ◌≤◌, ◌==◌, Bool}
 use Rattle.std.proofs.Common.{true, false, Option, None, Some, List, [], ◌∷◌, ◌++◌, length, map}
 use Rattle.std.proofs.Common.{replicate, slice_set, slice_get, zero, suc, refl, sym, ap, ◌∙◌, subst}

@@ -1,4 +1,4 @@
--- What a word names came into the book some time.
+-- The pair or the table that a word names was brought into the book by some event.
 use Rattle.std.proofs.Common.{◌≡◌, ◌⊎◌, inl, inr, ⊎_elim, ℕ, Option, None, Some, List, [], ◌∷◌, map, refl, sym, ap, ◌∙◌}
 use Rattle.boxcar.specs.Table.{Where}
 use Rattle.papaya_call.specs.declared.ask.At.{At}

@@ -1,4 +1,4 @@
--- Offers over a book that keeps what shows its pairs and tables, and its row of words. Assumes `Logic`.
+-- Offers over a book that keeps the resources which show its pairs and tables, and its row of words. Assumes `Logic`.
 use Rattle.std.proofs.Common.{◌≡◌, ℕ, zero, suc, ◌+◌, ◌-◌, ◌≤◌, inl, inr, Option, None, Some, List, [], ◌∷◌, ◌++◌, refl, sym, subst, arith}
 use seplogic.Ra.Ura.{Ura}
 use base.Logic.{SProp, ent, sep, wand, all, upd, emp, id⊢, via, all_i, upd_i}

@@ -1,4 +1,4 @@
--- What the log says after a table was tried to be opened.
+-- The log after an attempt to open a table.
 use Rattle.std.proofs.Common.{◌≡◌, ⊎_elim, ℕ, ◌==◌, Bool, true, false, MatchBool, Option, None, Some, List, [], ◌∷◌, ◌++◌, refl, sym, ap, ◌∙◌, subst}
 use Rattle.std.proofs.lemmas.Bool.{cases_Bool, cond-true, eqb-true, eqb-false}
 use Rattle.boxcar.specs.Table.{Where}

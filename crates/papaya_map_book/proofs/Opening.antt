@@ -1,4 +1,4 @@
--- The first log and words of a book keep the rule.
+-- The first log and the first words of a book satisfy the rule.
 use Rattle.std.proofs.Common.{◌≡◌, ◌⊎◌, inl, inr, ℕ, ◌<◌, zero, suc, ◌≤◌, true, None, Some}
 use Rattle.std.proofs.Common.{[], ◌∷◌, replicate, refl, sym, ap, ◌∙◌, subst, ⊎_elim, Bool}
 use Rattle.std.proofs.Common.{false, ◌+◌, arith}

@@ -1,4 +1,4 @@
--- The setting of a log is a lawful one of keys that are looked for by their hash, and a longer log's says the same of the tables that came.
+-- The setting of a log is lawful and finds keys by their hash, and that of a longer log agrees with it on the tables in the log.
 use Rattle.std.proofs.Common.{◌≡◌, ℕ, ◌%◌, ◌^◌, Bool, true, Option, List, ◌++◌, refl, sym, ap, ◌∙◌, subst, arith}
 use Rattle.std.specs.Cmp.{IsEquivalence}
 use Rattle.std.proofs.Math.Nat.{mod-lt}

@@ -1,4 +1,4 @@
--- The size of a table that came, as its sheet says it and as the setting of the log does.
+-- The size of a table in the log, by its sheet and by the setting of the log.
 use Rattle.std.proofs.Common.{◌≡◌, ◌⊎◌, inl, inr, ⊎_elim, ℕ, ◌+◌, ◌<◌, ◌==◌, Bool, true, false}
 use Rattle.std.proofs.Common.{cond, Option, None, Some, List, [], ◌∷◌, length, map, refl, sym, ap}
 use Rattle.std.proofs.Common.{◌∙◌, subst, arith}

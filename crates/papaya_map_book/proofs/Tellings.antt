@@ -1,4 +1,4 @@
--- What a step tells, as the calls of a book say it.
+-- The result of a step, as the contracts of a book's calls state it.
 use Rattle.std.proofs.Common.{◌≡◌, ℕ, Bool, Option, Some, List, [], ◌∷◌, ◌++◌, sym, ap, ◌∙◌, subst}
 use mathlib.Core.List.{IsPrefix}
 use Rattle.papaya_call.specs.declared.ask.At.{At}

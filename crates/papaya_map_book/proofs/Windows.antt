@@ -1,4 +1,4 @@
--- What is seen goes on from step to step.
+-- The log that has been observed grows from step to step.
 use Rattle.std.proofs.Common.{◌≡◌, sym, ap, ◌∙◌}
 use Rattle.papaya_map_book.specs.declared.keyed.Keyed as keyed
 use Rattle.papaya_map_book.specs.declared.window.Window.{Window}

@@ -1,4 +1,4 @@
--- The words of a table that has come: their keys, and the book that they are of. And what was tried since.
+-- The words of a table in the log: their keys, and the book to which they belong. Also what was tried since.
 use Rattle.std.proofs.Common.{◌≡◌, ℕ, Bool, Option, Some, List, [], ◌∷◌, slice_get, sym, ap, ◌∙◌, subst}
 use mathlib.Core.List.{IsPrefix}
 use Rattle.logbook.specs.Pages.{Book, Named as Word}

@@ -1,4 +1,4 @@
--- What the calls of a book hold and tell, by the keys of the map and the book itself.
+-- The calls of a book: what they hold and return, by the keys of the map and the book itself.
 use Rattle.std.specs.Prelude.{◌≡◌, ◌+◌, ◌<◌, ◌^◌, ◌==◌, ℕ, cond, false, Option, None, Some, List}
 use denote.Bor.{Bor}
 use Rattle.logbook.specs.Pages.{nib, may_write}
@@ -24,27 +24,27 @@ use Rattle.papaya_map_book.specs.Rule as rule
 use Rattle.papaya_map_book.specs.Sheets.{Sheet}
 
 module _ {K V S H : Type 0} (book : Book K V S H) where
-  -- what is named lies in the logs of the book
+  -- The pair or the table is stored in the arenas of the book.
   abbrev pub IsIn : Named K V → Type 0
   IsIn = rule.IsPlaced (begun_of book.parts) (Some book.begun.book)
 
-  -- the pair lies in the log, with this key and this value, and its number fits a word
+  -- The pair is stored in the arena with this key and this value, and its number fits in a word.
   pub record IsLoggedAs (key : K) (value : V) (q : Stored K V) : Type 0 where
     pub placed : IsIn (names.Pair q)
     pub key_is : q.value.key.value ≡ key
     pub value_is : q.value.value ≡ value
     pub number : q.index < 2 ^ 48
 
-  -- the pen of the table's seal
+  -- The pen of the table's seal.
   abbrev pub Seals : Pen → Sheet → Type 0
   Seals pen sheet = (pen.book ≡ book.begun.book) × (pen.nib ≡ nib may_write sheet.seal 0)
 
--- the pen is left where another word was found
+-- The pen is of the same book, and has the same nib if another word was found.
 abbrev pub IsLeft : (old new : Pen) → (found expected : ℕ) → Type 0
 IsLeft old new found expected = (new.book ≡ old.book)
     × ((found == expected) ≡ false → new.nib ≡ old.nib)
 
--- the number of the root once this table was tried to be opened, where this number was found
+-- The number of the root after an attempt to open this table, which found the number `found`.
 abbrev pub root_then : Where Sheet → ℕ → ℕ
 root_then table found = cond (found == 0) (table.index + 1) found
 
@@ -52,14 +52,14 @@ module _ {K V S H : Type 0} (keys : Keys K S) (book : Book K V S H) where
   abbrev pub IsLawfulLog : List (Event K V S) → Type 0
   IsLawfulLog = rule.IsLawfulLog keys.eq keys.hash (begun_of book.parts)
 
-  -- the word that stands at a place, and what it names
+  -- The word at a place, and what it names.
   abbrev pub IsRead : At → ℕ → List (Event K V S) → Option (Named K V) → Type 0
   IsRead = calls.IsRead keys.eq keys.hash (begun_of book.parts)
 
   abbrev pub IsRoot : ℕ → List (Event K V S) → Option (Bor Sheet) → Type 0
   IsRoot = calls.IsRoot keys.eq keys.hash (begun_of book.parts) book.begun.book
 
-  -- an exchange with which nothing comes
+  -- An exchange that brings nothing in.
   abbrev pub CanTry : Wish K V → (old new : ℕ) → List (Event K V S) → Type 0
   CanTry wish old new = plays.CanExchange keys.eq keys.hash (begun_of book.parts) wish.at wish.kind
       old new wish.kept.now names.Nothing
@@ -69,7 +69,7 @@ module _ {K V S H : Type 0} (keys : Keys K S) (book : Book K V S H) where
   Tries wish old new = calls.IsTried keys.eq keys.hash (begun_of book.parts) wish.at wish.kind old
       new wish.kept.now names.Nothing
 
-  -- an exchange with which the pair comes that the call has made
+  -- An exchange that brings in the pair that the call has made.
   abbrev pub CanPut : PutWish K V → (old new : ℕ) → List (Event K V S) → Type 0
   CanPut put old new = plays.CanExchange keys.eq keys.hash (begun_of book.parts) put.at put.kind old
       new (Some put.made.now) (names.Pair put.made.now)
@@ -79,7 +79,7 @@ module _ {K V S H : Type 0} (keys : Keys K S) (book : Book K V S H) where
   Puts put old new = calls.IsTried keys.eq keys.hash (begun_of book.parts) put.at put.kind old new
       (Some put.made.now) (names.Pair put.made.now)
 
-  -- an exchange with which the table comes
+  -- An exchange that brings in the table.
   abbrev pub CanBring : Laying K V S H → (old new : ℕ) → List (Event K V S) → Type 0
   CanBring laying old new = makers.CanBring keys.eq keys.hash (begun_of book.parts) laying.at
       laying.kind old new None laying.table.now
@@ -89,7 +89,7 @@ module _ {K V S H : Type 0} (keys : Keys K S) (book : Book K V S H) where
   Brings laying old new = calls.IsTried keys.eq keys.hash (begun_of book.parts) laying.at
       laying.kind old new None (names.Table laying.table.now)
 
-  -- an exchange that makes the table the root, if there is none
+  -- An exchange that makes the table the root, if there is none.
   abbrev pub Opens : Where Sheet → List (Event K V S) → ℕ → List (Event K V S) → Option (Named K V)
       → Type 0
   Opens table = calls.IsTried keys.eq keys.hash (begun_of book.parts) Root (Some Open) 0

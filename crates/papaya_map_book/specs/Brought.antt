@@ -1,4 +1,4 @@
--- Where a pair's key and its value lie, as clauses see it.
+-- The places where a pair's key and its value are stored, as contracts see them.
 use Rattle.std.specs.Prelude.{◌≡◌, None, Some}
 use Rattle.papaya_map_book.specs.Pairs.{Pair}
 use Rattle.papaya_map_book.specs.declared.rule.pair.Held.{Held}
@@ -21,14 +21,14 @@ pair_held (Both w u) = record {
   value = u.value.value;
   value_at = Some (u.bucket, u.row);
 }
--- no log has anything at bucket 38
+-- No arena has a bucket 38.
 pair_held (Blank n) = record {
   key = record { value = n.key; at = Some (38, 1) };
   value = n.value;
   value_at = Some (38, 1);
 }
 
--- where a key or a value lies at another pair, that one brought it
+-- If the key or the value is stored at another pair, then that pair brought it.
 abbrev pub IsBrought : {K V : Type 0} → Held K V → Type 0
 IsBrought (Own k v) = Unit {0}
 IsBrought (Keyed w v) = w.value.key.at ≡ None

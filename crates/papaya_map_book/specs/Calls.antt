@@ -1,4 +1,4 @@
--- What the calls of a book tell, where it was opened with b.
+-- The results of the calls of a book that was opened with `b`.
 use Rattle.std.specs.Prelude.{◌≡◌, ◌⊎◌, ℕ, ◌==◌, Bool, MatchBool, MatchOption, Option, None, Some, List, [], ◌∷◌, ◌++◌}
 use mathlib.Core.List.{IsPrefix}
 use denote.Bor.{Bor}
@@ -21,45 +21,47 @@ use Rattle.papaya_map_book.specs.Logs.{Stored, pair_named, state_of, steps_of, t
 use Rattle.papaya_map_book.specs.Plays.{IsMeant}
 use Rattle.papaya_map_book.specs.Rule.{IsLawfulLog, IsPlaced, word_in}
 
--- the pair of a token that is lent, if there is one
+-- The pair of a token that is lent, if there is one.
 abbrev pub pair_seen : {P : Type 0} → Option (Bor P) → Option P
 pair_seen None = None
 pair_seen (Some r) = Some r.now
 
--- the table of this number has come, and it is this one
+-- The table `t` is in the log, and it is `sheet`.
 abbrev pub IsTable : {K V S : Type 0} → List (Event K V S) → ℕ → Sheet → Type 0
 IsTable log t sheet = (w : Where Sheet) × (table_in (steps_of log) t ≡ Some w) × (w.value ≡ sheet)
 
--- the table of this number has come
+-- The table `t` is in the log.
 abbrev pub HasCome : {K V S : Type 0} → List (Event K V S) → ℕ → Type 0
 HasCome log t = (w : Where Sheet) × (table_in (steps_of log) t ≡ Some w)
 
--- the table of this number has come, and it is of the book; or there is none, and the number is 0
+-- The table of the number `found` is in the log and belongs to this book; or there is no table, and
+-- the number is 0.
 abbrev pub IsTableOf : {K V S : Type 0} → Book → ℕ → List (Event K V S) → Option (Bor Sheet)
     → Type 0
 IsTableOf name found log table = MatchOption table (found ≡ 0)
     (λ r. IsTable log found r.now × (r.now.book ≡ name))
 
--- where the word is a pair's, the pair that it names was told, and has its number
+-- If the word names a pair, that pair is `state`, and the word has its number.
 abbrev pub NamesPair : {K V : Type 0} → ℕ → Option (Named K V) → Type 0
 NamesPair {K} {V} found state = (kind_of found ≡ word_kinds.Empty → ⊥)
     → (kind_of found ≡ word_kinds.Closed → ⊥) → (p : Stored K V) × (state ≡ Some (names.Pair p))
     × (pair_of found ≡ p.index)
 
 module _ {K V S : Type 0} (eq : K → K → Bool) (hash : S → K → ℕ) (b : Begun K V S) where
-  -- the word that stands at a place after the log, and what it names
+  -- After the log, `found` is the word at this place, and `state` is what it names.
   pub record IsRead (at : At) (found : ℕ) (log : List (Event K V S))
       (state : Option (Named K V)) : Type 0 where
     pub lawful : IsLawfulLog eq hash b log
     pub is : word_in eq hash b log at ≡ found
     pub state_is : state ≡ Some (word_names (steps_of log) (state_of log) at)
 
-  -- the word that stands at a place after the log
+  -- After the log, `found` is the word at this place.
   pub record IsWord (at : At) (found : ℕ) (log : List (Event K V S)) : Type 0 where
     pub lawful : IsLawfulLog eq hash b log
     pub is : word_in eq hash b log at ≡ found
 
-  -- an exchange was made after a log that goes on from what was seen, or another word was found
+  -- An exchange was tried at a log that extends `seen`: it succeeded and is the next step, or it
+  -- found another word.
   pub record IsTried (at : At) (kind : Option StepKind) (old new : ℕ) (made : Option (Stored K V))
       (brings : Named K V) (seen : List (Event K V S)) (found : ℕ) (log : List (Event K V S))
       (state : Option (Named K V)) : Type 0 where
@@ -73,7 +75,7 @@ module _ {K V S : Type 0} (eq : K → K → Bool) (hash : S → K → ℕ) (b : 
         × IsMeant eq hash at kind new made brings before e × (log ≡ before ++ Stepped e ∷ []))
         (log ≡ before)
 
-  -- the word of a slot, and the pair that it names, which lies in the logs
+  -- `found` is the word of this slot, and `pair` is what it names, which is stored in the arena.
   pub record IsSlot (name : Book) (t x found : ℕ) (log : List (Event K V S))
       (pair : Option (Stored K V)) : Type 0 where
     pub lawful : IsLawfulLog eq hash b log
@@ -81,29 +83,30 @@ module _ {K V S : Type 0} (eq : K → K → Bool) (hash : S → K → ℕ) (b : 
     pub names : named ((state_of log).slot t x) ≡ pair
     pub placed : IsPlaced b (Some name) (pair_named pair)
 
-  -- the word of a slot, and what tells the pair that it names, which lies in the logs
+  -- `found` is the word of this slot, and `state` has the pair that it names, which is stored in
+  -- the arena.
   pub record IsSlotWord (name : Book) (t x found : ℕ) (log : List (Event K V S))
       (state : Option (Named K V)) : Type 0 where
     pub read : IsRead (Slot t x) found log state
     pub some : NamesPair found state
     pub placed : IsPlaced b (Some name) (pair_named (named ((state_of log).slot t x)))
 
-  -- the number of the root, and its table
+  -- `found` is the number of the root, and `table` is that table.
   pub record IsRoot (name : Book) (found : ℕ) (log : List (Event K V S))
       (table : Option (Bor Sheet)) : Type 0 where
     pub lawful : IsLawfulLog eq hash b log
     pub is : (state_of log).root ≡ found
     pub names : IsTableOf name found log table
 
-  -- the number of the table after t, and that table
+  -- `found` is the number of the table after `t`, and `table` is that table.
   pub record IsNext (name : Book) (t found : ℕ) (log : List (Event K V S))
       (table : Option (Bor Sheet)) : Type 0 where
     pub lawful : IsLawfulLog eq hash b log
     pub is : (state_of log).next t ≡ found
     pub names : IsTableOf name found log table
 
-  -- An exchange of a slot was tried, and this is the pair that the slot named before. It lies in
-  -- the logs.
+  -- An exchange of a slot was tried. `pair` is what the slot named before, and is stored in the
+  -- arena.
   pub record IsSlotTried (name : Book) (t x : ℕ) (kind : Option StepKind) (old new : ℕ)
       (made : Option (Stored K V)) (brings : Named K V) (seen : List (Event K V S)) (found : ℕ)
       (log : List (Event K V S)) (pair : Option (Stored K V)) : Type 0 where
@@ -112,7 +115,7 @@ module _ {K V S : Type 0} (eq : K → K → Bool) (hash : S → K → ℕ) (b : 
     pub names : named ((state_of tried.before).slot t x) ≡ pair
     pub placed : IsPlaced b (Some name) (pair_named pair)
 
--- the pair of a word, if the word is a pair's
+-- `pair` is the pair that the word names, if it names one.
 pub record IsPairOf {K V : Type 0} (found : ℕ) (state : Option (Named K V))
     (pair : Option (Stored K V)) : Type 0 where
   pub none : (kind_of found ≡ word_kinds.Empty) ⊎ (kind_of found ≡ word_kinds.Closed) → pair ≡ None

@@ -1,4 +1,4 @@
--- What a load tells that looks for a table by its number.
+-- The result of a load that looks for a table by its number.
 use Rattle.std.specs.Prelude.{◌≡◌, ℕ, Bool, Option, Some, List}
 use Rattle.logbook.specs.Pages.{View, Step as Book_step}
 use Rattle.papaya_map_book.specs.declared.rule.entry.Begun.{Begun}
@@ -9,7 +9,7 @@ use Rattle.papaya_map_book.specs.Makers.{table_of}
 use Rattle.papaya_map_book.specs.Rule.{IsLawfulLog}
 
 module _ {K V S : Type 0} (eq : K → K → Bool) (hash : S → K → ℕ) where
-  -- it tells the table of the number, if that has come
+  -- The load returns the table of this number, if that is in the log.
   pub record Fetched (t : ℕ) (log : List (Event K V S)) (state : Option (Named K V)) : Type 0 where
     pub begun : Begun K V S
     pub lawful : IsLawfulLog eq hash begun log

@@ -1,4 +1,4 @@
--- The hash of a key, as the 64 bits that it has.
+-- The hash of a key, cut to 64 bits.
 use Rattle.std.specs.Prelude.{ℕ, ◌%◌, ◌^◌, List}
 use Rattle.papaya_words_keys.specs.Hashes.{hash_of as whole_hash_of}
 

@@ -1,4 +1,4 @@
--- what a clause sees of a pair, of a table, of a token, and of a key's hash
+-- A pair, a table, a token and a key's hash, as contracts see them.
 pub mod Pairs
 pub mod Brought
 pub mod PairParts
@@ -6,12 +6,12 @@ pub mod Sheets
 pub mod Tokens
 pub mod Hashes
 pub mod Keys
--- the log, the rule of the book, and what the book keeps beside the log
+-- The log, the rule of the book, and what the book keeps beside the log.
 pub mod Logs
--- the row of words that tables are made of
+-- The row of words that tables are made of.
 pub mod Rows
 pub mod Rule
--- what the rule says of hints
+-- The book's rule for hints.
 pub mod Hinted
 pub mod Plays
 pub mod Makers
@@ -19,11 +19,11 @@ pub mod Fetches
 pub mod Offer
 pub mod Own
 pub mod Limits
--- how a map resizes
+-- How a map resizes.
 pub mod Modes
 pub mod Parts
 pub mod Calls
--- the same by the keys of the map and the book
+-- The same definitions by the keys of the map and the book.
 pub mod Books
--- what a call sees of a map
+-- A map as a call observes it.
 pub mod Windows

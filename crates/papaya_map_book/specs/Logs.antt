@@ -1,5 +1,5 @@
--- What a log says: its exchanges, with the setting that they make; the tables that came, with their
--- words' keys; and for which tables words of the row were dealt.
+-- The contents of a log: its exchanges, with the setting that they make; the tables that were
+-- brought in, with the keys of their words; and the tables for which words of the row were dealt.
 use Rattle.std.specs.Prelude.{◌≡◌, ◌⊎◌, ℕ, ◌+◌, ◌-◌, ◌==◌, Bool, true, false, cond, Option, None, Some, List, [], ◌∷◌, ◌++◌, length, map, replicate, slice_get}
 use Rattle.boxcar.specs.Table.{Where}
 use Rattle.logbook.specs.Pages.{Book}
@@ -24,26 +24,26 @@ use Rattle.papaya_map_book.specs.declared.rule.entry.Step.TheVariants as steps
 use Rattle.papaya_map_book.specs.declared.rule.entry.Event.{Event}
 use Rattle.papaya_map_book.specs.declared.rule.entry.Event.TheVariants.{Wish, Called, Dealt, Stepped}
 
--- a pair as the law's words name it
+-- A pair as it is stored in the arena: with its number and its place there.
 abbrev pub Stored : Type 0 → Type 0 → Type 0
 Stored K V = Where (Pair K V)
 
--- the number of a table, from 1 on
+-- The number of a table, counted from 1.
 abbrev pub number_of : Where Sheet → ℕ
 number_of w = w.index + 1
 
--- does the map resize with blocking?
+-- Whether the map's resizes block.
 abbrev pub is_blocking : ResizeMode → Bool
 is_blocking (Incremental chunk) = false
 is_blocking Blocking = true
 
--- how the keys' places and the chunks of slots are found, and how many pairs may be made
+-- How the keys' places and the chunks of slots are found, and how many pairs may be made.
 abbrev pub plan_of : {K V : Type 0} → (K → K → Bool) → (K → ℕ) → ResizeMode → (most : Option ℕ)
     → Plan K (Stored K V)
 plan_of eq hash mode most = hashed (is_blocking mode) (chunk_of (chunk_len mode)) most
     (λ p. p.value.key.value) eq hash
 
--- the first of two that is there
+-- The first of two options if it has a value, else the second.
 abbrev pub or_else : {X : Type 0} → Option X → Option X → Option X
 or_else (Some x) y = Some x
 or_else None y = y
@@ -61,7 +61,7 @@ in_table f None = None
 in_table f (Some w) = f w.value
 
 module _ {K V : Type 0} where
-  -- the exchange of the law
+  -- The exchange of the law that this step is.
   abbrev pub exchange_of : Step K V → Exchange (Stored K V)
   exchange_of (steps.Open w) = law.Open (number_of w)
   exchange_of (steps.Claim t x p) = law.Claim t x p
@@ -77,7 +77,7 @@ module _ {K V : Type 0} where
   exchange_of (steps.Abort t) = law.Abort t
   exchange_of (steps.Take m) = law.Take m
 
-  -- what comes into the book with an exchange: a new pair, or a table
+  -- The new pair or the table that an exchange brings into the book, if any.
   abbrev pub comes : Step K V → Named K V
   comes (steps.Open w) = names.Table w
   comes (steps.Claim t x p) = names.Pair p
@@ -85,19 +85,19 @@ module _ {K V : Type 0} where
   comes (steps.Link t w) = names.Table w
   comes _ = names.Nothing
 
-  -- how many slots the table has that comes; 1 where none comes
+  -- The number of slots of the table that is brought in; 1 if there is none.
   abbrev pub slots_of : Named K V → ℕ
   slots_of names.Nothing = 1
   slots_of (names.Pair p) = 1
   slots_of (names.Table w) = length w.value.slots
 
-  -- at how many places a search of it looks
+  -- The number of places at which a search of that table looks; 1 if there is none.
   abbrev pub places_of : Named K V → ℕ
   places_of names.Nothing = 1
   places_of (names.Pair p) = 1
   places_of (names.Table w) = w.value.limit + 1
 
-  -- how many words it has for chunks of the table before it; 0 where none comes
+  -- The number of words that it has for chunks of the table before it; 0 if there is none.
   abbrev pub chunks_of : Named K V → ℕ
   chunks_of names.Nothing = 0
   chunks_of (names.Pair p) = 0
@@ -111,18 +111,18 @@ module _ {K V : Type 0} where
     chunks = chunks_of (comes e);
   }
 
-  -- the table that comes, if it has this number
+  -- The table that is brought in, if it has this number.
   abbrev pub table_if : Named K V → ℕ → Option (Where Sheet)
   table_if names.Nothing t = None
   table_if (names.Pair p) t = None
   table_if (names.Table w) t = cond (number_of w == t) (Some w) None
 
-  -- the table of this number, if it has come
+  -- The table of this number, if it was brought in.
   abbrev pub table_in : List (Step K V) → ℕ → Option (Where Sheet)
   table_in [] t = None
   table_in (e ∷ es) t = or_else (table_if (comes e) t) (table_in es t)
 
-  -- the key of the word at a place, if it has come
+  -- The key of the word at a place, if it was brought in.
   abbrev pub key_at : List (Step K V) → At → Option ℕ
   key_at es Root = Some 0
   key_at es (Next t) = in_table (λ s. Some s.next) (table_in es t)
@@ -131,7 +131,7 @@ module _ {K V : Type 0} where
   key_at es (Slot t x) = in_table (λ s. slice_get s.slots x) (table_in es t)
   key_at es Made = Some 2
 
--- what a word names: a pair, or a table that has come
+-- The pair or the table that a word names, if any.
 abbrev pub pair_named : {K V : Type 0} → Option (Stored K V) → Named K V
 pair_named None = names.Nothing
 pair_named (Some p) = names.Pair p
@@ -149,28 +149,28 @@ word_names es s (Slot t x) = pair_named (named (s.slot t x))
 word_names es s Made = names.Nothing
 
 module _ {K V S : Type 0} where
-  -- what comes into the book with an entry
+  -- The pair or the table that an event of the log brings into the book, if any.
   abbrev pub brought : Event K V S → Named K V
   brought (Wish at kind made n) = n
   brought (Stepped e) = comes e
   brought _ = names.Nothing
 
-  -- the word that an update asks for
+  -- The place of the word that an update asks for.
   abbrev pub place_of : Event K V S → At
   place_of (Wish at kind made n) = at
   place_of _ = Root
 
-  -- the kind of exchange that it asks for
+  -- The kind of exchange that it asks for.
   abbrev pub kind_of : Event K V S → Option StepKind
   kind_of (Wish at kind made n) = kind
   kind_of _ = None
 
-  -- the pair that the asking call has made
+  -- The pair that the asking call has made.
   abbrev pub made_of : Event K V S → Option (Stored K V)
   made_of (Wish at kind made n) = made
   made_of _ = None
 
-  -- it came with some entry
+  -- Some event of the log brought it in.
   abbrev pub Entered : Named K V → List (Event K V S) → Type 0
   Entered n [] = ⊥
   Entered n (e ∷ es) = (brought e ≡ n) ⊎ Entered n es
@@ -179,7 +179,7 @@ module _ {K V S : Type 0} where
   step_of (Stepped e) = e ∷ []
   step_of _ = []
 
-  -- the exchanges of a log
+  -- The exchanges of a log.
   abbrev pub steps_of : List (Event K V S) → List (Step K V)
   steps_of [] = []
   steps_of (e ∷ es) = step_of e ++ steps_of es
@@ -187,20 +187,20 @@ module _ {K V S : Type 0} where
   abbrev pub entries_of : List (Event K V S) → List (Entry (Stored K V))
   entries_of log = map entry_of (steps_of log)
 
-  -- the history
+  -- The exchanges of the law that a log records.
   abbrev pub exchanges_of : List (Event K V S) → List (Exchange (Stored K V))
   exchanges_of log = exchanges (entries_of log)
 
   abbrev pub state_of : List (Event K V S) → State (Stored K V)
   state_of log = run (exchanges_of log) start
 
-  -- the setting that a log makes
+  -- The setting that a log makes.
   abbrev pub setting_of : (K → K → Bool) → (K → ℕ) → ResizeMode → (most : Option ℕ)
       → List (Event K V S) → Setting K (Stored K V)
   setting_of eq hash mode most log = setting_in (plan_of eq hash mode most) (entries_of log)
 
-  -- The setting in which an exchange is asked for with which this comes. Of a table that comes it
-  -- says besides how many words for chunks it has, which no entry of the log says yet.
+  -- The setting in which an exchange is asked for that brings this in. If it is a table, the
+  -- setting also has its number of words for chunks, which no event of the log states yet.
   abbrev pub setting_with : (K → K → Bool) → (K → ℕ) → ResizeMode → (most : Option ℕ) → Named K V
       → List (Event K V S) → Setting K (Stored K V)
   setting_with eq hash mode most names.Nothing log = setting_of eq hash mode most log
@@ -209,7 +209,7 @@ module _ {K V S : Type 0} where
     chunks = at_put (setting_of eq hash mode most log).chunks (number_of w) (length w.value.done);
   }
 
-  -- the name that the book was told first
+  -- The name of the book that an event records, and (in `name_in`) the first one of a log.
   abbrev pub name_of : Event K V S → Option Book
   name_of (Called b) = Some b
   name_of _ = None
@@ -218,7 +218,7 @@ module _ {K V S : Type 0} where
   name_in [] = None
   name_in (e ∷ es) = or_else (name_of e) (name_in es)
 
-  -- the seals of the tables for which words of the row were dealt, word by word
+  -- The seals of the tables for which words of the row were dealt, one for each word.
   abbrev pub seal_of : Event K V S → List ℕ
   seal_of (Dealt seal count) = replicate count seal
   seal_of _ = []
@@ -227,14 +227,14 @@ module _ {K V S : Type 0} where
   seals_of [] = []
   seals_of (e ∷ es) = seal_of e ++ seals_of es
 
-  -- how many words of the row were dealt
+  -- How many words of the row were dealt.
   abbrev pub dealt : List (Event K V S) → ℕ
   dealt log = length (seals_of log)
 
-  -- the seal of the table that this word of the row is for; the row's keys begin at 3
+  -- The seal of the table that this word of the row is for; the row's keys begin at 3.
   abbrev pub owner : ℕ → List (Event K V S) → Option ℕ
   owner k log = slice_get (seals_of log) (k - 3)
 
--- pairs are named in words by their numbers
+-- The coding in which words name pairs by their numbers.
 abbrev pub coding_of : {K V : Type 0} → (K → ℕ) → Coding K (Stored K V)
 coding_of hash = record { number = λ p. p.index; hash = hash }

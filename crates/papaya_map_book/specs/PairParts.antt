@@ -1,5 +1,5 @@
--- What a pair that is to be logged is made of: a key and a value, each brought with it or that of a
--- logged pair.
+-- The parts of a pair that is to be stored in the arena: a key and a value, each its own or that of
+-- a stored pair.
 use Rattle.boxcar.specs.Table.{Shows}
 use Rattle.papaya_map_book.specs.Pairs.{IsKeyIn, IsValueIn}
 use Rattle.papaya_map_book.specs.declared.book.Book.{Book}
@@ -16,12 +16,12 @@ abbrev pub value_in : {K V : Type 0} → ValuePart K V → V
 value_in (values.Own v) = v
 value_in (values.Of p) = p.value.value
 
--- a pair that the key is taken from lies in the log of the book, and so does its key
+-- If the key is taken from a pair, that pair and its key are stored in the arena of the book.
 abbrev pub IsKeyPartIn : {K V S H : Type 0} → Book K V S H → KeyPart K V → Type 0
 IsKeyPartIn book (keys.Own k) = Unit {0}
 IsKeyPartIn book (keys.Of p) = Shows book.parts.pairs p × IsKeyIn book.parts.pairs p.value.key
 
--- the same of a value
+-- The same for a value.
 abbrev pub IsValuePartIn : {K V S H : Type 0} → Book K V S H → ValuePart K V → Type 0
 IsValuePartIn book (values.Own v) = Unit {0}
 IsValuePartIn book (values.Of p) = Shows book.parts.pairs p × IsValueIn book.parts.pairs p.value

@@ -1,16 +1,17 @@
--- What a clause sees of a pair.
+-- A pair as contracts see it.
 use Rattle.std.specs.Prelude.{◌≡◌, ℕ, MatchOption, Option}
 use Rattle.std.specs.Coded.{coded_option}
 use base.Stored.{Coded, coded×, coded_ℕ, coded_via}
 use Rattle.boxcar.specs.Table.{Shelves, id_at}
 
--- A key, and where it lies: beside its pair's value, or at the pair that brought it. Of that one
--- this tells the bucket of the arena of pairs, and the bucket's name.
+-- A key, and where it is stored: `None` if beside its pair's value. If it is stored at the pair
+-- that brought it, `at` has that pair's bucket in the arena of pairs, and the bucket's name.
 pub record KeyHeld (K : Type 0) : Type 0 where
   pub value : K
   pub at : Option (ℕ × ℕ)
 
--- Where a value lies is told in the same way: None where its pair brought it.
+-- A pair. In the same way `value_at` states where its value is stored: it is `None` if this pair
+-- brought it.
 pub record Pair (K V : Type 0) : Type 0 where
   pub key : KeyHeld K
   pub value : V
@@ -27,7 +28,7 @@ pair_coded {K} {V} k v = coded_via
       value_at = (e i).1.1;
     })
 
--- what lies at another pair is in this log
+-- If something is stored at another pair, that pair's bucket is one of this arena.
 abbrev pub LiesIn : Shelves → Option (ℕ × ℕ) → Type 0
 LiesIn log at = MatchOption at (Unit {0}) (λ at. at.1 ≡ id_at log.buckets at.0)
 

@@ -1,4 +1,4 @@
--- What a book was opened with, as its log names it.
+-- The parts with which a book was opened, as its log records them.
 use Rattle.papaya_map_book.specs.declared.rule.entry.Begun.{Begun}
 use Rattle.papaya_map_book.specs.declared.book.parts.Parts.{Parts}
 

@@ -1,4 +1,4 @@
--- What the steps on words tell.
+-- The results of the steps on words.
 use Rattle.std.specs.Prelude.{◌≡◌, ◌⊎◌, ℕ, ◌==◌, Bool, MatchBool, Option, None, Some, List, [], ◌∷◌, ◌++◌}
 use mathlib.Core.List.{IsPrefix}
 use Rattle.logbook.specs.Pages.{View, Step as Book_step}
@@ -21,25 +21,25 @@ use Rattle.papaya_map_book.specs.Logs.{place_of, setting_of, setting_with, state
 use Rattle.papaya_map_book.specs.Logs.{word_names}
 use Rattle.papaya_map_book.specs.Rule.{IsLawfulLog, word_in}
 
--- the pair that a call made, where it made one
+-- The pair that a call made, if any, as a list.
 abbrev pub made_list : {P : Type 0} → Option P → List P
 made_list None = []
 made_list (Some q) = q ∷ []
 
--- the pairs of a call that has made this one
+-- The record of the pairs of a call that has made this one, if any.
 abbrev pub loaded_of : {P : Type 0} → Option P → LoadedPairs P
 loaded_of made = record { last = None; made = made_list made }
 
--- a pair is put in
+-- An exchange of this kind puts a pair in.
 abbrev pub IsPutting : Option StepKind → Type 0
 IsPutting kind = (kind ≡ Some kinds.Claim) ⊎ (kind ≡ Some kinds.Replace)
 
--- pairs are named by their numbers
+-- The coding in which words name pairs by their numbers.
 abbrev pub Numbered : {K V : Type 0} → Coding K (Stored K V)
 Numbered = coding_of (λ k. 0)
 
--- The exchange of the law that a call asks for, whatever the call's key: a pair that comes is one
--- that the call made, and has the key of the one that it replaces.
+-- The exchange of the law that a call asks for, whatever the call's key. A pair that is put in is
+-- one that the call made, and has the key of the one that it replaces, if any.
 abbrev pub IsCallAsked : {K V : Type 0} → Option StepKind → At → ℕ → State (Stored K V)
     → LoadedPairs (Stored K V) → Exchange (Stored K V) → Type 0
 IsCallAsked (Some kinds.Open) places.Root new s loaded e = e ≡ Open new
@@ -61,7 +61,7 @@ IsWished kind at new s made e = IsCallAsked kind at new s (loaded_of made) e
     ⊎ IsCopyAsked Numbered kind at new s made e
 
 module _ {K V S : Type 0} (eq : K → K → Bool) (hash : S → K → ℕ) where
-  -- a load tells the word that stands at the place, and what it names
+  -- A load returns the word at the place, and what it names.
   pub record Looked (at : At) (found : ℕ) (log : List (Event K V S))
       (state : Option (Named K V)) : Type 0 where
     pub begun : Begun K V S
@@ -73,15 +73,15 @@ module _ {K V S : Type 0} (eq : K → K → Bool) (hash : S → K → ℕ) where
       → View (Event K V S) (Named K V) → Type 0
   Looks s v found w = Looked (place_of s.ask) found w.0 w.1.1
 
-  -- the exchange is of the kind that was asked for, with the pair that the call made or carries,
-  -- and what comes with it was handed over
+  -- The exchange is of the kind that was asked for, with the pair that the call made or carries,
+  -- and it brings in what was passed in.
   pub record IsMeant (at : At) (kind : Option StepKind) (new : ℕ) (made : Option (Stored K V))
       (brings : Named K V) (before : List (Event K V S)) (e : Step K V) : Type 0 where
     pub asked : IsWished kind at new (state_of before) made (exchange_of e)
     pub with_it : comes e ≡ brings
 
-  -- An exchange that may be made at any time when its old word stands there: there is one of the
-  -- law, allowed where what it brings comes next, which writes just this word.
+  -- After this log the exchange may be made: some step is meant by it, which the law allows with
+  -- what it brings in, and which writes just this word.
   pub record MayStep (b : Begun K V S) (at : At) (kind : Option StepKind) (new : ℕ)
       (made : Option (Stored K V)) (brings : Named K V) (log : List (Event K V S)) : Type 0 where
     pub step : Step K V
@@ -91,13 +91,16 @@ module _ {K V S : Type 0} (eq : K → K → Bool) (hash : S → K → ℕ) where
     pub written : IsWritten (setting_of eq (hash b.hasher) b.mode b.limit log)
         (coding_of (hash b.hasher)) (state_of log) at new (after (state_of log) (exchange_of step))
 
+  -- The exchange may be made after any log that extends `seen` and at which the place has the old
+  -- word.
   abbrev pub CanExchange : Begun K V S → At → Option StepKind → (old new : ℕ) → Option (Stored K V)
       → Named K V → List (Event K V S) → Type 0
   CanExchange b at kind old new made brings seen = (log : List (Event K V S)) → IsPrefix seen log
       → IsLawfulLog eq hash b log → word_in eq hash b log at ≡ old
       → MayStep b at kind new made brings log
 
-  -- an exchange was made after a log that goes on from what was seen, or another word was found
+  -- An exchange was tried at a log that extends `seen`: it succeeded and is the next step, or it
+  -- found another word.
   pub record Tried (at : At) (kind : Option StepKind) (old new : ℕ) (made : Option (Stored K V))
       (brings : Named K V) (seen : List (Event K V S)) (found : ℕ) (log : List (Event K V S))
       (state : Option (Named K V)) : Type 0 where

@@ -2,6 +2,6 @@
 -- tables take them one after the other.
 use Rattle.std.specs.Prelude.{ℕ, ◌^◌}
 
--- how many words the row has
+-- How many words the row has.
 unfoldable pub row_len : ℕ
 row_len = 2 ^ 62

@@ -19,14 +19,14 @@ use Rattle.papaya_map_book.specs.Logs.{Entered, coding_of, dealt, entries_of, ex
 use Rattle.papaya_map_book.specs.Logs.{key_at, name_in, owner, setting_of, state_of, steps_of, table_in}
 use Rattle.papaya_map_book.specs.Rows.{row_len}
 
--- the words of a table of which nothing is said yet
+-- The words of the table are as they were at the start.
 pub record IsBlank {P : Type 0} (s : State P) (t : ℕ) : Type 0 where
   pub next : s.next t ≡ 0
   pub aborted : s.aborted t ≡ false
   pub done : (c : ℕ) → s.done t c ≡ false
   pub slots : (x : ℕ) → s.slot t x ≡ Empty
 
--- the seal of the table of a place
+-- The seal of the table of a place.
 abbrev pub seal_at : {K V : Type 0} → List (Step K V) → At → Option ℕ
 seal_at es Root = None
 seal_at es (Next t) = in_table (λ s. Some s.seal) (table_in es t)
@@ -35,24 +35,24 @@ seal_at es (Done t c) = in_table (λ s. Some s.seal) (table_in es t)
 seal_at es (Slot t x) = in_table (λ s. Some s.seal) (table_in es t)
 seal_at es Made = None
 
--- the place is that of a word of the map itself, and in no table
+-- The place is a word of the map itself, and in no table.
 abbrev pub IsOfMap : At → Type 0
 IsOfMap Root = Unit {0}
 IsOfMap Made = Unit {0}
 IsOfMap _ = ⊥
 
--- what the name adds to the word that only makers use
+-- The amount that the book's name adds to the word that only makers use.
 abbrev pub flag : Option Book → ℕ
 flag None = 0
 flag (Some b) = 1
 
--- the word is the seal, which lies behind the row
+-- The word is the seal, which is no word of the row.
 abbrev pub IsSealOf : (k : ℕ) → (seal : Option ℕ) → Type 0
 IsSealOf k seal = (seal ≡ Some k) × (3 + row_len ≤ k)
 
 module _ {K V S : Type 0} where
-  -- What has come is in the logs that the book was opened with. The words of a table are of the
-  -- book that has this name.
+  -- The pair or the table is stored in the arenas that the book was opened with. The words of a
+  -- table belong to the book of this name.
   abbrev pub IsPlaced : Begun K V S → Option Book → Named K V → Type 0
   IsPlaced b name names.Nothing = Unit {0}
   IsPlaced b name (names.Pair p) = Shows b.pairs p × IsKeyIn b.pairs p.value.key
@@ -61,8 +61,8 @@ module _ {K V S : Type 0} where
       × (name ≡ Some w.value.book)
 
   module _ (eq : K → K → Bool) (hash : S → K → ℕ) where
-    -- What the rule says of the log alone, where the book was opened with b: its exchanges are
-    -- allowed, and what it names is where it says.
+    -- The rule for the log alone, if the book was opened with `b`: its exchanges are allowed, and
+    -- what it brought in is stored in the arenas.
     pub record IsLawfulLog (b : Begun K V S) (log : List (Event K V S)) : Type 0 where
       pub rest : List (Event K V S)
       pub is : log ≡ Begin b ∷ rest
@@ -70,14 +70,14 @@ module _ {K V S : Type 0} where
           (exchanges_of log)
       pub sized : AllSized (entries_of log)
       pub placed : (n : Named K V) → Entered n log → IsPlaced b (name_in log) n
-      -- a table that has not come is blank, and before there is a root none has come
+      -- A table that was not brought in is blank, and before there is a root none was brought in.
       pub blank : (t : ℕ) → table_in (steps_of log) t ≡ None → IsBlank (state_of log) t
       pub unopened : (state_of log).root ≡ 0 → (t : ℕ) → table_in (steps_of log) t ≡ None
-      -- no two places share a word
+      -- No two places share a word.
       pub apart : (at at' : At) (k : ℕ) → key_at (steps_of log) at ≡ Some k
           → key_at (steps_of log) at' ≡ Some k → at ≡ at'
 
-    -- the word that stands at a place after a log
+    -- The word at a place after a log.
     abbrev pub word_in : Begun K V S → List (Event K V S) → At → ℕ
     word_in b log at = word_of (setting_of eq (hash b.hasher) b.mode b.limit log)
         (coding_of (hash b.hasher)) (state_of log) at
@@ -86,20 +86,21 @@ module _ {K V S : Type 0} where
     pub record IsKept (cells : List Cell) (log : List (Event K V S)) : Type 0 where
       pub begun : Begun K V S
       pub lawful : IsLawfulLog begun log
-      -- the words of the map and the row are home
+      -- The words of the map and the row are home.
       pub many : 3 + row_len ≤ length cells
       pub homes : (k : ℕ) → k < 3 + row_len → (cell cells k).1 ≡ true
-      -- the word that only makers use counts the words of the row that were dealt, and the name
+      -- The word that only makers use is the number of words of the row that were dealt, plus 1 if
+      -- the book has a name.
       pub maker : cell cells 1 ≡ (flag (name_in log) + dealt log, true)
       pub room : dealt log ≤ row_len
       pub coded : (at : At) (k : ℕ) → key_at (steps_of log) at ≡ Some k
           → cell cells k ≡ (word_in begun log at, true)
       pub counted : (at : At) (k : ℕ) → key_at (steps_of log) at ≡ Some k
           → (k < length cells) × (IsOfMap at ⊎ (3 ≤ k))
-      -- a table's words were dealt for its seal, which is no word of the row
+      -- A table's words were dealt for its seal, which is no word of the row.
       pub owned : (at : At) (k : ℕ) → key_at (steps_of log) at ≡ Some k
           → IsOfMap at ⊎ (IsSealOf k (seal_at (steps_of log) at)
           ⊎ (owner k log ≡ seal_at (steps_of log) at))
-      -- words that are home hold 0 while they are in no table
+      -- Words that are home hold 0 as long as they are in no table.
       pub fresh : (k : ℕ) → 3 ≤ k → (cell cells k).1 ≡ true
           → ((at : At) → key_at (steps_of log) at ≡ Some k → ⊥) → (cell cells k).0 ≡ 0

@@ -1,4 +1,4 @@
--- What a token of a boxcar vector owns, without its bytes.
+-- The resources that a token of a `boxcar` vector owns, apart from its bytes.
 use Rattle.std.specs.Prelude.{◌≡◌}
 use base.Fml.{Fml, fsep, fex}
 use denote.RattleType.{RattleType}
@@ -23,13 +23,13 @@ abbrev pub fields_row : RattleType → RattleType
 fields_row R = Inside.the_row R Anything.the_row Global.the_row (AnythingKeeps.ghosts R)
     GlobalAllocator.ghosts
 
--- the bucket that a slot lies in
+-- The type of the bucket that has a slot.
 abbrev pub bucket_row : RattleType → RattleType
 bucket_row R = Vec.the_row (OnceSlot.the_row R (Entry.the_row Anything.the_row)
     (EntrySlotRule.ghosts R Anything.the_row (AnythingKeeps.ghosts R) EntrySlotRule.no_dict))
     Global.the_row GlobalAllocator.ghosts
 
--- the private fields of a token that shows this, and what holds of them
+-- The private fields of a token that contracts see as `w`, and what holds of them.
 abbrev pub Fields : (R : RattleType) → Where R.Denot → Type 0
 Fields R w = (a : (fields_row R).Denot) × ((record {
   index = a.index;

@@ -1,4 +1,4 @@
--- What a call sees of a map, and what a step adds to it.
+-- A map as a call observes it, and what a step adds to that.
 use Rattle.std.specs.Prelude.{◌≡◌, ◌+◌, ℕ, Bool, Option, None, Some, ◌++◌}
 use mathlib.Core.List.{IsPrefix}
 use denote.Bor.{Bor}
@@ -22,23 +22,23 @@ use Rattle.papaya_map_book.specs.Plays as plays
 use Rattle.papaya_map_book.specs.Sheets.{Sheet}
 
 module _ {K V S H : Type 0} {d : keyed.Ghosts S K H} where
-  -- the same book, and no less of its log
+  -- The book is the same, and at least as much of its log has been observed.
   pub record Sees (old new : Window K V S H d) : Type 0 where
     pub book : new.book ≡ old.book
     pub log : IsPrefix old.sight.log new.sight.log
 
-  -- and no exchange of a slot was made through it
+  -- The same, and no exchange of a slot was made through this window.
   pub record Observes (old new : Window K V S H d) : Type 0 where
     pub book : new.book ≡ old.book
     pub log : IsPrefix old.sight.log new.sight.log
     pub own : new.own ≡ old.own
 
-  -- Of slots, where so told, one exchange was made through it: the last that is seen then. Else
-  -- none was.
+  -- If `exchanged`, one more exchange of a slot was made through this window, which is the last
+  -- exchange of the observed log; if not, none was made.
   abbrev pub Does : Bool → (old new : Window K V S H d) → Type 0
   Does exchanged old new = new.own.done ≡ old.own.done ++ last_if exchanged (steps_of new.sight.log)
 
-  -- the rule of the book holds of what is seen
+  -- The rule of the book holds of what has been observed.
   abbrev pub IsLawful : Window K V S H d → Type 0
   IsLawful w = books.IsLawfulLog d.keys w.book.now w.sight.log
 
@@ -57,24 +57,24 @@ module _ {K V S H : Type 0} {d : keyed.Ghosts S K H} where
   abbrev pub IsMade : Window K V S H d → Sheet → Type 0
   IsMade w sheet = makers.IsMade sheet w.sight.log
 
-  -- an exchange that may carry a logged pair: nothing comes with it
+  -- An exchange that may carry a stored pair, and brings nothing in.
   abbrev pub CanCopy : Window K V S H d → At → Option StepKind → (kept : Option (Stored K V))
       → (words : ℕ × ℕ) → Type 0
   CanCopy w at kind kept words = plays.CanExchange d.keys.eq d.keys.hash (begun_of w.book.now.parts)
       at kind words.0 words.1 kept names.Nothing w.sight.log
 
-  -- an exchange of a slot with which nothing comes
+  -- An exchange of a slot that brings nothing in.
   abbrev pub CanTrySlot : Window K V S H d → (t x : ℕ) → Option StepKind → (words : ℕ × ℕ) → Type 0
   CanTrySlot w t x kind words = CanCopy w (Slot t x) kind None words
 
-  -- an exchange of a slot with which the pair comes that the call has made
+  -- An exchange of a slot that brings in the pair that the call has made.
   abbrev pub CanPutSlot : Window K V S H d → (t x : ℕ) → Option StepKind → Stored K V
       → (words : ℕ × ℕ) → Type 0
   CanPutSlot w t x kind made words = plays.CanExchange d.keys.eq d.keys.hash
       (begun_of w.book.now.parts) (Slot t x) kind words.0 words.1 (Some made) (names.Pair made)
       w.sight.log
 
-  -- an exchange that makes the table the next one after t, which had none
+  -- An exchange that makes the table the next one after t, which had none.
   abbrev pub CanLink : Window K V S H d → (t : ℕ) → Where Sheet → Type 0
   CanLink w t table = plays.CanExchange d.keys.eq d.keys.hash (begun_of w.book.now.parts) (Next t)
       (Some Link) 0 (table.index + 1) None (names.Table table) w.sight.log
@@ -95,12 +95,12 @@ module _ {K V S H : Type 0} {d : keyed.Ghosts S K H} where
     IsSlotWord number place word state = calls.IsSlotWord d.keys.eq d.keys.hash
         (begun_of w.book.now.parts) w.book.now.begun.book number place word w'.sight.log state
 
-    -- the number may be the hint of the slot
+    -- The number may be the hint of the slot.
     abbrev pub IsHint : (number place hint : ℕ) → Type 0
     IsHint number place hint = IsSlotHint d.keys.eq d.keys.hash (begun_of w.book.now.parts) number
         place hint w'.sight.log
 
-    -- the word that stands at a place
+    -- The word at a place.
     abbrev pub IsWord : At → ℕ → Type 0
     IsWord at word = calls.IsWord d.keys.eq d.keys.hash (begun_of w.book.now.parts) at word
         w'.sight.log
@@ -109,7 +109,8 @@ module _ {K V S H : Type 0} {d : keyed.Ghosts S K H} where
     Opens table found = (state : Option (Named K V))
         × books.Opens d.keys w.book.now table w.sight.log found w'.sight.log state
 
-    -- the same exchanges, as they were tried: of slots, with the pair that was named before
+    -- The same exchanges, after they were tried. Those of slots have the pair that the slot named
+    -- before.
     abbrev pub CopiesWord : At → Option StepKind → (kept : Option (Stored K V)) → (words : ℕ × ℕ)
         → ℕ → Type 0
     CopiesWord at kind kept words found = (state : Option (Named K V))
@@ -137,6 +138,6 @@ module _ {K V S H : Type 0} {d : keyed.Ghosts S K H} where
         (begun_of w.book.now.parts) (Next t) (Some Link) 0 (table.index + 1) None
         (names.Table table) w.sight.log found w'.sight.log state
 
-  -- the hint may be written
+  -- The hint may be written.
   abbrev pub MayHint : Window K V S H d → (number place hint : ℕ) → Type 0
   MayHint w = IsHint w w

@@ -37,6 +37,11 @@ impl Model for Count {
 
 impl Count {
     /// Returns a count of 0 over at least this many shards, rounded up to a power of two.
+    ///
+    /// # Errors
+    ///
+    /// Fails with `Refused::Capacity` if there are more shards than
+    /// [`papaya_words::limits::MAX_SHARDS`], and with `Refused::Memory` if an allocation fails.
     pub fn new(alloc: Global, shards: usize) -> Result<Count, Refused>
         ensures many { MAX_SHARDS < shards → result ≡ Err Refused.Capacity }
         ensures few { shards ≤ MAX_SHARDS → IfErr result (λ refused. refused ≡ Refused.Memory) }
@@ -49,6 +54,10 @@ impl Count {
     }
 
     /// Returns a count of 0 over as many shards.
+    ///
+    /// # Errors
+    ///
+    /// Fails with `Refused::Memory` if an allocation fails.
     pub fn anew(&self, alloc: Global) -> Result<Count, Refused>
         ensures ok { IfOk result (λ count. count ≡ self.now) }
         ensures err { IfErr result (λ refused. refused ≡ Refused.Memory) }

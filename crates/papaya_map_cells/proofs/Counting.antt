@@ -1,4 +1,4 @@
--- The step of a counter: whoever counts has the ticket of the number found.
+-- The step of a counter: the thread that counts gets the ticket of the number found.
 use Rattle.std.proofs.Common.{◌≡◌, ℕ, zero, suc, eqb, Bool, true, false, sym, refl, subst, eqb→eq, ◌+◌, ◌^◌, ◌<◌, ◌≤◌, [], ◌∷◌, arith}
 use native.Mathlib.Decide.{dec_le}
 use mathlib.Core.Logic.{dite}

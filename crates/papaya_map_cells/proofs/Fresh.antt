@@ -1,4 +1,4 @@
--- A fresh word, which holds 0 and says no more, becomes another word. Assumes `Logic`.
+-- A fresh word, which holds 0 and has no other rule, becomes another word. Assumes `Logic`.
 use Rattle.std.proofs.Common.{◌≡◌, ℕ, Bool, false, List, [], ◌∷◌, refl}
 use seplogic.Ra.Ura.{Ura}
 use mir.Val.{Val}

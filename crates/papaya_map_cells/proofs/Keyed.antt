@@ -1,5 +1,4 @@
--- A hint's rule as one of `logbook`'s: the same, but that an untracked word says what a hint does
--- beside this word.
+-- The rule of a hint as one of `logbook`'s: the same, except that an untracked word has the rule of a hint beside this word.
 use mir.Syntax.{Body, seq, skip}
 use Rattle.logbook.specs.Pages.{Named}
 use Rattle.logbook.specs.declared.tokens.Rule.{Ghosts as Rule}

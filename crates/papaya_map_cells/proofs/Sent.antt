@@ -1,4 +1,4 @@
--- What a counter and a slot own and share names no token of one thread.
+-- The resources that a counter and a slot own and share name no token of one thread.
 use Rattle.std.proofs.Common.{ℕ, zero, suc}
 use base.Fraction.{full_share}
 use base.Shift.{Keyless}

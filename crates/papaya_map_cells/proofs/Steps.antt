@@ -1,5 +1,5 @@
--- The steps on a slot: whoever brings the ticket takes the blank; whoever wrote shares the value; and
--- a token finds it. The machine's step may be one on any word that the caller has.
+-- The steps on a slot: the thread with the ticket takes the blank, the thread that wrote shares the value, and a token finds it. The machine's step
+-- may be one on any word that the caller has.
 use Rattle.std.proofs.Common.{◌≡◌, ℕ, zero, ◌+◌, List, [], ◌∷◌, sym, refl, ap, subst, arith}
 use seplogic.Ra.Ura.{Ura}
 use base.Stored.{Gv, gnil, gnum, gcons}

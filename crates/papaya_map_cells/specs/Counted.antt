@@ -1,4 +1,4 @@
--- What a counter owns: beside its word, the ticket of each number that it has not given out, or
+-- The resources of a counter: its word, and the ticket of each number that it has not given out or
 -- that came back.
 use Rattle.core.specs.Prelude.{ℕ, zero, suc}
 use base.Fml.{Lft, Fml, ffalse, fsep, fex, fbor, finv}
@@ -8,7 +8,7 @@ use denote.RawPtr.{Ptr, block_ptr, null_ptr}
 use Rattle.core.specs.Sync.RawAtomic.{word}
 
 module _ (name : ℕ) where
-  -- the tickets from n on, of which so many came back
+  -- The tickets from `n` on. The first `back` of them were given out and came back.
   abbrev pub held : ℕ → ℕ → Fml
   held n zero = tickets_from name n
   held n (suc back) = fsep (ticket name n) (held (suc n) back)

@@ -1,6 +1,7 @@
--- What a slot owns and shares. After boxcar's `OnceSlot`, with no word: whoever writes it brings
--- the ticket of its number, which stays with the slot, so it is brought once.
--- Each time the slot is shared it takes a turn: a lifetime, and a name that tracks the value.
+-- The resources that a slot owns and shares. It follows boxcar's `OnceSlot`, but has no word: the
+-- thread that writes it brings the ticket of its number. The ticket stays with the slot, so it is
+-- brought once.
+-- Each time that the slot is shared, it takes a turn: a lifetime, and a name that tracks the value.
 use Rattle.core.specs.Prelude.{◌≡◌, ℕ, ◌+◌}
 use base.Stored.{Gv, Coded, gnil, gnum, gcons, coded×, coded_ℕ, coded_via}
 use base.Fml.{Lft, GName, Fml, ftrue, ffalse, fsep, fex, fobs, fauth, fres, fbor, finv}
@@ -13,7 +14,7 @@ use denote.Memory.{mem, lone, shared_of}
 use denote.RawPtr.{Ptr, block_ptr, null_ptr}
 use Rattle.boxcar.specs.Slot.{Phase, free, busy, full, Turn, fact, written}
 
--- what a clause sees of a slot
+-- A slot as contracts see it.
 pub record Named : Type 0 where
   pub id : GName
   pub counter : GName
@@ -24,12 +25,12 @@ named_coded = coded_via (coded× coded_ℕ (coded× coded_ℕ coded_ℕ))
     (λ (l : Named). (l.id, (l.counter, l.number)))
     (λ x y e i. record { id = (e i).0; counter = (e i).1.0; number = (e i).1.1 })
 
--- the field, and the phase
+-- The field's value, and the slot's phase.
 abbrev pub Rest : Type 0 → Type 0
 Rest X = X × Phase X
 
 module _ (R : RattleType) where
-  -- `written R γ x` is what lasts of the mark at `full x`
+  -- The code of a phase. At `full x`, `written R γ x` is the part of it that lasts.
   abbrev pub mark : Phase R.Denot → Gv
   mark free = gnil
   mark busy = gnum 0
@@ -40,7 +41,7 @@ module _ (R : RattleType) where
   Lies v busy = Unit {0}
   Lies v (full x) = v ≡ x
 
-  -- where the field stands
+  -- The offset of the field of a slot that is at offset `o`.
   abbrev pub at : ℕ → ℕ
   at o = o + up (align (lone R.mir)) 0
 

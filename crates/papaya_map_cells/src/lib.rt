@@ -1,6 +1,6 @@
-//! Words that no log records: slots that are written once, their ticket counter, and hints.
-//! It uses the kit's `logbook`, and no other crate.
-//! `papaya_map_arena` consists of the slots, and `papaya_map_book` has a hint beside each slot.
+//! Atomic words that no log records: arena slots, which are written once, their counter, hints.
+//! It uses the kit's `logbook`, `boxcar` and `atomic_table`, and no crate of this repository.
+//! `papaya_map_arena` is made of the arena slots, and `papaya_map_book` stores hints in its tables.
 //!
 //! [`tickets::TicketCounter`] gives each number to one caller, with a [`arena_slot::Right`] of no
 //! bytes. An [`arena_slot::ArenaSlot`] belongs to a counter and a number. It holds a blank until

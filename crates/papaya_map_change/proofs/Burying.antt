@@ -1,4 +1,4 @@
--- A compute that has the pair removed which a search has met: its machine, which nothing runs, deletes it.
+-- A compute on its fast path that removes the pair which its search met: its machine, which nothing runs, deletes it.
 use Rattle.std.proofs.Common.{◌≡◌, inl, inr, ℕ, ◌<◌, ◌==◌, Bool, true, false, MatchOption, Option, None}
 use Rattle.std.proofs.Common.{Some, List, [], ◌∷◌, ◌++◌, append-nil, length, refl, sym, ap, ◌∙◌}
 use Rattle.std.proofs.Common.{subst}

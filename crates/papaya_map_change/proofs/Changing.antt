@@ -1,4 +1,4 @@
--- After each answer a changing call relies on what holds again, and holds what it was told of last.
+-- After each answer a changing call again relies on what holds, and holds what it loaded last.
 use Rattle.std.proofs.Common.{◌≡◌, ◌⊎◌, inl, inr, ⊎_elim, ℕ, ◌+◌, ◌<◌, ◌==◌, Bool, true, false}
 use Rattle.std.proofs.Common.{if◌then◌else◌, MatchOption, Option, None, Some, List, [], ◌++◌}
 use Rattle.std.proofs.Common.{length, append-nil, refl, sym, ap, ◌∙◌, subst, arith}

@@ -1,4 +1,4 @@
--- An insertion that is made at once at an empty place: its pair is logged and claimed, and its machine, which nothing runs, goes on so.
+-- The fast path of an insertion at an empty place: its pair is stored and claims the slot, and its machine, which nothing runs, goes on likewise.
 use Rattle.std.proofs.Common.{◌≡◌, inl, inr, ⊎_elim, ℕ, ◌<◌, ◌==◌, Bool, true, MatchOption, Option}
 use Rattle.std.proofs.Common.{None, Some, List, [], ◌∷◌, ◌++◌, append-nil, length, refl, sym, ap}
 use Rattle.std.proofs.Common.{◌∙◌, subst}

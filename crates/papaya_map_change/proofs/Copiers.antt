@@ -1,4 +1,4 @@
--- What is asked for a copy may be answered, and how an exchange ended.
+-- The asks of a copy may be answered, and the results of its exchanges.
 use Rattle.std.proofs.Common.{◌≡◌, inl, inr, ℕ, ◌+◌, ◌<◌, ◌==◌, Bool, true, false, MatchBool, Option, None, Some, List, [], ◌∷◌, ◌++◌, length}
 use Rattle.std.proofs.Common.{refl, sym, ap, ◌∙◌, subst}
 use mathlib.Core.List.{IsPrefix}

@@ -1,4 +1,4 @@
--- A changing call exchanges a slot once at most, and it has changed the map then.
+-- A changing call exchanges a slot at most once, and by that has changed the map.
 use Rattle.std.proofs.Common.{◌≡◌, inl, inr, ℕ, ◌==◌, Bool, true, false, cond, MatchBool, is_some}
 use Rattle.std.proofs.Common.{Option, None, Some, List, [], ◌∷◌, ◌++◌, map, append-nil, refl, sym}
 use Rattle.std.proofs.Common.{ap, ◌∙◌, subst}

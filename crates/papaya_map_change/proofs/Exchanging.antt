@@ -1,4 +1,4 @@
--- After an exchange that it asked for a changing call relies on what holds again, and its change ends the log.
+-- After an exchange that a changing call asked for, the call again relies on what holds, and its change ends the log.
 use Rattle.std.proofs.Common.{◌≡◌, ℕ, ◌==◌, Bool, true, false, MatchBool, MatchOption, Option, None, Some, List, [], ◌∷◌, ◌++◌, refl, sym, ap, ◌∙◌, subst}
 use Rattle.std.proofs.lemmas.Bool.{eqb-true}
 use Rattle.std.specs.Cmp.{IsEquivalence}

@@ -1,4 +1,4 @@
--- What a call keeps while it is set aside: its task, its pair, what it has changed and said; and why it may end refused.
+-- A call keeps its task, its pair, its change and its closure's results while it is set aside; and why it may end with a refusal.
 use Rattle.std.proofs.Common.{◌≡◌, ◌⊎◌, inl, inr, ⊎_elim, ℕ, Bool, false, is_some, None, Some, List, refl, sym, ap, ◌∙◌, subst}
 use Rattle.papaya_words.specs.declared.refused.Refused.{Refused as Cause}
 use Rattle.papaya_words.specs.declared.refused.Refused.TheVariants.{Capacity, Limit, Memory}

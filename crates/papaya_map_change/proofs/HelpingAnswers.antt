@@ -1,4 +1,4 @@
--- Each answer that is given for a copy, and what it leaves of the call that was set aside.
+-- Each answer to a copy's ask, and how it leaves the call that was set aside.
 use Rattle.std.proofs.Common.{◌≡◌, ◌⊎◌, inl, inr, ℕ, ◌+◌, ◌<◌, ◌==◌, Bool, true, false, Option}
 use Rattle.std.proofs.Common.{None, Some, List, [], ◌∷◌, length, append-nil, refl, sym, ap, ◌∙◌}
 use Rattle.std.proofs.Common.{subst}

@@ -1,4 +1,4 @@
--- A call that goes on for itself after a copy holds the table in which it is to look for its key; and how it got there, over all answers.
+-- A call that goes on for itself after a copy holds the table in which it is to search for its key; and how it got there, over all answers.
 use Rattle.std.proofs.Common.{◌≡◌, ◌⊎◌, inl, inr, ⊎_elim, ℕ, Bool, true, MatchOption, Option, None, Some, List, refl, sym, ap, ◌∙◌, subst}
 use Rattle.std.specs.Cmp.{IsEquivalence}
 use mathlib.Core.List.{IsPrefix}

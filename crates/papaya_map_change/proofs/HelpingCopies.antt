@@ -1,4 +1,4 @@
--- A call that is set aside may be answered what it asks for a copy, and each answer leaves it relying on what holds.
+-- The asks of a copy for a call that is set aside may be answered, and after each answer the call relies on what holds.
 use Rattle.std.proofs.Common.{◌≡◌, ◌⊎◌, inl, inr, ⊎_elim, ℕ, ◌<◌, ◌==◌, Bool, true, false}
 use Rattle.std.proofs.Common.{if◌then◌else◌, MatchBool, Option, List, [], append-nil, refl, sym, ap}
 use Rattle.std.proofs.Common.{◌∙◌, subst}

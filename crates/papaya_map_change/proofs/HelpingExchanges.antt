@@ -1,4 +1,4 @@
--- What a copy for a call exchanges may be exchanged in the book, and what was exchanged is what the copy's machine is told of.
+-- The exchanges that a copy for a call asks for may be made in the book, and their results are right answers to the copy's machine.
 use Rattle.std.proofs.Common.{◌≡◌, ◌⊎◌, inl, inr, ⊎_elim, ℕ, ◌+◌, ◌<◌, ◌≤◌, ◌==◌, Bool, true, false}
 use Rattle.std.proofs.Common.{MatchBool, Option, None, Some, List, [], ◌∷◌, ◌++◌, length}
 use Rattle.std.proofs.Common.{append-nil, refl, sym, ap, ◌∙◌, subst, arith}

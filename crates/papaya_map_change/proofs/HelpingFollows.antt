@@ -1,4 +1,4 @@
--- The table that a copying machine makes a next one for is on the chain.
+-- The table for which a copying machine makes a next one is on the chain.
 use Rattle.std.proofs.Common.{◌≡◌, inl, inr, ℕ, ◌<◌, Option, Some, List, ◌++◌, refl, arith, subst}
 use Rattle.papaya_call.specs.Search.{IsSize}
 use Rattle.papaya_call.specs.declared.copy_ask.CopyAsk.TheVariants.{MakeTable}

@@ -1,4 +1,4 @@
--- Each call that is set aside goes on after what is asked for its copy is answered, with the table that it enters then.
+-- Each call that is set aside goes on after an answer to its copy's ask, with the table that it enters then.
 use Rattle.std.proofs.Common.{◌≡◌, ℕ, Bool, true, MatchOption, List, refl, sym, ap, ◌∙◌, subst}
 use Rattle.std.specs.Cmp.{IsEquivalence}
 use mathlib.Core.List.{IsPrefix}

@@ -1,4 +1,4 @@
--- Where an answer for a copy leaves the call that is set aside: it stays so, or it goes on for itself.
+-- After an answer to its copy's ask, a call stays set aside or goes on for itself.
 use Rattle.std.proofs.Common.{◌≡◌, ◌⊎◌, inl, inr, ⊎_elim, ℕ, Bool, true, false, Some, List, ◌++◌, refl, sym, ap, ◌∙◌, subst}
 use Rattle.papaya_words.specs.declared.refused.Refused.{Refused}
 use Rattle.papaya_words.specs.declared.refused.Refused.TheVariants.{Capacity, Memory}

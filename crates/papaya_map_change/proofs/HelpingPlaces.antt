@@ -1,4 +1,4 @@
--- What a copy for a call names is there: its tables have come, and a slot is within its table.
+-- The places that a copy for a call names are there: their tables are in the log, and a slot is within its table.
 use Rattle.std.proofs.Common.{◌≡◌, ℕ, ◌<◌, Bool, true, Option, Some, List, length, refl, sym, ap, ◌∙◌, subst}
 use Rattle.std.specs.Cmp.{IsEquivalence}
 use mathlib.Core.List.{IsPrefix}

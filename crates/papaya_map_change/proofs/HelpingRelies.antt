@@ -1,4 +1,4 @@
--- After an answer to what was asked for a copy the call that was set aside relies on what holds again, and stays so or goes on.
+-- After an answer to its copy's ask, a call that was set aside again relies on what holds, and stays set aside or goes on.
 use Rattle.std.proofs.Common.{◌≡◌, ◌⊎◌, inl, inr, ⊎_elim, ℕ, Bool, true, Option, None, Some, List, ◌++◌, refl, sym, ap, ◌∙◌, subst}
 use Rattle.std.specs.Cmp.{IsEquivalence}
 use mathlib.Core.List.{IsPrefix}

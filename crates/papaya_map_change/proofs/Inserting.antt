@@ -1,4 +1,5 @@
--- After each answer an insertion relies on what holds again. It makes pairs of its value, with its own key or with one that it met, and puts in no others.
+-- After each answer an insertion again relies on what holds. It makes pairs of its value, with its own key or with one that it met, and puts in no
+-- others.
 use Rattle.std.proofs.Common.{◌≡◌, ◌⊎◌, inl, inr, ⊎_elim, ℕ, ◌==◌, Bool, true, false, MatchBool}
 use Rattle.std.proofs.Common.{Option, None, Some, List, [], ◌∷◌, append-nil, refl, sym, ap, ◌∙◌}
 use Rattle.std.proofs.Common.{subst}

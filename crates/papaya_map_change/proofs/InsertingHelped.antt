@@ -1,4 +1,4 @@
--- An insertion that was set aside goes on after a copy as it was: it makes no other pair and puts in no other.
+-- An insertion that was set aside is the same after the copy: it makes no other pair and puts in no other.
 use Rattle.std.proofs.Common.{◌≡◌, ℕ, Bool, true, Some, List, sym, ◌∙◌, subst}
 use Rattle.std.specs.Cmp.{IsEquivalence}
 use mathlib.Core.List.{IsPrefix}

@@ -1,4 +1,4 @@
--- What an insertion has put in when it replies.
+-- The pair that an insertion has put in when it replies.
 use Rattle.std.proofs.Common.{◌≡◌, ℕ, Bool, true, MatchOption, is_some, Option, None, Some, List, [], ◌∷◌, ◌++◌, append-nil, refl, sym, ap, ◌∙◌, subst}
 use Rattle.std.specs.Cmp.{IsEquivalence}
 use mathlib.Core.List.{IsPrefix}

@@ -1,4 +1,4 @@
--- changing calls
+-- Changing calls.
 pub mod Relying
 pub mod StepsOfOwn
 pub mod Changing

@@ -1,4 +1,5 @@
--- An insertion that begins with a pair in the log, of its own key or of one that it met; and one that went on where another one left the map as it was.
+-- An insertion that begins with a pair in the arena, of its own key or of one that it met; and one that goes on after another that left the map as it
+-- was.
 use Rattle.std.proofs.Common.{◌≡◌, inl, ⊎_elim, ℕ, Bool, true, false, Option, None, Some, List, [], ◌∷◌, append-nil, refl, sym, ap, ◌∙◌, subst}
 use Rattle.logbook.specs.Pages.{Book}
 use Rattle.papaya_call.specs.declared.call.Task.TheVariants.{Insert}

@@ -1,4 +1,4 @@
--- A call whose search goes over places of a table at once: a search that nothing runs goes along, by which it stands where that has come to.
+-- A call whose search passes places of a table in one step. A search that nothing runs accompanies it and ends at the same place.
 use Rattle.std.proofs.Common.{◌≡◌, inl, inr, ℕ, Bool, true, false, Option, None, Some, List, [], refl, sym, ap, ◌∙◌, subst}
 use Rattle.std.proofs.lemmas.List.{append_cancel_left}
 use Rattle.std.specs.Cmp.{IsEquivalence}

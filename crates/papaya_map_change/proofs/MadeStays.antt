@@ -1,4 +1,4 @@
--- The pairs that an insertion made stay as they are with each answer but one to an ask for a pair, which is made for the place of its write.
+-- The pairs that an insertion made stay the same with each answer but one to an ask for a pair, which is made for the place of its write.
 use Rattle.std.proofs.Common.{◌≡◌, ⊎_elim, ℕ, ◌==◌, nat_lt, Bool, true, false, cond, Option, None, Some, List, refl, sym, subst}
 use Rattle.std.proofs.lemmas.Bool.{cond_both}
 use Rattle.papaya_words.specs.Word.{pair_of}

@@ -1,4 +1,4 @@
--- Who is about to make a table asks for just that.
+-- A machine that is about to make a table asks for exactly that.
 use Rattle.std.proofs.Common.{◌≡◌, ℕ, Some, refl, sym, ap, ◌∙◌}
 use Rattle.papaya_call.specs.declared.copy_ask.CopyAsk.{CopyAsk}
 use Rattle.papaya_call.specs.declared.copy_ask.CopyAsk.TheVariants.{MakeTable}

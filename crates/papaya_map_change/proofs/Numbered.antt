@@ -1,4 +1,4 @@
--- At which chunk a call begins to copy is no matter for what it relies on.
+-- The chunk at which a call begins to copy does not matter for what it relies on.
 use Rattle.std.proofs.Common.{◌≡◌, inl, inr, ℕ, Bool, Option, Some, List, refl}
 use denote.Bor.{Bor}
 use Rattle.logbook.specs.Pages.{Book}

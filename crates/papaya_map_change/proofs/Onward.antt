@@ -1,4 +1,4 @@
--- An insertion that begins where a search has found no place for its key in a table.
+-- An insertion that begins after a search has found no place for its key in a table.
 use Rattle.std.proofs.Common.{◌≡◌, ℕ, Bool, Option, None, Some, List, [], refl, sym, ap, ◌∙◌, subst}
 use denote.Bor.{Bor}
 use Rattle.logbook.specs.Pages.{Book}

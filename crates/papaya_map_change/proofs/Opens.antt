@@ -1,4 +1,4 @@
--- After it tried to open a table a call relies on what holds again, and holds the root's table.
+-- After a call tried to open a table, it again relies on what holds, and holds the root's table.
 use Rattle.std.proofs.Common.{◌≡◌, ◌⊎◌, inl, inr, ℕ, ◌==◌, Bool, true, false, Option, None, Some, List, [], ◌∷◌, ◌++◌, refl, sym, ap, ◌∙◌, subst}
 use Rattle.std.specs.Cmp.{IsEquivalence}
 use mathlib.Core.List.{IsPrefix}

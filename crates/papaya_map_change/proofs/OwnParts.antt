@@ -1,4 +1,4 @@
--- The key and the value of a call that inserts: handed in, or those of a pair that went into the log.
+-- The key and the value of a call that inserts: as they were passed in, or those of a pair that is stored in the arena.
 use Rattle.std.proofs.Common.{◌≡◌, ⊎_elim, ℕ, Option, None, Some, refl, sym, ◌∙◌}
 use Rattle.logbook.specs.Pages.{Book as Name}
 use Rattle.papaya_map_book.specs.declared.book.Book.{Book}

@@ -1,4 +1,4 @@
--- What a machine over a chain stands on after an answer to its call itself with which nothing was said, and after one to a pair that was shown.
+-- The closure's answers on which a machine over a chain relies: after an answer for which its closure was not called, and after one for which it was.
 use Rattle.std.proofs.Common.{◌≡◌, ◌⊎◌, inl, inr, Bool, refl, sym, ap, subst}
 use Rattle.papaya_call.specs.declared.ask.Answer.{Answer}
 use Rattle.papaya_call.specs.declared.ask.Answer.TheVariants.{Yes}

@@ -1,4 +1,5 @@
--- Why a call is refused by an answer of its own: by what its driver's answer says, since no number was left for a pair, or since its closure would remove a pair where there is none.
+-- Why a call's own answer refuses it: its driver's answer does, or no number was left for a pair, or its closure would remove a pair where there is
+-- none.
 use Rattle.std.proofs.Common.{◌≡◌, ◌⊎◌, inl, inr, ⊎_elim, ℕ, Option, List, refl, sym, ap, ◌∙◌, subst}
 use Rattle.papaya_words.specs.declared.refused.Refused.{Refused as Cause}
 use Rattle.papaya_words.specs.declared.refused.Refused.TheVariants.{Capacity, Limit, RemoveNothing}

@@ -1,4 +1,4 @@
--- What a call over a chain of tables relies on, over longer logs and after each answer, with what it is called by as a further key.
+-- A call over a chain of tables, with its key as a further key: what it relies on, over longer logs and after each answer.
 use Rattle.std.proofs.Common.{◌≡◌, ℕ, Bool, true, Option, None, List, [], ◌++◌, append_assoc, sym, ap, ◌∙◌, subst}
 use Rattle.std.specs.Cmp.{IsEquivalence}
 use mathlib.Core.List.{IsPrefix}

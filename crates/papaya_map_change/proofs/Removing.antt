@@ -1,4 +1,5 @@
--- After each answer a removal relies on what holds again, and what its machine stands on was said of the pair shown last.
+-- After each answer a removal again relies on what holds, and what its machine relies on was returned for the pair with which the closure was called
+-- last.
 use Rattle.std.proofs.Common.{◌≡◌, inl, inr, ⊎_elim, ℕ, ◌==◌, Bool, true, false, MatchBool}
 use Rattle.std.proofs.Common.{MatchOption, Option, None, Some, List, [], ◌∷◌, length, append-nil}
 use Rattle.std.proofs.Common.{refl, sym, ap, ◌∙◌, subst}

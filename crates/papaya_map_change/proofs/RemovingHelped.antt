@@ -1,4 +1,4 @@
--- A removal that was set aside goes on after a copy as it was: its closure was shown nothing further.
+-- A removal that was set aside is the same after the copy: its closure was not called meanwhile.
 use Rattle.std.proofs.Common.{◌≡◌, ℕ, Bool, None, Some, List, [], append-nil, ◌∙◌}
 use mathlib.Core.List.{IsPrefix}
 use Rattle.logbook.specs.Pages.{Book}

@@ -1,4 +1,4 @@
--- A removal that is made at once: its machine, which nothing runs, stands where the lookup's search met the pair.
+-- The fast path of a removal: its machine, which nothing runs, is where the lookup's search met the pair.
 use Rattle.std.proofs.Common.{◌≡◌, inl, inr, ℕ, zero, suc, ◌<◌, ◌==◌, Bool, true, false, MatchBool}
 use Rattle.std.proofs.Common.{Option, None, Some, Result, Ok, Err, List, [], ◌∷◌, ◌++◌, append-nil}
 use Rattle.std.proofs.Common.{length, refl, sym, ap, ◌∙◌, subst, arith}

@@ -1,4 +1,4 @@
--- What a removal that has replied answers: what its closure said of the pair, and the change that it made.
+-- The result of a removal that has replied: what its closure returned for the pair, and the change that it made.
 use Rattle.std.proofs.Common.{◌≡◌, inl, inr, ℕ, Bool, true, false, MatchOption, Option, None, Some}
 use Rattle.std.proofs.Common.{Result, Ok, Err, List, [], ◌∷◌, ◌++◌, append-nil, is_some, refl, sym}
 use Rattle.std.proofs.Common.{ap, ◌∙◌, subst}

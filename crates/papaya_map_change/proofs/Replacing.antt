@@ -1,4 +1,5 @@
--- An insertion that is made at once in place of a pair: one of that pair's key is logged and put in, and its machine, which nothing runs, goes on so.
+-- The fast path of an insertion that replaces a pair: one of that pair's key is stored and put in, and its machine, which nothing runs, goes on
+-- likewise.
 use Rattle.std.proofs.Common.{◌≡◌, inl, inr, ⊎_elim, ℕ, ◌<◌, ◌==◌, ◌&&◌, eq-eqb, Bool, true, false}
 use Rattle.std.proofs.Common.{if◌then◌else◌, MatchOption, Option, None, Some, List, [], ◌∷◌, ◌++◌}
 use Rattle.std.proofs.Common.{append-nil, length, refl, sym, ap, ◌∙◌, subst}

@@ -1,4 +1,4 @@
--- Each answer leaves a call that resizes relying on what holds, and says why where it ends it refused.
+-- After each answer a call that resizes relies on what holds, and if it ends with a refusal, the cause is right.
 use Rattle.std.proofs.Common.{◌≡◌, ◌⊎◌, inl, inr, ⊎_elim, ℕ, ◌+◌, ◌==◌, Bool, true, false}
 use Rattle.std.proofs.Common.{if◌then◌else◌, MatchBool, Option, None, Some, List, [], length}
 use Rattle.std.proofs.Common.{append-nil, refl, sym, ap, ◌∙◌, subst}

@@ -1,4 +1,4 @@
--- A call that resizes begins, and opens a first table where there is none.
+-- A call that resizes begins, and opens a first table if there is none.
 use Rattle.std.proofs.Common.{◌≡◌, ℕ, ◌+◌, ◌==◌, Bool, true, false, if◌then◌else◌, MatchBool}
 use Rattle.std.proofs.Common.{Option, None, Some, List, [], ◌∷◌, ◌++◌, append-nil, refl, sym, ap}
 use Rattle.std.proofs.Common.{◌∙◌, subst}

@@ -1,4 +1,4 @@
--- A call that resizes relies on longer logs too: what it asks may be answered, and each answer leaves it relying on what holds.
+-- A call that resizes relies on longer logs too: its asks may be answered, and after each answer it relies on what holds.
 use Rattle.std.proofs.Common.{◌≡◌, inr, ⊎_elim, ℕ, ◌+◌, ◌<◌, ◌==◌, Bool, true, false, MatchBool}
 use Rattle.std.proofs.Common.{Option, None, Some, List, [], ◌∷◌, ◌++◌, length, append-nil, eqb-true}
 use Rattle.std.proofs.Common.{refl, sym, ap, ◌∙◌, subst}

@@ -1,4 +1,4 @@
--- A call that resizes knows the length of the root, and where it ends there is the room that it wanted.
+-- A call that resizes knows the length of the root, and when it ends there is the room that was requested.
 use Rattle.std.proofs.Common.{◌≡◌, ℕ, ◌+◌, ◌≤◌, ◌^◌, ◌==◌, nat_le, max, Bool, true, false, cond}
 use Rattle.std.proofs.Common.{arith, leb-true, Option, None, Some, List, [], ◌∷◌, refl, ap, subst}
 use Rattle.std.proofs.lemmas.Bool.{cond_both}

@@ -1,4 +1,4 @@
--- A call that resizes relies on what holds after each answer by which its copy is led on, whatever runs.
+-- A call that resizes relies on what holds after each answer that leads its copy on, whatever runs.
 use Rattle.std.proofs.Common.{◌≡◌, ℕ, Bool, true, Option, Some, List, [], ◌∷◌, refl, sym, ap, ◌∙◌, subst}
 use Rattle.std.specs.Cmp.{IsEquivalence}
 use mathlib.Core.List.{IsPrefix}

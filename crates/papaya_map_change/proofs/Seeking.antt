@@ -1,4 +1,4 @@
--- A search that is made at once, for an insertion or a compute: where each of its steps leads the machine that nothing runs.
+-- The search of an insertion's or a compute's fast path: where each of its steps leads the machine, which nothing runs.
 use Rattle.std.proofs.Common.{◌≡◌, inl, ℕ, ◌<◌, ◌≤◌, ◌==◌, nat_lt, Bool, true, false, if◌then◌else◌}
 use Rattle.std.proofs.Common.{Option, None, Some, List, [], length, refl, sym, ap, ◌∙◌, subst}
 use Rattle.std.proofs.Common.{arith}

@@ -1,4 +1,4 @@
--- Answers for a copy, one after another, by what is seen of the map.
+-- Answers to a copy's asks, one after another, by what has been observed of the map.
 use Rattle.std.proofs.Common.{◌≡◌, ℕ, ◌+◌, ◌-◌, ◌<◌, Option, None, Some, List, [], length, append-nil, arith, refl, sym, ap, ◌∙◌, subst}
 use mathlib.Core.List.{IsPrefix}
 use Rattle.papaya_words.specs.declared.resize_mode.ResizeMode.{ResizeMode}

@@ -1,4 +1,4 @@
--- Answers for a copy, one after another: what each leads to, and how they are put together.
+-- Answers to a copy's asks, one after another: what each leads to, and how they are put together.
 use Rattle.std.proofs.Common.{◌≡◌, ℕ, ◌+◌, ◌<◌, ◌==◌, nat_lt, Bool, true, false, if◌then◌else◌}
 use Rattle.std.proofs.Common.{Option, None, Some, List, [], ◌∷◌, ◌++◌, append-nil, refl, sym, ap}
 use Rattle.std.proofs.Common.{◌∙◌, subst}

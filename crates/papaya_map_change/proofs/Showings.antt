@@ -1,4 +1,4 @@
--- What was held between two histories was held between any two further apart.
+-- An entry that was held between two histories was held between any two further apart.
 use Rattle.std.proofs.Common.{◌≡◌, ℕ, Bool, true, Option, None, Some, List, [], ◌∷◌, ◌++◌, append-nil, inl, inr, refl, sym, ap, subst}
 use Rattle.std.specs.Cmp.{IsEquivalence}
 use mathlib.Core.List.{IsPrefix}

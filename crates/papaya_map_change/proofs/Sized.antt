@@ -1,4 +1,4 @@
--- The length by which a next table is sized is that of a table that has come: it stays so whatever is answered.
+-- The length by which a next table is sized is that of a table in the log, and stays so whatever is answered.
 use Rattle.std.proofs.Common.{◌≡◌, ℕ, ◌^◌, ◌==◌, nat_le, Bool, Option, None, Some, List}
 use Rattle.std.proofs.lemmas.Bool.{cond_both}
 use mathlib.Core.List.{IsPrefix}

@@ -1,4 +1,4 @@
--- A call that was told that no number is left for a pair: the limit on pairs is spent.
+-- A call that has learned that no number is left for a pair: the limit on pairs is spent.
 use Rattle.std.proofs.Common.{◌≡◌, ⊎_elim, ℕ, Bool, ◌≤◌, MatchOption, Option, Some, List, sym, ◌∙◌, subst, arith}
 use Rattle.papaya_words.specs.declared.refused.Refused.{Refused as Cause}
 use Rattle.papaya_words.specs.declared.refused.Refused.TheVariants.{Limit}

@@ -1,4 +1,5 @@
--- What a machine over a chain asks for its call itself, and where an answer to that leads: its call goes a step of its own, is set aside, or looks on in the next table at once.
+-- A machine over a chain that asks for its call itself, and where an answer leads: the call takes a step, is set aside, or goes on in the next table
+-- at once.
 use Rattle.std.proofs.Common.{◌≡◌, ◌⊎◌, inl, inr, ⊎_elim, ℕ, ◌==◌, Bool, true, false, cond, Option, None, Some, List, refl, sym, ap, ◌∙◌, subst}
 use Rattle.std.proofs.lemmas.Bool.{cond_both, cond-false}
 use Rattle.papaya_words.specs.declared.resize_mode.ResizeMode.{ResizeMode}

@@ -1,4 +1,4 @@
--- A call takes a number for a pair: it may wherever the count stands that it was told of, and after it tried to it relies on what holds again.
+-- A call takes a number for a pair: it may whenever the count is what it loaded, and after the attempt it again relies on what holds.
 use Rattle.std.proofs.Common.{◌≡◌, ℕ, ◌==◌, Bool, true, false, MatchBool, Option, None, Some, List, [], ◌∷◌, ◌++◌, refl, sym, ap, ◌∙◌, subst}
 use Rattle.std.specs.Cmp.{IsEquivalence}
 use mathlib.Core.List.{IsPrefix}

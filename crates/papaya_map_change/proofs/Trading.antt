@@ -1,4 +1,4 @@
--- What an insertion has put in that put its pair in the place of what a search met.
+-- The change of an insertion that put its pair in place of the one that its search met.
 use Rattle.std.proofs.Common.{◌≡◌, Bool, Option, None, Some, List, refl, sym, ap, ◌∙◌, subst}
 use Rattle.std.specs.Cmp.{IsEquivalence}
 use denote.Bor.{Bor}

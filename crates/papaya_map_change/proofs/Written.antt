@@ -1,4 +1,4 @@
--- After each answer a call that inserts relies on what holds again, by its key and with the pairs that it has made.
+-- After each answer a call that inserts again relies on what holds, by its key and with the pairs that it has made.
 use Rattle.std.proofs.Common.{◌≡◌, ◌⊎◌, inl, inr, ⊎_elim, ℕ, ◌<◌, ◌^◌, Bool, true, Option, Some, List, [], ◌∷◌, append-nil, refl, sym, ap, ◌∙◌, subst, arith}
 use Rattle.std.specs.Cmp.{IsEquivalence}
 use mathlib.Core.List.{IsPrefix}

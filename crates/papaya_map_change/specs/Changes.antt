@@ -1,18 +1,19 @@
--- What a call that changes the shared map does to its history.
+-- The effect of a changing call on the history of the shared map.
 use Rattle.std.specs.Prelude.{◌≡◌, Bool, true, MatchOption, Option, None, Some, List, [], ◌∷◌, ◌++◌}
 use mathlib.Core.List.{IsPrefix}
 use denote.Bor.{Bor}
 use Rattle.papaya_map_lookup.specs.History.{Change, key_of}
 use Rattle.papaya_map_book.specs.Logs.{Stored}
 
--- the key that a pair has that comes: that of the pair whose place it takes, or else the call's own
+-- The key of an entry that is put in: that of the entry that it replaces, or the call's own key if
+-- it replaces none.
 abbrev pub key_kept : {K V : Type 0} → Option (Stored K V) → K → K
 key_kept None key = key
 key_kept (Some p) key = key_of p
 
--- What the call put in is the last that was seen of the history: the value that was handed in, with
--- the key that was stored, or with the one that was handed in where none was. The answer is the
--- value of what it took out.
+-- The insertion's change is the last of the history `new`. It put in `value`, with the stored key
+-- if an equal key had an entry, and with `key` if none had. `answer` is the value of the entry that
+-- it took out, if any.
 pub record IsPut {K V : Type 0} (eq : K → K → Bool) (key : K) (value : V)
     (old new : List (Change K (Stored K V))) (answer : Option (Bor V)) : Type 0 where
   pub before : List (Change K (Stored K V))
@@ -25,8 +26,8 @@ pub record IsPut {K V : Type 0} (eq : K → K → Bool) (key : K) (value : V)
   pub taken_is : MatchOption answer (change.taken ≡ None)
       (λ r. (p : Stored K V) × (change.taken ≡ Some p) × (r.now ≡ p.value.value))
 
--- The call's change is the last that was seen of the history: of a class of a matching key it took
--- out the one pair and put in the other. Where it did both, the key that was stored stays.
+-- The call's change is the last of the history `new`. In the class of a key that matches, it took
+-- out `taken` and put in `put`. If it did both, the stored key stays.
 pub record IsChangeOf {K V : Type 0} (matches : K → Bool) (old new : List (Change K (Stored K V)))
     (taken put : Option (Stored K V)) : Type 0 where
   pub before : List (Change K (Stored K V))

@@ -1,4 +1,4 @@
--- What a changing call on the shared map holds and relies on, and what it changes.
+-- A changing call on the shared map: what it holds and relies on, and what it changes.
 use Rattle.std.specs.Prelude.{◌≡◌, ℕ, Bool, true, MatchOption, Option, None, Some, List, [], ◌∷◌, ◌++◌, length}
 use mathlib.Core.List.{IsPrefix}
 use denote.Bor.{Bor}
@@ -37,17 +37,19 @@ use Rattle.papaya_map_change.specs.declared.driver.Driver.{Driver}
 use Rattle.papaya_map_lookup.specs.Lookups.{coding_for, setting_for}
 use Rattle.papaya_map_book.specs.Rule.{IsLawfulLog, IsPlaced}
 
--- the pairs that a call holds, as its machine is told of them
+-- The record of the pairs that a call holds: the one that it loaded last, the one that its copy
+-- carries, and those that it made.
 abbrev pub loaded_with : {P : Type 0} → (last kept : Option P) (made : List P) → LoadedPairs P
 loaded_with last kept made = record { call = record { last = last; made = made }; kept = kept }
 
--- an exchange is asked for with which this table comes: it is opened, or linked
+-- The ask is an exchange that brings in the table `n`: it is opened as the root, or linked.
 abbrev pub IsBringing : Ask → ℕ → Type 0
 IsBringing (Call (asks.Exchange Root old new)) n = (old ≡ 0) × (new ≡ n)
 IsBringing (Copy (copies.Exchange (Next t) old new)) n = (old ≡ 0) × (new ≡ n)
 IsBringing _ n = ⊥
 
--- where the length was told by which a next table is sized, it is that of one of these tables
+-- If the link has learned the length by which the next table is sized, that is the length of one of
+-- these tables.
 abbrev pub IsSizedLink : (tables : List ℕ) → Link → Type 0
 IsSizedLink tables (Measuring behind copied unfit len) = Member len tables
 IsSizedLink tables (Counting behind unfit len copied) = Member len tables
@@ -60,7 +62,7 @@ IsSizedBy tables (Some link) = IsSizedLink tables link
 abbrev pub IsCountingOf : (tables : List ℕ) → Machine → Type 0
 IsCountingOf tables m = IsSizedBy tables (link_in m.phase)
 
--- the table of this number was made, and its seal is at hand
+-- The call holds the table `n`, which was made, and the pen of its seal.
 pub record IsFresh {K V S : Type 0} (b : Begun K V S) (name : Book) (log : List (Event K V S))
     (n : ℕ) (fresh : Option (Where Sheet × Pen)) : Type 0 where
   pub table : Where Sheet
@@ -72,33 +74,33 @@ pub record IsFresh {K V S : Type 0} (b : Begun K V S) (name : Book) (log : List 
   pub seal_book : seal.book ≡ name
   pub seal_nib : seal.nib ≡ nib may_write table.value.seal 0
 
--- a table that was made is at hand, and has so many words for chunks
+-- The call holds a table that was made, which has `chunks` words for chunks.
 abbrev pub HasChunks : Option (Where Sheet × Pen) → ℕ → Type 0
 HasChunks fresh chunks = MatchOption fresh ⊥ (λ f. length f.0.value.done ≡ chunks)
 
--- it has this number too
+-- The call holds the table `n`, which was made, and which has `chunks` words for chunks.
 abbrev pub IsReadyAs : {K V S : Type 0} → Begun K V S → Book → List (Event K V S)
     → Option (Where Sheet × Pen) → (n chunks : ℕ) → Type 0
 IsReadyAs b name log fresh n chunks = IsFresh b name log n fresh × HasChunks fresh chunks
 
--- the table that is about to be linked has as many words for chunks as were asked for
+-- A table that is about to be linked has as many words for chunks as the link asks for.
 abbrev pub HasAskedWords : Option Link → Option (Where Sheet × Pen) → Type 0
 HasAskedWords link fresh = (behind n chunks : ℕ) → link ≡ Some (Linking behind n chunks)
     → HasChunks fresh chunks
 
--- a key is of the class of the call's own, where it has one
+-- The key `other` is equal to the call's own key, if the call has one.
 abbrev pub IsOfCall : {K : Type 0} → (K → K → Bool) → Option K → K → Type 0
 IsOfCall eq k other = MatchOption k (Unit {0}) (λ key. eq key other ≡ true)
 
--- A pair that takes the place of none has the call's own key, and any other has that of the pair
--- whose place it takes.
+-- A pair that replaces none has the call's own key, and any other has the key of the pair that it
+-- replaces. In both cases this key is equal to the call's own, if the call has one.
 pub record HasItsKey {K V : Type 0} (eq : K → K → Bool) (k : Option K) (taken : Option (Stored K V))
     (q : Stored K V) : Type 0 where
   pub is : MatchOption taken (Some (key_of q) ≡ k) (λ p. key_of q ≡ key_of p)
   pub same : IsOfCall eq k (key_of q)
 
--- The log ends with the call's change, which came after all that was there when it began. What it
--- takes out and puts in has the numbers that the machine tells.
+-- The log's last exchange is the call's change, which was made after the log `begun`. The pairs
+-- that it takes out and puts in have the numbers that the machine keeps in `change`.
 pub record HasChanged {K V S : Type 0} (eq : K → K → Bool) (k : Option K)
     (begun log : List (Event K V S)) (taken put : Option (Stored K V))
     (change : Option ℕ × Option ℕ) : Type 0 where
@@ -114,10 +116,10 @@ pub record HasChanged {K V S : Type 0} (eq : K → K → Bool) (k : Option K)
       (λ q. (change.1 ≡ Some q.index) × (eq class (key_of q) ≡ true)
       × HasItsKey eq k taken q)
 
--- A call by the key k, or by the further one, relies on the log since it began, with the copy that
--- it is set aside for. It holds the table and the pair of which it was told last, the pair that its
--- copy carries, the pairs that it has made, and those that its change took out and put in; and a
--- table that it made, until it has tried to open or link it.
+-- A call by the key `k`, or by the further key if `k` is `None`, relies on the log since it began,
+-- and on the copy for which it is set aside. It holds the table and the pair that it loaded last,
+-- the pair that its copy carries, the pairs that it has made, and those that its change took out
+-- and put in. It holds a table that it made until it has tried to open or link it.
 pub record IsCalling {K V S : Type 0} (eq : K → K → Bool) (hash : S → K → ℕ) (b : Begun K V S)
     (name : Book) (matches : K → Bool) (fed : ℕ) (k : Option K) (begun log : List (Event K V S))
     (m : Machine) (table : Option (Bor Sheet)) (last kept : Option (Stored K V))
@@ -142,7 +144,7 @@ pub record IsCalling {K V S : Type 0} (eq : K → K → Bool) (hash : S → K �
   pub words : HasAskedWords (link_in m.phase) fresh
   pub counts : IsCountingOf (tables_of log) m
 
--- the further key that a call may come with is lawful
+-- The further key that a call may search for, given by `matches` and the hash `fed`, is lawful.
 abbrev pub IsForm : {K V S : Type 0} → (K → K → Bool) → (S → K → ℕ) → Begun K V S → (K → Bool) → ℕ
     → Type 0
 IsForm {V = V} {S = S} eq hash b matches fed = IsLawfulKey
@@ -151,18 +153,19 @@ IsForm {V = V} {S = S} eq hash b matches fed = IsLawfulKey
 
 module _ {K V S H : Type 0} (eq : K → K → Bool) (hash : S → K → ℕ) (b : Begun K V S)
     (name : Book) where
-  -- the same of what is held of a call under way
+  -- The same for what the driver of a call under way holds.
   abbrev pub IsDriven : (K → Bool) → ℕ → Option K → List (Event K V S) → List (Event K V S)
       → List (Stored K V) → Driver K V S H → Type 0
   IsDriven matches fed k begun log made c = IsCalling eq hash b name matches fed k begun log c.machine
       c.table c.copier.last c.copier.kept made c.taken c.put c.copier.fresh
 
-  -- some call is under way, and each that is goes on so
+  -- Some call is under way with this driver.
   abbrev pub CanGoOn : List (Event K V S) → Driver K V S H → Type 0
   CanGoOn log c = (matches : K → Bool) × (fed : ℕ) × IsForm eq hash b matches fed × (k : Option K)
       × (begun : List (Event K V S)) × (made : List (Stored K V))
       × IsDriven matches fed k begun log made c
 
+  -- Each call that was under way with `c` is under way at the log `log'` with `c'`.
   abbrev pub GoesOn : List (Event K V S) → Driver K V S H → List (Event K V S) → Driver K V S H
       → Type 0
   GoesOn log c log' c' = (matches : K → Bool) (fed : ℕ) → IsForm eq hash b matches fed → (k : Option K)

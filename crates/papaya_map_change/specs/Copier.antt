@@ -1,4 +1,4 @@
--- What is asked for a copy, when it may be answered, and what the answer tells.
+-- The asks of a copy, when they may be answered, and what each answer states.
 use Rattle.std.specs.Prelude.{◌≡◌, ◌≢◌, ◌⊎◌, ℕ, ◌+◌, ◌<◌, ◌==◌, Bool, MatchBool, if◌then◌else◌, Option, None, Some, List, [], ◌∷◌, length}
 use Rattle.boxcar.specs.Table.{Where}
 use Rattle.logbook.specs.Pages.{Book}
@@ -32,16 +32,17 @@ use Rattle.papaya_map_change.specs.declared.copier.Copier.{Copier}
 use Rattle.papaya_map_change.specs.Changing.{HasChunks, IsFresh}
 use Rattle.papaya_map_change.specs.Helping.{IsLoadedFor, IsTriedFor}
 
--- the pair last told of, after an exchange of this kind: the one that was marked
+-- The pair loaded last after an exchange of this kind: `pair` if the exchange marked it, else
+-- `last`.
 abbrev pub marked_or : {P : Type 0} → Option StepKind → (pair last : Option P) → Option P
 marked_or (Some kinds.Mark) pair last = pair
 marked_or kind pair last = last
 
--- what an exchange is answered that found this word
+-- The answer to an exchange that expected the word `old` and found `found`.
 abbrev pub tried_answer : (found old : ℕ) → Answer
 tried_answer found old = if found == old then answers.Call Exchanged else answers.Call (Found found)
 
--- the table of the place has come, and it has the slot, or the chunk's word
+-- The place is the root's word, or its table is in the log and has the slot or the chunk's word.
 abbrev pub IsReached : {K V S : Type 0} → List (Event K V S) → At → Type 0
 IsReached log Root = Unit {0}
 IsReached log (Next t) = HasCome log t
@@ -52,26 +53,26 @@ IsReached log (Slot t x) = (w : Where Sheet) × (table_in (steps_of log) t ≡ S
     × (x < length w.value.slots)
 IsReached log Made_word = ⊥
 
--- a pair is held, and lies in the logs
+-- A pair is held, and is stored in the arena.
 pub record IsHeld {K V S : Type 0} (b : Begun K V S) (name : Book) (held : Option (Stored K V))
     : Type 0 where
   pub some : (p : Stored K V) × (held ≡ Some p)
   pub placed : IsPlaced b (Some name) (pair_named held)
 
--- a table that was made is tried to be linked, and none else is
+-- Only an exchange that links a table may change which table is held.
 abbrev pub IsHandLeft : {A : Type 0} → At → (fresh fresh' : Option A) → Type 0
 IsHandLeft (Next t) fresh fresh' = Unit {0}
 IsHandLeft at fresh fresh' = fresh' ≡ fresh
 
 module _ {K V S : Type 0} (eq : K → K → Bool) (hash : S → K → ℕ) (b : Begun K V S)
     (name : Book) where
-  -- what a copier holds keeps it from none of the exchanges that are asked for
+  -- This exchange may be tried with the pair that the copier carries, and with no table.
   abbrev pub CanTryFor : At → Option StepKind → (words : ℕ × ℕ) → (kept : Option (Stored K V))
       → List (Event K V S) → Type 0
   CanTryFor at kind words kept log = CanExchange eq hash b at kind words.0 words.1 kept names.Nothing
       log
 
-  -- an exchange was tried, and this word was found
+  -- An exchange was tried, and found the word `found`.
   pub record HasTried (at : At) (kind : Option StepKind) (words : ℕ × ℕ)
       (kept : Option (Stored K V)) (fresh : Option (Where Sheet × Pen))
       (seen : List (Event K V S)) (last : Option (Stored K V)) (found : ℕ)
@@ -81,7 +82,7 @@ module _ {K V S : Type 0} (eq : K → K → Bool) (hash : S → K → ℕ) (b : 
     pub last_is : MatchBool (found == words.0) (last' ≡ marked_or kind pair last)
         (last' ≡ or_last pair last)
 
-  -- the size of a table
+  -- `size` has the number of slots and the probe limit of the table `t`.
   pub record IsSizeOf (t : ℕ) (log : List (Event K V S)) (size : ℕ × ℕ) : Type 0 where
     pub lawful : IsLawfulLog eq hash b log
     pub sheet : Sheet
@@ -91,26 +92,27 @@ module _ {K V S : Type 0} (eq : K → K → Bool) (hash : S → K → ℕ) (b : 
 
 module _ {K V S H : Type 0} (eq : K → K → Bool) (hash : S → K → ℕ) (b : Begun K V S)
     (name : Book) where
-  -- the table at hand has this number, and may be linked
+  -- The copier holds the table `new`, which may be linked as the next table of `t`.
   pub record CanJoin (t new : ℕ) (log : List (Event K V S)) (h : Copier K V S H) : Type 0 where
     pub come : HasCome log t
     pub fresh : IsFresh b name log new h.fresh
     pub can : (w : Where Sheet) (seal : Pen) → h.fresh ≡ Some (w, seal) → CanExchange eq hash b
         (Next t) (Some kinds.Link) 0 (w.index + 1) None (names.Table w) log
 
-  -- it was made after another one, with so many words for chunks, and is at hand
+  -- The copier holds the table `number`, which was made with a greater number than `follows`, and
+  -- with `chunks` words for chunks.
   pub record HasMade (number follows chunks : ℕ) (log : List (Event K V S)) (h : Copier K V S H)
       : Type 0 where
     pub past : follows < number
     pub fresh : IsFresh b name log number h.fresh
     pub words : HasChunks h.fresh chunks
 
-  -- the pair last told of is carried, and this is the hash of its key
+  -- The copier carries the pair that it loaded last, and `word` is the hash of that pair's key.
   pub record Carries (h h' : Copier K V S H) (word : ℕ) : Type 0 where
     pub kept : h'.kept ≡ h.last
     pub hash_is : (p : Stored K V) → h.last ≡ Some p → word ≡ hash b.hasher p.value.key.value
 
-  -- what is asked may be answered
+  -- This exchange may be tried.
   abbrev pub CanExchangeFor : At → Option StepKind → (old new : ℕ) → List (Event K V S)
       → Copier K V S H → Type 0
   CanExchangeFor (Next t) kind old new log h = CanJoin t new log h × (kind ≡ Some kinds.Link)
@@ -118,6 +120,7 @@ module _ {K V S H : Type 0} (eq : K → K → Bool) (hash : S → K → ℕ) (b 
   CanExchangeFor at kind old new log h = IsReached log at
       × CanTryFor eq hash b name at kind (old, new) h.kept log
 
+  -- This ask may be answered.
   abbrev pub CanAnswerTo : CopyAsk → Option StepKind → (follows : ℕ) → List (Event K V S)
       → Copier K V S H → Type 0
   CanAnswerTo (Load at) kind follows log h = IsReached log at
@@ -135,7 +138,7 @@ module _ {K V S H : Type 0} (eq : K → K → Bool) (hash : S → K → ℕ) (b 
   abbrev pub CanAnswer : CopyRequest → List (Event K V S) → Copier K V S H → Type 0
   CanAnswer asked log h = CanAnswerTo asked.ask asked.kind asked.follows log h
 
-  -- what was answered: the word of a place
+  -- The answer is the word that was loaded from a place.
   pub record AnswersLoad (at : At) (log : List (Event K V S)) (h : Copier K V S H)
       (log' : List (Event K V S)) (h' : Copier K V S H) (answer : Answer) : Type 0 where
     pub word : ℕ
@@ -143,7 +146,7 @@ module _ {K V S H : Type 0} (eq : K → K → Bool) (hash : S → K → ℕ) (b 
     pub as_loaded : IsLoadedFor eq hash b name at word log' h.last h'.last
     pub rest : h' ≡ record h { last = h'.last }
 
-  -- how an exchange ended
+  -- The answer is the result of an exchange.
   pub record AnswersExchange (at : At) (kind : Option StepKind) (old new : ℕ)
       (log : List (Event K V S)) (h : Copier K V S H) (log' : List (Event K V S))
       (h' : Copier K V S H) (answer : Answer) : Type 0 where
@@ -154,7 +157,7 @@ module _ {K V S H : Type 0} (eq : K → K → Bool) (hash : S → K → ℕ) (b 
     pub hand : IsHandLeft at h.fresh h'.fresh
     pub rest : h' ≡ record h { last = h'.last; fresh = h'.fresh }
 
-  -- the hint of a slot
+  -- The answer is the hint of a slot.
   pub record AnswersHint (t x : ℕ) (h : Copier K V S H) (log' : List (Event K V S))
       (h' : Copier K V S H) (answer : Answer) : Type 0 where
     pub hint : ℕ
@@ -162,14 +165,14 @@ module _ {K V S H : Type 0} (eq : K → K → Bool) (hash : S → K → ℕ) (b 
     pub hinted : IsSlotHint eq hash b t x hint log'
     pub rest : h' ≡ h
 
-  -- that a hint was written
+  -- The answer is that a hint was written.
   pub record AnswersNote (h : Copier K V S H) (log' : List (Event K V S)) (h' : Copier K V S H)
       (answer : Answer) : Type 0 where
     pub is : answer ≡ answers.Call Ok
     pub lawful : IsLawfulLog eq hash b log'
     pub rest : h' ≡ h
 
-  -- the size of a table
+  -- The answer is the size of a table.
   pub record AnswersSize (t : ℕ) (h : Copier K V S H) (log' : List (Event K V S))
       (h' : Copier K V S H) (answer : Answer) : Type 0 where
     pub size : ℕ × ℕ
@@ -177,7 +180,7 @@ module _ {K V S H : Type 0} (eq : K → K → Bool) (hash : S → K → ℕ) (b 
     pub size_of : IsSizeOf eq hash b name t log' size
     pub rest : h' ≡ h
 
-  -- the hash of a key
+  -- The answer is the hash of the key of the pair that the copier now carries.
   pub record AnswersHash (log : List (Event K V S)) (h : Copier K V S H)
       (log' : List (Event K V S)) (h' : Copier K V S H) (answer : Answer) : Type 0 where
     pub word : ℕ
@@ -186,7 +189,7 @@ module _ {K V S H : Type 0} (eq : K → K → Bool) (hash : S → K → ℕ) (b 
     pub still : log' ≡ log
     pub rest : h' ≡ record h { kept = h'.kept }
 
-  -- whether two pairs have equal keys
+  -- The answer is whether two pairs have equal keys.
   pub record AnswersSame (log : List (Event K V S)) (h : Copier K V S H)
       (log' : List (Event K V S)) (h' : Copier K V S H) (answer : Answer) : Type 0 where
     pub same : Bool
@@ -196,7 +199,7 @@ module _ {K V S H : Type 0} (eq : K → K → Bool) (hash : S → K → ℕ) (b 
     pub still : log' ≡ log
     pub rest : h' ≡ h
 
-  -- the sum of the count
+  -- The answer is the sum of the count.
   pub record AnswersCount (log : List (Event K V S)) (h : Copier K V S H)
       (log' : List (Event K V S)) (h' : Copier K V S H) (answer : Answer) : Type 0 where
     pub sum : ℕ
@@ -205,7 +208,7 @@ module _ {K V S H : Type 0} (eq : K → K → Bool) (hash : S → K → ℕ) (b 
     pub still : log' ≡ log
     pub rest : h' ≡ record h { given = h'.given }
 
-  -- a table was made, or was refused
+  -- The answer is the number of a table that was made, or the refusal of one.
   abbrev pub MakesTable : (follows chunks : ℕ) → (h : Copier K V S H) → (log' : List (Event K V S))
       → (h' : Copier K V S H) → Answer → Type 0
   MakesTable follows chunks h log' h' answer = ((number : ℕ)
@@ -220,7 +223,7 @@ module _ {K V S H : Type 0} (eq : K → K → Bool) (hash : S → K → ℕ) (b 
     pub makes : MakesTable follows chunks h log' h' answer
     pub rest : h' ≡ record h { fresh = h'.fresh; given = h'.given }
 
-  -- what was asked was answered so
+  -- The answer is one to this ask, as the definitions above state for each kind of ask.
   abbrev pub AnswersTo : CopyAsk → Option StepKind → (follows : ℕ) → List (Event K V S)
       → Copier K V S H → List (Event K V S) → Copier K V S H → Answer → Type 0
   AnswersTo (Load at) kind follows log h log' h' answer = AnswersLoad at log h log' h' answer

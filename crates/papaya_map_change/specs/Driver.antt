@@ -1,4 +1,4 @@
--- What a changing call under way holds, and what a load gives it.
+-- A changing call under way: what it holds, and what a load gives it.
 use Rattle.std.specs.Prelude.{◌≡◌, ℕ, Bool, MatchOption, Option, None, List, [], ◌<◌, length}
 use denote.Bor.{Bor}
 use Rattle.logbook.specs.Pages.{Book}
@@ -13,7 +13,7 @@ use Rattle.papaya_map_book.specs.Logs.{Stored}
 use Rattle.papaya_map_change.specs.declared.driver.Driver.{Driver}
 
 module _ {K V S : Type 0} where
-  -- the table is held, and where a slot is asked for it has the slot
+  -- The call holds the table that a load of this place needs, and for a slot that table has it.
   abbrev pub IsHeldAt : At → List (Event K V S) → Option (Bor Sheet) → Type 0
   IsHeldAt Root log table = Unit {0}
   IsHeldAt (Next t) log table = MatchOption table ⊥ (λ r. IsTable log t r.now)
@@ -23,8 +23,8 @@ module _ {K V S : Type 0} where
   IsHeldAt (Done t chunk) log table = ⊥
   IsHeldAt Made log table = Unit {0}
 
-  -- What a load of a place tells, and which table and pair the call holds then: those that were
-  -- loaded, or those of before where there is none.
+  -- `word` was loaded from this place. The call now holds the table or the pair that the word
+  -- names, or the same as before if it names none.
   abbrev pub IsLoaded : (K → K → Bool) → (S → K → ℕ) → Begun K V S → Book → At → ℕ
       → List (Event K V S) → (table table' : Option (Bor Sheet))
       → (last last' : Option (Stored K V)) → Type 0
@@ -42,7 +42,7 @@ module _ {K V S : Type 0} where
   IsLoaded eq hash b name Made word log table table' last last' = IsWord eq hash b Made word log
       × (table' ≡ table) × (last' ≡ last)
 
--- a call that begins holds nothing yet
+-- A call that begins holds nothing yet.
 pub record HoldsNothing {K V S H : Type 0} (c : Driver K V S H) : Type 0 where
   pub table : (c.table ≡ None) × (c.copier.fresh ≡ None)
   pub pairs : (c.copier.last ≡ None) × (c.copier.kept ≡ None) × (c.taken ≡ None) × (c.put ≡ None)

@@ -1,4 +1,4 @@
--- A call that is set aside goes on by answers for its copy, one after another.
+-- A call that is set aside goes on with the answers to its copy's asks, one after another.
 use Rattle.std.specs.Prelude.{◌≡◌, ℕ, Bool, List}
 use mathlib.Core.List.{IsPrefix}
 use Rattle.logbook.specs.Pages.{Book}
@@ -11,17 +11,17 @@ use Rattle.papaya_map_change.specs.declared.driver.Driver.{Driver}
 use Rattle.papaya_map_change.specs.Changing.{GoesOn}
 use Rattle.papaya_map_change.specs.Helping.{Copies}
 
--- the call with this copier
+-- The call with this copier.
 abbrev pub with_copier : {K V S H : Type 0} → Driver K V S H → Copier K V S H → Driver K V S H
 with_copier c copier = record c { copier = copier }
 
--- the call with this machine
+-- The call with this machine.
 abbrev pub with_machine : {K V S H : Type 0} → Driver K V S H → Machine → Driver K V S H
 with_machine c machine = record c { machine = machine }
 
 module _ {K V S H : Type 0} (eq : K → K → Bool) (hash : S → K → ℕ) (b : Begun K V S)
     (name : Book) where
-  -- it went on so up to an answer that it is still to be told
+  -- The call went on up to an answer that its machine has yet to receive.
   pub record GoesBy (log : List (Event K V S)) (c : Driver K V S H) (log' : List (Event K V S))
       (c' : Driver K V S H) (answer : Answer) : Type 0 where
     pub seen : List (Event K V S)

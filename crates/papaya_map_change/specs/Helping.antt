@@ -1,5 +1,5 @@
--- Where a call goes on that was set aside for a copy, and what each of the copy's answers
--- leaves it.
+-- A call that was set aside for a copy: where it continues, and what each answer to the copy's asks
+-- leaves it with.
 use Rattle.std.specs.Prelude.{◌≡◌, ◌⊎◌, ℕ, ◌==◌, Bool, MatchBool, MatchOption, Option, None, Some, List, [], ◌∷◌, ◌++◌}
 use mathlib.Core.List.{IsPrefix}
 use Rattle.logbook.specs.Pages.{Book}
@@ -44,21 +44,23 @@ use Rattle.papaya_map_lookup.specs.Lookups.{coding_for, setting_for}
 use Rattle.papaya_map_change.specs.declared.driver.Driver.{Driver}
 use Rattle.papaya_map_change.specs.Changing.{HasAskedWords, IsBringing, IsCountingOf, IsDriven, IsForm, IsFresh, loaded_with}
 
--- it looks for its key in a next table
+-- The call that was set aside now searches a next table for its key.
 pub record HasGoneOn (m m' : Machine) : Type 0 where
   pub from : ℕ
   pub left : left_by m.call.state ≡ Some from
   pub table : ℕ
   pub call : m'.call ≡ record m.call { state = Searching (Sizing table) }
 
--- it was told of the root, as one that begins
+-- The call that was set aside begins again: it has just loaded the root, as a call that begins
+-- does.
 pub record HasBegunAnew (m m' : Machine) : Type 0 where
   pub from : ℕ
   pub left : left_by m.call.state ≡ Some from
   pub root : ℕ
   pub call : m'.call ≡ calls.after (record m.call { state = AtRoot }) (Word root)
 
--- it ended, since a table could not be made: there was no memory, or no room for it
+-- The call that was set aside has ended, because a table could not be made: memory or room for it
+-- ran out.
 pub record WasRefused (m m' : Machine) (tables : List ℕ) (given : List CapacityCause) : Type 0 where
   pub from : ℕ
   pub left : left_by m.call.state ≡ Some from
@@ -66,46 +68,47 @@ pub record WasRefused (m m' : Machine) (tables : List ℕ) (given : List Capacit
   pub call : m'.call ≡ record m.call { state = Ended (Reply_refused refused) }
   pub cause : (refused ≡ Memory) ⊎ ((refused ≡ Capacity) × HasNoRoom m.call.initial tables given)
 
--- it was not set aside, or it was led so
+-- The call was not set aside, or it has continued in one of these ways.
 abbrev pub HasHelped : Machine → Machine → (tables : List ℕ) → List CapacityCause → Type 0
 HasHelped m m' tables given = (m' ≡ m) ⊎ HasGoneOn m m' ⊎ HasBegunAnew m m'
     ⊎ WasRefused m m' tables given
 
--- it is still set aside
+-- The call is still set aside.
 pub record IsAside (m m' : Machine) : Type 0 where
   pub from : ℕ
   pub left : left_by m.call.state ≡ Some from
   pub call : m'.call ≡ m.call
   pub busy : m'.phase ≡ Calling → ⊥
 
--- it goes on for itself
+-- The call is no longer set aside, and has continued in one of these ways.
 pub record IsLed (m m' : Machine) (tables : List ℕ) (given : List CapacityCause) : Type 0 where
   pub calling : m'.phase ≡ Calling
   pub where_to : HasGoneOn m m' ⊎ HasBegunAnew m m' ⊎ WasRefused m m' tables given
 
--- it is to look for its key in this table
+-- The call is about to search the table `n` for its key.
 abbrev pub IsEntering : Machine → ℕ → Type 0
 IsEntering m n = (m.phase ≡ Calling) × (m.call.state ≡ Searching (Sizing n))
 
--- what a call is given with an answer for a copy: the sum, or why no table was made
+-- The cause that an answer to a copy's ask leaves in `given`: the sum of the count, or why no table
+-- was made.
 abbrev pub IsGivenBy : Answer → List CapacityCause → Type 0
 IsGivenBy (answers.Count sum) given = given ≡ Sum sum ∷ []
 IsGivenBy (answers.Call (Was_refused refused)) given = (refused ≡ Memory)
     ⊎ ((refused ≡ Capacity) × IsFull given)
 IsGivenBy _ given = Unit {0}
 
--- the pair that a slot's word names
+-- The pair that the word of a slot names.
 abbrev pub pair_at : {P : Type 0} → State P → At → Option P
 pair_at s (Slot t x) = named (s.slot t x)
 pair_at s _ = None
 
--- the table that comes is the one at hand
+-- If an exchange brings in a table, it is the one that the call holds.
 abbrev pub IsOwnTable : {K V : Type 0} → Option (Where Sheet × Pen) → Named K V → Type 0
 IsOwnTable fresh (names.Table w) = MatchOption fresh ⊥ (λ f. f.0 ≡ w)
 IsOwnTable fresh _ = Unit {0}
 
--- What a call that is set aside relies on, and what it holds. It may have no table yet in which to
--- look for its key.
+-- A call that is set aside: what it relies on and holds. It may have no table yet in which to
+-- search for its key.
 pub record IsSetAside {K V S : Type 0} (eq : K → K → Bool) (hash : S → K → ℕ) (b : Begun K V S)
     (name : Book) (matches : K → Bool) (fed : ℕ) (k : Option K) (begun log : List (Event K V S))
     (m : Machine) (last kept : Option (Stored K V)) (made : List (Stored K V))
@@ -127,7 +130,7 @@ pub record IsSetAside {K V S : Type 0} (eq : K → K → Bool) (hash : S → K �
 
 module _ {K V S : Type 0} (eq : K → K → Bool) (hash : S → K → ℕ) (b : Begun K V S)
     (name : Book) where
-  -- the word of a place was loaded, and the pair that it names is the one last told of
+  -- The word of a place was loaded, and the pair that it names, if any, is now the one loaded last.
   pub record IsLoadedFor (at : At) (word : ℕ) (log : List (Event K V S))
       (last last' : Option (Stored K V)) : Type 0 where
     pub lawful : IsLawfulLog eq hash b log
@@ -136,9 +139,9 @@ module _ {K V S : Type 0} (eq : K → K → Bool) (hash : S → K → ℕ) (b : 
     pub placed : IsPlaced b (Some name) (pair_named last)
         → IsPlaced b (Some name) (pair_named last')
 
-  -- An exchange was made for a copy, after a log that goes on from what was seen, or another word
-  -- was found. A table that came with it was at hand. This is the pair that the word named which
-  -- was found.
+  -- An exchange was tried for a copy, at a log that extends `seen`: it succeeded and is the next
+  -- step, or it found another word. A table that it brought in was the one held. `pair` is the pair
+  -- that the found word named, if any.
   pub record IsTriedFor (at : At) (kind : Option StepKind) (old new : ℕ)
       (kept : Option (Stored K V)) (fresh : Option (Where Sheet × Pen))
       (seen : List (Event K V S)) (found : ℕ) (log : List (Event K V S))
@@ -156,7 +159,7 @@ module _ {K V S : Type 0} (eq : K → K → Bool) (hash : S → K → ℕ) (b : 
 
 module _ {K V S H : Type 0} (eq : K → K → Bool) (hash : S → K → ℕ) (b : Begun K V S)
     (name : Book) where
-  -- a call that was set aside, after what it asked for a copy was answered so
+  -- A call that was set aside, after this answer to what it asked for its copy.
   pub record HasCopied (matches : K → Bool) (fed : ℕ) (k : Option K) (begun : List (Event K V S))
       (made : List (Stored K V)) (log : List (Event K V S)) (c c' : Driver K V S H)
       (answer : Answer) : Type 0 where
@@ -165,7 +168,7 @@ module _ {K V S H : Type 0} (eq : K → K → Bool) (hash : S → K → ℕ) (b 
     pub leads : IsAside c.machine (after c.machine answer)
         ⊎ IsLed c.machine (after c.machine answer) (tables_of log) c'.copier.given.done
 
-  -- each call that is under way so goes on so
+  -- This answer takes each call that was under way with `c` on to `c'`.
   abbrev pub Copies : List (Event K V S) → Driver K V S H → List (Event K V S) → Driver K V S H
       → Answer → Type 0
   Copies log c log' c' answer = (matches : K → Bool) (fed : ℕ) → IsForm eq hash b matches fed

@@ -1,4 +1,4 @@
--- What an insertion on the shared map holds and relies on.
+-- An insertion on the shared map: what it holds and relies on.
 use Rattle.std.specs.Prelude.{◌≡◌, ℕ, Bool, true, Option, None, Some, List}
 use Rattle.logbook.specs.Pages.{Book}
 use Rattle.papaya_words.specs.declared.refused.Refused.{Refused as Cause}
@@ -23,14 +23,16 @@ use Rattle.papaya_map_book.specs.Limits.{HasNoRoom, IsSpent, tables_of}
 use Rattle.papaya_call_law.specs.Told.{IsOneOf}
 use Rattle.papaya_map_change.specs.Writing.{HasKeyAt, IsMemoryCapacityOrLimit, IsWriting, answered as answered_writer, held_value}
 
--- The pair that an insertion made of its own key is at hand, where its machine knows of one.
+-- If the machine has the number of a pair that the insertion made of its own key, then the
+-- insertion holds that pair.
 pub record HasOwn {K V : Type 0} (key : K) (value : V) (made : List (Stored K V))
     (machine : Option ℕ) (own : Option (Stored K V)) : Type 0 where
   pub there : (n : ℕ) → machine ≡ Some n → (q : Stored K V) × (own ≡ Some q) × (q.index ≡ n)
   pub is : (q : Stored K V) → own ≡ Some q → IsOneOf made q × (key_of q ≡ key)
       × (q.value.value ≡ value)
 
--- So is the last that it made of a key that it met in a slot, and that slot has this key still.
+-- If the machine has the number of the last pair that the insertion made of a key that it met in a
+-- slot, then the insertion holds that pair, and the slot still has this key.
 pub record HasOf {K V S : Type 0} (value : V) (made : List (Stored K V)) (log : List (Event K V S))
     (machine : Option Of) (of : Option (Stored K V)) : Type 0 where
   pub there : (new : Of) → machine ≡ Some new → (q : Stored K V) × (of ≡ Some q)
@@ -39,7 +41,7 @@ pub record HasOf {K V S : Type 0} (value : V) (made : List (Stored K V)) (log : 
 
 module _ {K V S H : Type 0} (eq : K → K → Bool) (hash : S → K → ℕ) (b : Begun K V S)
     (name : Book) where
-  -- An insertion of this key and value, and the pairs that it has made.
+  -- An insertion of this key and value is under way, with the pairs that it has made.
   pub record IsInserting (key : K) (value : V) (begun log : List (Event K V S))
       (x : Insertion K V S H) : Type 0 where
     pub made : List (Stored K V)
@@ -56,11 +58,11 @@ module _ {K V S H : Type 0} (eq : K → K → Bool) (hash : S → K → ℕ) (b 
         x.writer.call.copier.given.done
     pub spent : ask_of x.writer.call.machine ≡ Call (Done (Refused Limit)) → IsSpent b.limit log
 
-  -- the insertion after its machine was answered
+  -- The insertion after its machine was answered.
   abbrev pub answered : Insertion K V S H → Answer → Insertion K V S H
   answered x answer = record x { writer = answered_writer x.writer answer }
 
-  -- it has replied, or this is an answer to what it asks
+  -- The insertion has replied, or `answer` is an answer to what it asks.
   abbrev pub IsInsertingOn : K → V → List (Event K V S) → List (Event K V S) → Insertion K V S H
       → Option Answer → Type 0
   IsInsertingOn key value begun log x None = IsInserting key value begun log x
@@ -68,30 +70,32 @@ module _ {K V S H : Type 0} (eq : K → K → Bool) (hash : S → K → ℕ) (b 
   IsInsertingOn key value begun log x (Some answer) =
       IsInserting key value begun log (answered x answer) × IsFit answer
 
-  -- some insertion is under way, and each that is goes on so
+  -- Some insertion is under way.
   abbrev pub CanInsert : List (Event K V S) → Insertion K V S H → Type 0
   CanInsert log x = (key : K) × (value : V) × (begun : List (Event K V S))
       × IsInserting key value begun log x
 
+  -- Each insertion that was under way goes on with this answer.
   abbrev pub Inserts : List (Event K V S) → Insertion K V S H → List (Event K V S)
       → Insertion K V S H → Option Answer → Type 0
   Inserts log x log' x' answer = (key : K) (value : V) (begun : List (Event K V S))
       → IsInserting key value begun log x → IsInsertingOn key value begun log' x' answer
 
-  -- what each insertion has put in that was under way at the first log
+  -- Each insertion that was under way at the log `old` has put in its value by now, with this
+  -- result.
   abbrev pub HasPutSince : List (Event K V S) → Insertion K V S H → List (Event K V S)
       → Option (Bor V) → Type 0
   HasPutSince old x log answer = (key : K) (value : V) (begun : List (Event K V S))
       → IsInserting key value begun old x → IsPut eq key value (history_of begun) (history_of log)
       answer
 
-  -- what each insertion that is under way has put in
+  -- Each insertion that is under way has put in its value, with this result.
   abbrev pub HasPut : List (Event K V S) → Insertion K V S H → Option (Bor V) → Type 0
   HasPut log x answer = (key : K) (value : V) (begun : List (Event K V S))
       → IsInserting key value begun log x → IsPut eq key value (history_of begun) (history_of log)
       answer
 
-  -- each insertion that was under way so is under way so
+  -- Each insertion that was under way with `x` is under way at the log `log'` with `x'`.
   abbrev pub GoesOn : List (Event K V S) → Insertion K V S H → List (Event K V S)
       → Insertion K V S H → Type 0
   GoesOn log x log' x' = (key : K) (value : V) (begun : List (Event K V S))

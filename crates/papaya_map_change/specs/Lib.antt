@@ -14,6 +14,6 @@ pub mod Removing
 pub mod Resizing
 pub mod Settling
 pub mod Going
--- the same by what a window shows of the map
+-- The same definitions by what a window has observed of the map.
 pub mod Window
 pub mod Tries

@@ -1,4 +1,4 @@
--- A call's search that goes over places of a table at once, where its machine would ask for each.
+-- A call's search that passes places of a table in one step, where its machine would ask for each.
 use Rattle.std.specs.Prelude.{◌≡◌}
 use Rattle.papaya_call.specs.declared.search.Place.{Place}
 use Rattle.papaya_call.specs.declared.search.Search.TheVariants.{Looking}
@@ -7,14 +7,14 @@ use Rattle.papaya_call.specs.declared.chain.machine.Machine.{Machine}
 use Rattle.papaya_call.specs.declared.chain.machine.Phase.TheVariants.{Calling}
 use Rattle.papaya_map_change.specs.declared.driver.Driver.{Driver}
 
--- the machine of a call that looks at this place next
+-- The machine of a call that looks at this place next.
 abbrev pub looking_at : Machine → Place → Machine
 looking_at m at = record m {
   call = record m.call { state = Searching (Looking at) };
   phase = Calling;
 }
 
--- the call looked at a place next, and looks at another one now
+-- The call was about to look at one place, and is now about to look at another.
 pub record HasPassed {K V S H : Type 0} (c c' : Driver K V S H) : Type 0 where
   pub from : Place
   pub to : Place

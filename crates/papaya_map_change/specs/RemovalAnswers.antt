@@ -1,4 +1,4 @@
--- What a removal on the shared map answers.
+-- The results of removals on the shared map.
 use Rattle.std.specs.Prelude.{◌≡◌, Bool, true, false, Option, None, Some, Result, Ok, Err, List}
 use denote.Bor.{Bor}
 use Rattle.papaya_words.specs.declared.refused.Refused.{Refused}
@@ -8,30 +8,32 @@ use Rattle.papaya_map_book.specs.Logs.{Member, Stored}
 use Rattle.papaya_map_change.specs.Showings.{AllShown, AreOf, HasSaid, WasHeld, WasSaid}
 use Rattle.papaya_map_change.specs.Writing.{IsMemoryOrCapacity}
 
--- a pair went
+-- Whether an entry was removed.
 abbrev pub went : {E : Type 0} → Result (Result (Option E) E) Refused → Bool
 went (Ok (Ok (Some entry))) = true
 went _ = false
 
--- by an answer at once, if there was one
+-- Whether the fast path's result is that an entry was removed; `false` if it has no result.
 abbrev pub went_fast : {E : Type 0} → Option (Result (Option E) E) → Bool
 went_fast None = false
 went_fast (Some answer) = went (Ok answer)
 
--- and of a removal that asks no closure, its value
+-- Whether the result is a value. For a removal that calls no closure: whether an entry was removed.
 abbrev pub took : {A : Type 0} → Result (Option A) Refused → Bool
 took (Ok (Some value)) = true
 took _ = false
 
 module _ {K V : Type 0} (eq : K → K → Bool) (matches : K → Bool)
     (old new : List (Change K (Stored K V))) where
-  -- the call's change took out this pair
+  -- The call's change took out this entry, and put none in.
   abbrev pub IsTaken : Stored K V → Type 0
   IsTaken p = IsChangeOf matches old new (Some p) None
 
-  -- What a removal answers, by what its closure was shown and answered: the pair that it agreed to
-  -- and that went, or that there was none, or the pair that stays. It makes nothing for itself, but
-  -- it may be refused while it helps to copy: there was no memory for a next table, or no room.
+  -- The result of a removal, by the calls of its closure in `said`: the entry that was removed, for
+  -- which the closure returned `true`; `None`, if in some history between the two no key that
+  -- matches had an entry; or the entry that stays, for which the closure returned `false`. A
+  -- removal stores nothing itself, but may be refused while it helps to copy, because memory or
+  -- room ran out.
   abbrev pub IsJudged : List (Stored K V × Bool)
       → Result (Result (Option (Bor K × Bor V)) (Bor K × Bor V)) Refused → Type 0
   IsJudged said (Ok (Ok None)) = WasHeld eq matches old new None
@@ -40,8 +42,8 @@ module _ {K V : Type 0} (eq : K → K → Bool) (matches : K → Bool)
   IsJudged said (Ok (Err entry)) = (p : Stored K V) × Member (p, false) said × AreOf entry p
   IsJudged said (Err refused) = IsMemoryOrCapacity refused
 
-  -- A removal whose closure was `first`. Each pair that it was shown was the map's between the
-  -- two histories.
+  -- The result of a removal whose closure was `first`. Each entry with which the closure was called
+  -- was in the map in some history between the two.
   pub record IsRemovalBy {F : Type 0} (judges : F → Stored K V → Bool → F → Type 0) (first : F)
       (answer : Result (Result (Option (Bor K × Bor V)) (Bor K × Bor V)) Refused) : Type 0 where
     pub said : List (Stored K V × Bool)
@@ -50,28 +52,30 @@ module _ {K V : Type 0} (eq : K → K → Bool) (matches : K → Bool)
     pub held : AllShown (λ p. WasHeld eq matches old new (Some p)) said
     pub answered : IsJudged said answer
 
-  -- A removal whose closure was `first` has shown it these, and it is `left` then. Each pair that
-  -- it was shown was the map's between the two histories.
+  -- A removal has called its closure, which was `first`, with the entries in `said`, and it is now
+  -- `left`. Each of these entries was in the map in some history between the two.
   pub record HasShown {F : Type 0} (judges : F → Stored K V → Bool → F → Type 0)
       (first left : F) : Type 0 where
     pub said : List (Stored K V × Bool)
     pub has_said : HasSaid judges first said left
     pub held : AllShown (λ p. WasHeld eq matches old new (Some p)) said
 
-  -- what a removal answers that is tried at once; or it has shown what it met, and begins anew
+  -- The result of a removal's fast path. If it is `None`, the closure may have been called, and the
+  -- removal begins again.
   abbrev pub IsTriedRemoval : {F : Type 0} → (F → Stored K V → Bool → F → Type 0)
       → (first left : F) → Option (Result (Option (Bor K × Bor V)) (Bor K × Bor V)) → Type 0
   IsTriedRemoval judges first left None = HasShown judges first left
   IsTriedRemoval judges first left (Some answer) = IsRemovalBy judges first (Ok answer)
 
-  -- what a removal answers that asks no closure: the value of the pair that went, or that there was
-  -- none; or it was refused while it helped to copy
+  -- The result of a removal that calls no closure: the value of the entry that was removed; `None`,
+  -- if in some history between the two no key that matches had an entry; or a refusal while it
+  -- helped to copy.
   abbrev pub IsRemoved : Result (Option (Bor V)) Refused → Type 0
   IsRemoved (Ok None) = WasHeld eq matches old new None
   IsRemoved (Ok (Some value)) = (p : Stored K V) × IsTaken p × (value.now ≡ p.value.value)
   IsRemoved (Err refused) = IsMemoryOrCapacity refused
 
-  -- the same with the key of the pair that went
+  -- The same for a removal that returns the key and the value of the entry that was removed.
   abbrev pub IsEntryRemoved : Result (Option (Bor K × Bor V)) Refused → Type 0
   IsEntryRemoved (Ok None) = WasHeld eq matches old new None
   IsEntryRemoved (Ok (Some entry)) = (p : Stored K V) × IsTaken p × AreOf entry p

@@ -1,4 +1,4 @@
--- What a removal on the shared map holds and relies on, and what it answers.
+-- A removal on the shared map: what it holds and relies on, and what it returns.
 use Rattle.std.specs.Prelude.{◌≡◌, ℕ, Bool, Option, None, Some, Result, Ok, Err, List, []}
 use mathlib.Core.List.{IsPrefix}
 use denote.Bor.{Bor}
@@ -30,8 +30,8 @@ use Rattle.papaya_map_change.specs.Writing.{IsMemoryOrCapacity}
 
 module _ {K V S H F : Type 0} (eq : K → K → Bool) (hash : S → K → ℕ) (b : Begun K V S) (name : Book)
     (matches : K → Bool) (fed : ℕ) (judges : F → Stored K V → Bool → F → Type 0) where
-  -- A removal whose closure was `first` and is f now. What its machine stands on, the closure
-  -- answered of the pair that it was shown last.
+  -- A removal is under way, whose closure was `first` and is now `f`. If its machine relies on an
+  -- answer of the closure, that was returned for the pair with which the closure was called last.
   pub record IsRemoving (first : F) (begun log : List (Event K V S)) (x : Removal K V S H)
       (f : F) : Type 0 where
     pub calling : IsDriven eq hash b name matches fed None begun log [] x.call
@@ -48,13 +48,13 @@ module _ {K V S H F : Type 0} (eq : K → K → Bool) (hash : S → K → ℕ) (
     pub crowded : ask_of x.call.machine ≡ Call (Done (reply.Refused Capacity))
         → HasNoRoom x.call.machine.call.initial (tables_of log) x.call.copier.given.done
 
-  -- the removal after its machine was answered
+  -- The removal after its machine was answered.
   abbrev pub answered : Removal K V S H → Answer → Removal K V S H
   answered x answer = record x {
     call = record x.call { machine = after x.call.machine (answers.Call answer) };
   }
 
-  -- it has replied, or this is an answer to what it asks
+  -- The removal has replied, or `answer` is an answer to what it asks.
   abbrev pub IsRemovingOn : F → List (Event K V S) → List (Event K V S) → Removal K V S H → F
       → Option Answer → Type 0
   IsRemovingOn first begun log x f None = IsRemoving first begun log x f
@@ -62,22 +62,23 @@ module _ {K V S H F : Type 0} (eq : K → K → Bool) (hash : S → K → ℕ) (
   IsRemovingOn first begun log x f (Some answer) = IsRemoving first begun log (answered x answer) f
       × IsFit answer
 
-  -- some removal is under way, and each that is goes on so
+  -- Some removal is under way.
   abbrev pub CanRemove : List (Event K V S) → Removal K V S H → F → Type 0
   CanRemove log x f = (first : F) × (begun : List (Event K V S)) × IsRemoving first begun log x f
 
+  -- Each removal that was under way goes on with this answer.
   abbrev pub Removes : List (Event K V S) → Removal K V S H → F → List (Event K V S)
       → Removal K V S H → F → Option Answer → Type 0
   Removes log x f log' x' f' answer = (first : F) (begun : List (Event K V S))
       → IsRemoving first begun log x f → IsRemovingOn first begun log' x' f' answer
 
-  -- a removal that began after all that was seen of this log
+  -- A removal is under way that began no earlier than at the log `old`.
   abbrev pub IsUnderWay : F → List (Event K V S) → List (Event K V S) → Removal K V S H → F → Type 0
   IsUnderWay first old log x f = (begun : List (Event K V S)) × IsPrefix old begun
       × IsRemoving first begun log x f
 
--- The closure f was shown the pair last loaded, which the removal keeps; it answered so, and is
--- g then.
+-- The closure `f` was called with the pair last loaded, which the removal keeps. It returned what
+-- `answer` states, and is `g` afterwards.
 abbrev pub Shows : {K V S H F : Type 0} → (F → Stored K V → Bool → F → Type 0) → Removal K V S H → F
     → Removal K V S H → F → Answer → Type 0
 Shows {K = K} {V = V} judges x f x' g answer = (p : Stored K V) × (agreed : Bool)
@@ -85,8 +86,8 @@ Shows {K = K} {V = V} judges x f x' g answer = (p : Stored K V) × (agreed : Boo
     × (answer ≡ Yes agreed)
 
 module _ {K V S H : Type 0} where
-  -- A removal that replies this has at hand what it tells of: the pair that its closure was shown,
-  -- and the one that went, which has the same number.
+  -- A removal with this reply holds the pairs that its result needs: the one with which its closure
+  -- was called, and the one that was removed, which has the same number.
   abbrev pub CanTell : Begun K V S → Book → Removal K V S H → Reply → Type 0
   CanTell b name x reply.Absent = Unit {0}
   CanTell b name x (reply.Refused cause) = Unit {0}
@@ -97,7 +98,7 @@ module _ {K V S H : Type 0} where
       × IsPlaced b (Some name) (Pair shown) × IsPlaced b (Some name) (Pair taken)
   CanTell b name x _ = ⊥
 
-  -- and tells this
+  -- The result of a removal with this reply.
   abbrev pub Tells : Removal K V S H → Reply
       → Result (Result (Option (Bor K × Bor V)) (Bor K × Bor V)) Refused → Type 0
   Tells x reply.Absent answer = answer ≡ Ok (Ok None)

@@ -1,4 +1,4 @@
--- What a call that resizes the shared map holds and relies on, and why it is refused.
+-- A call that resizes the shared map: what it holds and relies on, and why it is refused.
 use Rattle.std.specs.Prelude.{◌≡◌, ◌⊎◌, ℕ, ◌+◌, ◌<◌, ◌≤◌, ◌^◌, Bool, Option, None, Some, List, [], ◌∷◌}
 use Rattle.logbook.specs.Pages.{Book}
 use Rattle.papaya_words.specs.declared.refused.Refused.{Refused as Cause}
@@ -24,14 +24,14 @@ use Rattle.papaya_map_book.specs.Rule.{IsLawfulLog, IsPlaced}
 use Rattle.papaya_map_change.specs.declared.copier.Copier.{Copier}
 use Rattle.papaya_map_change.specs.Changing.{HasChunks, IsFresh, IsSizedBy, loaded_with}
 
--- Room was asked for, for more pairs than a table may have slots for: beside as many as this sum of
--- the count, or beside none where there is no table.
+-- Room was requested for more pairs than a table may have slots for: for `more` beside as many as
+-- the sum of the count, or beside none if there is no table.
 pub record IsTooMuch (more : ℕ) (given : List CapacityCause) : Type 0 where
   pub count : ℕ
   pub counted : (count ≡ 0) ⊎ (given ≡ Sum count ∷ [])
   pub long : 2 ^ 32 < entries_of (count + more)
 
--- there is no room ahead for so many pairs more
+-- There is no room for `more` further pairs.
 abbrev pub HasNoRoomAhead : (initial more : ℕ) → (tables : List ℕ) → List CapacityCause → Type 0
 HasNoRoomAhead initial more tables given = HasNoRoom initial tables given ⊎ IsTooMuch more given
 
@@ -39,8 +39,8 @@ abbrev pub HasNoRoomFor : (initial : ℕ) → Resize → (tables : List ℕ) →
 HasNoRoomFor initial (Reserve more) tables given = HasNoRoomAhead initial more tables given
 HasNoRoomFor initial _ tables given = HasNoRoom initial tables given
 
--- There is room ahead for so many pairs more: a table has slots for them beside as many as this sum
--- of the count.
+-- There is room for `more` further pairs: one of the tables has slots for them beside as many pairs
+-- as the sum of the count.
 pub record HasRoomAhead (more : ℕ) (tables : List ℕ) (given : List CapacityCause) : Type 0 where
   pub count : ℕ
   pub counted : given ≡ Sum count ∷ []
@@ -48,31 +48,32 @@ pub record HasRoomAhead (more : ℕ) (tables : List ℕ) (given : List CapacityC
   pub there : Member len tables
   pub room : entries_of (count + more) ≤ len
 
--- what was wanted is done
+-- The request is met: if room was requested, there is that room.
 abbrev pub HasRoomFor : Resize → (tables : List ℕ) → List CapacityCause → Type 0
 HasRoomFor (Reserve more) tables given = HasRoomAhead more tables given
 HasRoomFor _ tables given = Unit {0}
 
--- where room is wanted, its size is known
+-- If room was requested, its size is known.
 abbrev pub IsWantedBy : Resize → Option TableSize → Type 0
 IsWantedBy (Reserve more) None = ⊥
 IsWantedBy _ room = Unit {0}
 
--- it knows the length of the root, and what it wants beside it; and in the end it has that
+-- At this stage the resizer knows the length of the root, or the size of the room that was
+-- requested; once it is done, the request is met.
 abbrev pub IsRoomIn : Resize → (tables : List ℕ) → List CapacityCause → Stage → Type 0
 IsRoomIn resize tables given (Counting root len) = Member len tables
 IsRoomIn resize tables given (Looking root len room) = IsWantedBy resize room
 IsRoomIn resize tables given Done = HasRoomFor resize tables given
 IsRoomIn resize tables given _ = Unit {0}
 
--- why it ends refused
+-- Why the resizer is refused: memory ran out, or there is no room for what was requested.
 abbrev pub IsResizeEnd : (initial : ℕ) → Resize → (tables : List ℕ) → List CapacityCause → Cause
     → Type 0
 IsResizeEnd initial resize tables given cause = (cause ≡ Memory)
     ⊎ ((cause ≡ Capacity) × HasNoRoomFor initial resize tables given)
 
--- A call that resizes relies on the log, with the pair of which it was told last and the one that
--- it carries; and it has a table at hand that it made, until it has tried to open or link it.
+-- A call that resizes relies on the log, and holds the pair that it loaded last and the one that it
+-- carries. It holds a table that it made until it has tried to open or link it.
 pub record IsResizing {K V S H : Type 0} (eq : K → K → Bool) (hash : S → K → ℕ) (b : Begun K V S)
     (name : Book) (log : List (Event K V S)) (m : Resizer) (h : Copier K V S H) : Type 0 where
   pub lawful : IsLawfulLog eq hash b log

@@ -1,5 +1,5 @@
--- A search that is made at once, for an insertion or a compute: their machines, which nothing runs,
--- stand in the proof.
+-- The search of an insertion's or a compute's fast path. The machines of these calls, which nothing
+-- runs, exist in the proof alone.
 use Rattle.std.specs.Prelude.{◌≡◌, ℕ, ◌+◌, ◌-◌, Bool, true, false, Option, None, Some, List, []}
 use denote.Bor.{Bor}
 use Rattle.logbook.specs.Pages.{Book}
@@ -31,7 +31,7 @@ use Rattle.papaya_map_change.specs.declared.fast_path.ProbeHit.TheVariants.{Next
 use Rattle.papaya_map_change.specs.declared.fast_path.ProbeHit.TheVariants.{Met as Met_pair}
 use Rattle.papaya_map_lookup.specs.declared.lookup.Met.{Met}
 
--- the calls that such a search serves
+-- The calls that such a search serves.
 pub data Seeker : Type 0 where
   Inserts : Seeker
   Computes : Seeker
@@ -40,7 +40,8 @@ abbrev pub task_of : Seeker → Task
 task_of Inserts = Insert true
 task_of Computes = Compute
 
--- the machine of a call that has made this and stands here, of a map of this initial capacity
+-- The machine of a call that has made `made` and is in this state, on a map of this initial
+-- capacity.
 abbrev pub seeker_at : Seeker → (hash : ℕ) → ResizeMode → (initial : ℕ) → Made → State → Machine
 seeker_at who hash mode initial made state = record {
   call = record (started (task_of who) hash mode initial made.limit) { made = made; state = state };
@@ -52,14 +53,14 @@ seeker_at who hash mode initial made state = record {
 abbrev pub insertion_at : (hash : ℕ) → ResizeMode → (initial : ℕ) → Made → State → Machine
 insertion_at hash mode initial made state = seeker_at Inserts hash mode initial made state
 
--- where a search goes on that has met no pair of the key
+-- The outcome of a place at which no pair of the key was met, by the search's next step.
 abbrev pub turn_of : {M : Type 0} → ProbeStep → ProbeHit M
 turn_of (On (Looking at)) = Next at
 turn_of (Seen_empty at) = Empty at
 turn_of (Seen_over table) = Over table
 turn_of _ = Else
 
--- where a call goes on at an empty place, and where it has met a live pair of the key
+-- The state in which a call continues at an empty place, and (`at_live`) at a live pair of the key.
 abbrev pub at_empty : Seeker → Place → State
 at_empty Inserts at = Writing (record { place = at; old = 0 })
 at_empty Computes at = Offering (At_place at)
@@ -68,12 +69,14 @@ abbrev pub at_live : Seeker → Place → (word : ℕ) → State
 at_live Inserts at word = Writing (record { place = at; old = word })
 at_live Computes at word = Showing (record { place = at; word = word })
 
--- where an insertion goes on that found no place in a table: it asks for a further one
+-- The state in which an insertion continues that found no place in a table: it asks for a further
+-- table. A compute has none.
 abbrev pub at_over : Seeker → (table : ℕ) → Option State
 at_over Inserts table = Some (Growing (Room table))
 at_over Computes table = None
 
--- where a turn leads a call's machine, where it leads to a place or asks for a table
+-- The state to which an outcome leads a call's machine, if it leads to a place or to a request for
+-- a table.
 abbrev pub leads : {K V : Type 0} → Seeker → ProbeHit (Met K V) → Option State
 leads who (Next at) = Some (Searching (Looking at))
 leads who (Empty at) = Some (at_empty who at)
@@ -84,12 +87,12 @@ leads who Else = None
 abbrev pub led_to : {K V : Type 0} → ProbeHit (Met K V) → Option State
 led_to turn = leads Inserts turn
 
--- the pair that it met
+-- The pair that the search met, if any.
 abbrev pub met_by : {K V : Type 0} → ProbeHit (Met K V) → Option (Stored K V)
 met_by (Met_pair met) = Some met.stored
 met_by _ = None
 
--- how many places a search has left
+-- How many places a search has left.
 abbrev pub left_at : Place → ℕ
 left_at at = at.limit + 1 - at.probe.len
 
@@ -97,8 +100,8 @@ abbrev pub left_to : {M : Type 0} → ProbeHit M → ℕ
 left_to (Next at) = left_at at
 left_to _ = 0
 
--- A call of this key that began at this log would stand here by now, and was told of this pair
--- last, if one is named. It has made no pair yet, and relies on this table.
+-- A call of this key that began at the log `begun` would be in this state now, and has loaded the
+-- pair `met` last, if there is one. It has made no pair yet, and relies on this table.
 abbrev pub IsSeekingAt : {K V S : Type 0} → Seeker → (K → K → Bool) → (S → K → ℕ) → Begun K V S
     → Book → K → (begun log : List (Event K V S)) → State → Option (Stored K V) → Sheet → Type 0
 IsSeekingAt {K} {V} who eq hash b name key begun log state met table = (lent : Bor Sheet)
@@ -108,7 +111,7 @@ IsSeekingAt {K} {V} who eq hash b name key begun log state met table = (lent : B
     (seeker_at who (hash b.hasher key) b.mode 1 (nothing_made b.limit) state) (Some lent) last None
     [] None None None
 
--- an insertion would
+-- The same for an insertion.
 abbrev pub IsInsertingAt : {K V S : Type 0} → (K → K → Bool) → (S → K → ℕ) → Begun K V S → Book → K
     → (begun log : List (Event K V S)) → State → Option (Stored K V) → Sheet → Type 0
 IsInsertingAt eq hash b name key begun log state met table =

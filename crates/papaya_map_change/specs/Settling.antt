@@ -1,5 +1,5 @@
--- Slots that are copied one after another: the machine, which nothing runs meanwhile, stands in the
--- proof. What it would be told on the way are answers to its asks.
+-- Slots that are copied one after another. The copy's machine, which nothing runs meanwhile, exists
+-- in the proof alone: what it would receive on the way are answers to its asks.
 use Rattle.std.specs.Prelude.{◌≡◌, ℕ, ◌+◌, Bool, Option, None, Some, List, [], ◌∷◌, nat_lt, if◌then◌else◌}
 use mathlib.Core.List.{IsPrefix}
 use Rattle.logbook.specs.Pages.{Book}
@@ -23,17 +23,17 @@ use Rattle.papaya_map_change.specs.declared.copier.Copier.{Copier}
 use Rattle.papaya_map_change.specs.declared.settling.Halt.{Halt}
 use Rattle.papaya_map_change.specs.Copier.{AnswersTo, CanAnswerTo}
 
--- where a copy stands, with what is seen and held there
+-- A point of a copy, with the log that has been observed and what the copier holds there.
 pub record Stop (K V S H : Type 0) : Type 0 where
   pub copying : Copying
   pub log : List (Event K V S)
   pub loaded : Copier K V S H
 
--- the copy of the chunk's slot stands here
+-- The copy at this step of the chunk's current slot.
 abbrev pub at_slot : Aim → Chunk → Settle → Copying
 at_slot aim chunk settle = Stepping aim (Settling chunk settle)
 
--- the slot is settled: the next one is looked at, or the chunk is copied
+-- The copy once the chunk's current slot is settled: at the next slot, or at the chunk's end.
 abbrev pub past_slot : Aim → Chunk → Copying
 past_slot aim chunk = if nat_lt (chunk.at + 1) chunk.end
     then at_slot aim (next_slot chunk) Looking else Stepping aim (Advancing chunk.cursor)
@@ -48,7 +48,7 @@ module _ {K V S H : Type 0} (eq : K → K → Bool) (hash : S → K → ℕ) (b 
   AnswersAt s log h answer = AnswersTo eq hash b name (copying_ask s.copying)
       (copying_kind s.copying) (copying_follows s.copying) s.log s.loaded log h answer
 
-  -- one ask was answered, which led on
+  -- One ask was answered, which led from `s` to `s'`.
   pub record IsTurn (s s' : Stop K V S H) : Type 0 where
     pub since : IsPrefix s.log s'.log
     pub answer : Answer
@@ -57,7 +57,7 @@ module _ {K V S H : Type 0} (eq : K → K → Bool) (hash : S → K → ℕ) (b 
         ≡ On s'.copying
     pub standing : IsStandingCopying s'.copying
 
-  -- some were, by way of these stops
+  -- Answers led from `s` to `s'` by these stops.
   abbrev pub IsPath : List (Stop K V S H) → Stop K V S H → Stop K V S H → Type 0
   IsPath [] s s' = s' ≡ s
   IsPath (t ∷ ts) s s' = IsTurn s t × IsPath ts t s'
@@ -65,11 +65,11 @@ module _ {K V S H : Type 0} (eq : K → K → Bool) (hash : S → K → ℕ) (b 
   abbrev pub Leads : Stop K V S H → Stop K V S H → Type 0
   Leads s s' = (ts : List (Stop K V S H)) × IsPath ts s s'
 
-  -- wherever answers lead from here, what is asked may be answered
+  -- Wherever answers lead from `s`, what the copy asks there may be answered.
   abbrev pub CanLead : Stop K V S H → Type 0
   CanLead s = (s' : Stop K V S H) → Leads s s' → CanAnswerAt s'
 
-  -- answers led on, and the last one is still to be told
+  -- Answers led from `s` to `s'`, and the machine has yet to receive the last one, `answer`.
   pub record Ends (s s' : Stop K V S H) (answer : Answer) : Type 0 where
     pub log : List (Event K V S)
     pub loaded : Copier K V S H
@@ -80,7 +80,7 @@ module _ {K V S H : Type 0} (eq : K → K → Bool) (hash : S → K → ℕ) (b 
     pub standing : IsStandingCopying s'.copying
     pub fit : IsFit answer
 
-  -- the slot is settled, or its copy was left here
+  -- The slot is settled, or its copy stopped at this step.
   abbrev pub LeavesSlot : Aim → Chunk → Stop K V S H → List (Event K V S) → Copier K V S H
       → Option Halt → Type 0
   LeavesSlot aim chunk s log h None = Leads s

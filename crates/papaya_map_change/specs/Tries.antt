@@ -1,4 +1,4 @@
--- What came of a pair that was logged for a place that a search had found.
+-- The outcome for a pair that was stored in the arena for a place that a search had found.
 use Rattle.std.specs.Prelude.{◌≡◌, ℕ, ◌==◌, Bool, true, false, Option, None, Some, List}
 use Rattle.papaya_call.specs.declared.ask.StepKind.TheVariants.{Bury}
 use Rattle.papaya_call.specs.declared.machine.State.{State}
@@ -20,48 +20,51 @@ use Rattle.papaya_map_change.specs.declared.fast_path.Tried.{Tried}
 use Rattle.papaya_map_change.specs.declared.fast_path.Tried.TheVariants.{Put, Lost, Back}
 use Rattle.papaya_map_change.specs.declared.fast_path.ProbeHit.{ProbeHit}
 
--- the pair that was logged
+-- The pair that was stored in the arena, if any.
 abbrev pub pair_in : {K V B : Type 0} → Tried K V B → Option (Stored K V)
 pair_in (Put q) = Some q
 pair_in (Lost q) = Some q
 pair_in (Back b) = None
 
--- it was put in
+-- Whether that pair was put into the map.
 abbrev pub is_put : {K V B : Type 0} → Tried K V B → Bool
 is_put (Put q) = true
 is_put (Lost q) = false
 is_put (Back b) = false
 
--- the very pair that a search met, or none where it met none
+-- `taken` is the very pair that a search met, or both are `None`.
 abbrev pub AreSame : {K V : Type 0} → (met taken : Option (Stored K V)) → Type 0
 AreSame met None = met ≡ None
 AreSame {K} {V} met (Some p) = (q : Stored K V) × (met ≡ Some q) × IsSamePair q p
 
 module _ {K V S H : Type 0} {d : keyed.Ghosts S K H} where
-  -- each call that a turn had led there has put the pair in the place of the one that it met
+  -- Each call that this outcome led to its state has put in the pair `q`, in place of the one that
+  -- it met, if any.
   abbrev pub Offers : (w w' : Window K V S H d) → K → Sheet → ProbeHit (Met K V) → Stored K V → Type 0
   Offers w w' key table turn q = (begun : List (Event K V S)) (state : State)
       → led_to turn ≡ Some state → IsInsertingAt w key begun state (met_by turn) table
       → (taken : Option (Stored K V)) × AreSame (met_by turn) taken
       × IsChangeOf (d.keys.eq key) (history_of begun) (past w') taken (Some q)
 
-  -- a compute that began at this log is to show the live pair that its search met
+  -- A compute that began at the log `begun` is about to call its closure with the live pair that
+  -- its search met.
   abbrev pub ShowsMet : Window K V S H d → K → List (Event K V S) → Sheet → Met K V → Type 0
   ShowsMet w key begun table met = IsSeekingAt Computes w key begun
       (at_live Computes met.place met.word) (Some met.stored) table
 
-  -- each such one has taken out that very pair
+  -- Each such compute has taken out that very pair.
   abbrev pub TakesOut : (w w' : Window K V S H d) → K → Sheet → Met K V → Type 0
   TakesOut w w' key table met = (begun : List (Event K V S)) → ShowsMet w key begun table met
       → (taken : Stored K V) × IsSamePair met.stored taken
       × IsChangeOf (d.keys.eq key) (history_of begun) (past w') (Some taken) None
 
-  -- the pair that a search has met may be deleted
+  -- The deletion of the pair that a search met may be tried.
   abbrev pub CanBury : Window K V S H d → Met K V → Type 0
   CanBury w met = CanTrySlot w met.place.table met.place.probe.i (Some Bury)
       (met.word, grave_word met.word)
 
-  -- Its deletion was tried. The pair that went, if one did, is the very one that was met.
+  -- The deletion of the pair that a search met was tried. If it succeeded, the pair that it took
+  -- out is the very one that was met.
   pub record TriesBurial (w w' : Window K V S H d) (met : Met K V) (went : Bool) : Type 0 where
     pub found : ℕ
     pub before : Option (Stored K V)

@@ -1,4 +1,5 @@
--- What a call that changes the shared map holds and is told, by what a window shows of the map.
+-- A call that changes the shared map: what it holds and learns, by what a window has observed of
+-- the map.
 pub mod Copier
 pub mod Driver
 pub mod Ends

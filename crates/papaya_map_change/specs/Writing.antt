@@ -1,4 +1,4 @@
--- What a call on the shared map that inserts holds and relies on, whatever its task.
+-- A call on the shared map that inserts: what it holds and relies on, whatever its task.
 use Rattle.std.specs.Prelude.{◌≡◌, ◌⊎◌, ℕ, ◌==◌, Bool, MatchBool, MatchOption, Option, None, Some, List, ◌∷◌}
 use Rattle.logbook.specs.Pages.{Book}
 use Rattle.papaya_words.specs.declared.refused.Refused.{Refused as Cause}
@@ -28,7 +28,7 @@ use Rattle.papaya_map_book.specs.Limits.{IsFull}
 use Rattle.papaya_map_book.specs.PairParts.{key_in, value_in}
 use Rattle.papaya_map_book.specs.Rule.{IsPlaced}
 
--- a pair that a key or a value is taken from lies in the logs
+-- The pair from which a key is taken, or (in `IsValuePlaced`) a value, is stored in the arena.
 abbrev pub IsKeyPlaced : {K V S : Type 0} → Begun K V S → Book → KeyPart K V → Type 0
 IsKeyPlaced b name (keys.Own k) = Unit {0}
 IsKeyPlaced b name (keys.Of p) = IsPlaced b (Some name) (Pair p)
@@ -37,62 +37,63 @@ abbrev pub IsValuePlaced : {K V S : Type 0} → Begun K V S → Book → ValuePa
 IsValuePlaced b name (values.Own v) = Unit {0}
 IsValuePlaced b name (values.Of p) = IsPlaced b (Some name) (Pair p)
 
--- A call by this key has it: as it was handed in, or that of a pair that went into the log.
+-- The call holds its key: as it was passed in, or as that of a pair that is stored in the arena.
 abbrev pub HasKey : {K V S : Type 0} → Begun K V S → Book → (key : K) → Option (KeyPart K V)
     → Type 0
 HasKey b name key part = MatchOption part ⊥ (λ own. (key_in own ≡ key) × IsKeyPlaced b name own)
 
--- the value of the pair that a call makes next, if it has one
+-- The value of the pair that a call makes next, if it has one.
 abbrev pub held_value : {K V : Type 0} → Option (ValuePart K V) → Option V
 held_value None = None
 held_value (Some part) = Some (value_in part)
 
--- it lies in the logs, if it lies at a pair
+-- If the call's value is that of a pair, this pair is stored in the arena.
 abbrev pub HasValue : {K V S : Type 0} → Begun K V S → Book → Option (ValuePart K V) → Type 0
 HasValue b name part = MatchOption part (Unit {0}) (λ own. IsValuePlaced b name own)
 
--- no pair was logged: there was no memory or no number for it, or nothing to log
+-- No pair was stored in the arena: memory or numbers ran out, or there was nothing to store.
 abbrev pub IsUnlogged : Answer → Type 0
 IsUnlogged answer = ((answer ≡ Refused Memory) ⊎ (answer ≡ Refused Capacity)) ⊎ (answer ≡ Ok_done)
 
--- the call after its machine was answered
+-- The call after its machine was answered.
 abbrev pub answered : {K V S H : Type 0} → Writer K V S H → Answer → Writer K V S H
 answered w answer = record w {
   call = record w.call { machine = after w.call.machine (Call answer) };
 }
 
--- as a call is refused by itself that makes no pair: there was no memory, or there was no room
+-- Why a call is refused that stores no entry itself: memory or room ran out.
 abbrev pub IsMemoryOrCapacity : Cause → Type 0
 IsMemoryOrCapacity cause = (cause ≡ Memory) ⊎ (cause ≡ Capacity)
 
--- one that makes pairs: or the limit on pairs was spent
+-- Why a call that stores entries is refused: memory or room ran out, or the limit on entries is
+-- spent.
 abbrev pub IsMemoryCapacityOrLimit : Cause → Type 0
 IsMemoryCapacityOrLimit cause = IsMemoryOrCapacity cause ⊎ (cause ≡ Limit)
 
--- No closure had a part in it: where it is a refusal, there was no memory, or a log that is full
--- gave this number.
+-- The closure played no part in this answer: if it is a refusal, memory ran out, or an arena that
+-- is full returned this number.
 abbrev pub IsUnsaid : List CapacityCause → Answer → Type 0
 IsUnsaid given answer = (cause : Cause) → answer ≡ Refused cause → (cause ≡ Memory)
     ⊎ ((cause ≡ Capacity) × IsFull given)
 
 module _ {K V S : Type 0} (log : List (Event K V S)) where
-  -- where it was asked how many numbers for pairs were taken, the answer tells that
+  -- If the machine asked how many numbers were taken for pairs, then the answer is that number.
   abbrev pub TellsTaken : Ask → Answer → Type 0
   TellsTaken ask answer = IsNumberAsk ask → (count : ℕ)
       → (answer ≡ Word_read count) ⊎ (answer ≡ Found count) → (state_of log).made ≡ count
 
-  -- the pair that a slot names has just this key, and so it has from then on
+  -- The pair that the slot names has exactly this key.
   abbrev pub HasKeyAt : (t x : ℕ) → K → Type 0
   HasKeyAt t x key = (p : Stored K V) × (named ((state_of log).slot t x) ≡ Some p) × (key_of p ≡ key)
 
-  -- A pair may be put in place of this word of a slot: with the call's own key where that is empty,
-  -- and else with the key that is there.
+  -- The pair `q` may replace this word of a slot: if the word is empty, `q` has the call's own key;
+  -- if not, `q` has the key that is there.
   abbrev pub MayStand : (key : K) → (t x old : ℕ) → Stored K V → Type 0
   MayStand key t x old q = MatchBool (old == 0) (key_of q ≡ key) (HasKeyAt t x (key_of q))
 
 module _ {K V S H : Type 0} (eq : K → K → Bool) (hash : S → K → ℕ) (b : Begun K V S)
     (name : Book) where
-  -- a call by this key that has made these pairs
+  -- A call by this key is under way, and has made these pairs.
   pub record IsWriting (key : K) (made : List (Stored K V)) (begun log : List (Event K V S))
       (w : Writer K V S H) : Type 0 where
     pub calling : IsDriven eq hash b name (eq key) (hash b.hasher key) (Some key) begun log made
@@ -101,38 +102,40 @@ module _ {K V S H : Type 0} (eq : K → K → Bool) (hash : S → K → ℕ) (b 
     pub valued : HasValue b name w.value
     pub put_placed : IsPlaced b (Some name) (pair_named w.call.put)
 
-  -- this is an answer to what it asks
+  -- `answer` is an answer to what the call asks.
   abbrev pub IsWritingOn : K → List (Stored K V) → List (Event K V S) → List (Event K V S)
       → Writer K V S H → Answer → Type 0
   IsWritingOn key made begun log w answer = IsWriting key made begun log (answered w answer)
       × IsFit answer
 
-  -- some such call is under way, and each that is goes on so
+  -- Some such call is under way.
   abbrev pub CanWrite : List (Event K V S) → Writer K V S H → Type 0
   CanWrite log w = (key : K) × (made : List (Stored K V)) × (begun : List (Event K V S))
       × IsWriting key made begun log w
 
+  -- Each such call that was under way goes on with this answer.
   abbrev pub Writes : List (Event K V S) → Writer K V S H → List (Event K V S) → Writer K V S H
       → Answer → Type 0
   Writes log w log' w' answer = (key : K) (made : List (Stored K V)) (begun : List (Event K V S))
       → IsWriting key made begun log w → IsWritingOn key made begun log' w' answer
 
+  -- Each such call that was under way with `w` is under way at the log `log'` with `w'`.
   abbrev pub WritesOn : List (Event K V S) → Writer K V S H → List (Event K V S) → Writer K V S H
       → Type 0
   WritesOn log w log' w' = (key : K) (made : List (Stored K V)) (begun : List (Event K V S))
       → IsWriting key made begun log w → IsWriting key made begun log' w'
 
-  -- each such call has made this further pair
+  -- Each such call has made this further pair.
   abbrev pub Pairs : List (Event K V S) → Writer K V S H → Writer K V S H → Stored K V → Type 0
   Pairs log w w' q = (key : K) (made : List (Stored K V)) (begun : List (Event K V S))
       → IsWriting key made begun log w → IsWritingOn key (q ∷ made) begun log w' (Made q.index)
 
-  -- Some such call is under way that has made this pair, which may stand in place of this word of a
-  -- slot, and each that has goes on so.
+  -- Some such call is under way that has made the pair `q`, which may replace this word of a slot.
   abbrev pub CanPut : List (Event K V S) → Writer K V S H → (t x old : ℕ) → Stored K V → Type 0
   CanPut log w t x old q = (key : K) × (made : List (Stored K V)) × (begun : List (Event K V S))
       × IsWriting key made begun log w × IsOneOf made q × MayStand log key t x old q
 
+  -- Each such call that was under way goes on with this answer.
   abbrev pub Puts : List (Event K V S) → Writer K V S H → (t x old : ℕ) → Stored K V
       → List (Event K V S) → Writer K V S H → Answer → Type 0
   Puts log w t x old q log' w' answer = (key : K) (made : List (Stored K V))

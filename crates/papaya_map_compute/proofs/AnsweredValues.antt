@@ -1,4 +1,4 @@
--- A compute whose closure has answered a value makes a pair of it next, whatever it is told meanwhile, or is over.
+-- A compute whose closure has returned a value makes a pair of it next, whatever its machine receives meanwhile, or is over.
 use Rattle.std.proofs.Common.{◌≡◌, ℕ, Some, refl, sym, subst}
 use Rattle.papaya_words.specs.declared.refused.Refused.{Refused}
 use Rattle.papaya_call.specs.declared.ask.Ask.{Ask}

@@ -1,4 +1,4 @@
--- A pair that was stored for a place that a search had found: what a call has done that put it in, and where its machine starts else.
+-- A pair that was stored for a place that a search had found: what the call has done if it was put in, and where the machine starts if not.
 use Rattle.std.proofs.Common.{◌≡◌, ℕ, inl, Bool, true, false, Option, None, Some, Result, Ok, Err, List, [], ◌∷◌, append-nil, refl, sym, ap, ◌∙◌, subst}
 use Rattle.std.specs.Cmp.{IsEquivalence}
 use Rattle.papaya_words.specs.declared.refused.Refused.{Refused as Cause}

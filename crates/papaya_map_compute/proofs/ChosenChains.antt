@@ -1,4 +1,4 @@
--- What a compute over a chain of tables remembers of the pair that it made in the place of another, and where it puts that.
+-- A compute over a chain of tables: what it remembers of the pair that it made to replace another, and where it puts that pair.
 use Rattle.std.proofs.Common.{◌≡◌, ◌⊎◌, inl, inr, ⊎_elim, ℕ, Some, sym, ap, ◌∙◌, subst}
 use Rattle.papaya_call.specs.declared.call.Task.TheVariants.{Compute}
 use Rattle.papaya_call.specs.declared.compute.Choice.TheVariants.{Replace as To_replace}

@@ -1,4 +1,4 @@
--- The pair that a compute puts in the place of another is one that it made for that slot.
+-- A pair that a compute puts in place of another was made for that slot.
 use Rattle.std.proofs.Common.{◌≡◌, ◌⊎◌, inl, inr, ⊎_elim, ℕ, ◌<◌, ◌==◌, eqb-true, true, Option, None, Some, refl, sym, ap, ◌∙◌, subst, arith}
 use Rattle.std.proofs.lemmas.Bool.{and_parts, cond_both}
 use Rattle.papaya_words.specs.Word.{kind_of, live_word, pair_of}

@@ -1,4 +1,4 @@
--- A compute goes on after an answer that neither shows its closure anything nor makes a pair.
+-- A compute goes on after an answer for which its closure is not called and no pair is made.
 use Rattle.std.proofs.Common.{◌≡◌, ◌⊎◌, inl, inr, ⊎_elim, ℕ, ℤ, Bool, true, Option, None, Some, List, [], append-nil, refl, sym, ap, ◌∙◌, subst}
 use Rattle.std.specs.Cmp.{IsEquivalence}
 use mathlib.Core.List.{IsPrefix}

@@ -1,4 +1,4 @@
--- A compute that was set aside goes on after a copy as it was: what its closure was shown and said stays, and what was made of it.
+-- A compute that was set aside is the same after the copy: the calls of its closure stay, and so does what was made of their results.
 use Rattle.std.proofs.Common.{◌≡◌, inl, inr, ⊎_elim, ℕ, Bool, true, Option, Some, List, [], append-nil, refl, sym, ap, ◌∙◌, subst}
 use Rattle.std.specs.Cmp.{IsEquivalence}
 use mathlib.Core.List.{IsPrefix}

@@ -1,4 +1,4 @@
--- A call over a chain that asks for itself: the step that an answer leads its call, and why it aborts.
+-- A call over a chain that asks for itself: the step that an answer makes its call take, and why it aborts.
 use Rattle.std.proofs.Common.{◌≡◌, inl, inr, ℕ, Option, sym, ap, ◌∙◌}
 use Rattle.papaya_call.specs.declared.ask.Answer.{Answer}
 use Rattle.papaya_call.specs.declared.ask.Answer.TheVariants.{Op}

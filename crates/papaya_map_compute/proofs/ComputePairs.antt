@@ -1,4 +1,4 @@
--- A compute after a pair was made of what its closure answered, or was not.
+-- A compute after a pair was made of what its closure returned, or was not.
 use Rattle.std.proofs.Common.{◌≡◌, ◌⊎◌, inl, inr, ⊎_elim, ℕ, Bool, true, Option, None, Some, List, ◌∷◌, refl, sym, ap, ◌∙◌, subst}
 use Rattle.std.specs.Cmp.{IsEquivalence}
 use Rattle.logbook.specs.Pages.{Book}

@@ -1,4 +1,4 @@
--- The pair that a compute puts into a slot is at hand, and has the key that it may have there.
+-- A compute holds the pair that it puts into a slot, and the pair has a key that it may have there.
 use Rattle.std.proofs.Common.{◌≡◌, inl, inr, ⊎_elim, ℕ, ◌<◌, ◌≤◌, ◌^◌, ◌==◌, Bool, true, false}
 use Rattle.std.proofs.Common.{cond, MatchBool, Option, None, Some, List, refl, sym, ap, ◌∙◌, subst}
 use Rattle.std.proofs.Common.{arith}

@@ -1,4 +1,4 @@
--- What a compute that has replied answers: what its closure answered, and the change that it made.
+-- The result of a compute that has replied: what its closure returned, and the change that it made.
 use Rattle.std.proofs.Common.{◌≡◌, inl, inr, ℕ, Bool, true, MatchOption, Option, None, Some, Result}
 use Rattle.std.proofs.Common.{Ok, Err, List, [], ◌∷◌, ◌++◌, append-nil, refl, sym, ap, ◌∙◌, subst}
 use Rattle.std.specs.Cmp.{IsEquivalence}

@@ -1,4 +1,4 @@
--- What a call did that stores where its rule says so, by how its compute has ended.
+-- The outcome of a call that stores a value under a condition, by how its compute has ended.
 use Rattle.std.proofs.Common.{◌≡◌, inl, ⊎_elim, Bool, Option, None, Some, Result, Ok, Err, List, [], ◌∷◌, append-nil, option_map, refl, sym, ap, subst}
 use mathlib.Core.List.{IsPrefix}
 use denote.Bor.{Bor}

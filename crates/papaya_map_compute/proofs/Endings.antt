@@ -1,4 +1,4 @@
--- How a compute has ended, by what was shown and answered.
+-- The end of a compute, by the calls of its closure.
 use Rattle.std.proofs.Common.{◌≡◌, ⊎_elim, Bool, Option, None, Some, Result, Ok, List, [], ◌∷◌, option_map, refl, sym, ap, ◌∙◌, subst}
 use mathlib.Core.List.{IsPrefix}
 use denote.Bor.{Bor}

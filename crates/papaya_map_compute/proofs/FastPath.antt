@@ -1,4 +1,4 @@
--- What a compute answers that its fast path made: what there is was shown once.
+-- The result of a compute that ended on its fast path: its closure was called once, with what the key had.
 use Rattle.std.proofs.Common.{◌≡◌, ℕ, inl, inr, ⊎_elim, Bool, false, Option, None, Some, Result, Ok}
 use Rattle.std.proofs.Common.{Err, List, [], ◌∷◌, ◌++◌, refl, sym, ap, ◌∙◌, subst}
 use denote.Bor.{Bor}

@@ -1,4 +1,4 @@
--- What a search that is made at once tells a compute: the key had no pair, or it had the pair that was met.
+-- The facts that the fast path's search gives a compute: the key had no pair, or it had the pair that was met.
 use Rattle.std.proofs.Common.{◌≡◌, ℕ, Bool, true, Option, None, Some, List, [], refl, sym, ◌∙◌, subst}
 use Rattle.std.specs.Cmp.{IsEquivalence}
 use Rattle.logbook.specs.Pages.{Book}

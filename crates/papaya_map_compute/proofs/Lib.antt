@@ -11,7 +11,7 @@ pub mod ComputePuts
 pub mod ComputeReplies
 pub mod Endings
 pub mod DoneBy
--- computes at once
+-- Computes on the fast path.
 pub mod Resumed
 pub mod Found
 pub mod FastPath

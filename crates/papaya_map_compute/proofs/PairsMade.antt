@@ -1,4 +1,4 @@
--- What a pair is that a compute makes: for an absent key, or in the place of a pair of which its closure has answered; and on what it stands then.
+-- The pair that a compute makes, for an absent key or to replace a pair with which its closure was called; and on what the compute relies then.
 use Rattle.std.proofs.Common.{◌≡◌, ◌⊎◌, inl, inr, ℕ, ◌<◌, ◌==◌, eqb-true, Bool, true, false, cond, Option, None, Some, refl, sym, ap, ◌∙◌, subst, arith}
 use Rattle.papaya_words.specs.Word.{pair_of}
 use Rattle.papaya_call.specs.declared.ask.Ask.TheVariants.{MakePair, MakePairOf}

@@ -1,4 +1,4 @@
--- A compute that goes on from the root with the pair that it has made, where its exchange at once was lost.
+-- A compute whose fast path lost its exchange: it starts again at the root with the pair that it has made.
 use Rattle.std.proofs.Common.{◌≡◌, inl, inr, ⊎_elim, ℕ, Bool, true, Option, None, Some, List, [], ◌∷◌, ◌++◌, refl, sym, ap, ◌∙◌, subst}
 use mathlib.Core.List.{IsPrefix}
 use Rattle.logbook.specs.Pages.{Book}

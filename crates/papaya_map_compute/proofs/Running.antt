@@ -1,4 +1,4 @@
--- A compute whose machine is answered until it has replied: what holds of it, whatever asks what becomes of a pair.
+-- A compute whose machine is answered until it has replied: what holds of it, whichever operator decides on a pair.
 use Rattle.std.proofs.Common.{◌≡◌, ℕ, Bool, Option, Some, Result, Err, List, ◌∷◌, sym, ap, ◌∙◌, subst}
 use Rattle.std.specs.Prelude.{IfErr}
 use mathlib.Core.List.{IsPrefix}

@@ -1,4 +1,4 @@
--- What a compute on the shared map answers.
+-- The results of computes on the shared map.
 use Rattle.std.specs.Prelude.{◌≡◌, ◌⊎◌, Bool, true, false, Option, None, Some, Result, Ok, Err, List}
 use Rattle.papaya_words.specs.declared.refused.Refused.{Refused}
 use Rattle.papaya_words.specs.declared.refused.Refused.TheVariants.{RemoveNothing}
@@ -13,7 +13,7 @@ use Rattle.papaya_map_book.specs.Logs.{Member, Stored}
 use Rattle.papaya_map_change.specs.Showings.{AllShown, AreOf, HasSaid, IsNoneOnce, IsSamePair, WasHeld, WasLast}
 use Rattle.papaya_map_change.specs.Writing.{IsMemoryCapacityOrLimit}
 
--- the compute changed the map
+-- Whether the compute changed the map.
 abbrev pub changes : {K V T : Type 0} → Result (Computed K V T) Refused → Bool
 changes (Ok (Inserted k v)) = true
 changes (Ok (Updated before after)) = true
@@ -21,8 +21,8 @@ changes (Ok (Removed k v)) = true
 changes (Ok (Aborted with)) = false
 changes (Err refused) = false
 
--- A compute is refused as an insertion is, or since its closure last would remove where there
--- is nothing.
+-- A compute is refused as an insertion is; or with `RemoveNothing`, because its closure was called
+-- with `None` last and returned `Remove`.
 abbrev pub IsRefusedBy : {K V T : Type 0} → List (Option (Stored K V) × Operation V T) → Refused
     → Type 0
 IsRefusedBy said refused = IsMemoryCapacityOrLimit refused ⊎ ((refused ≡ RemoveNothing)
@@ -30,15 +30,16 @@ IsRefusedBy said refused = IsMemoryCapacityOrLimit refused ⊎ ((refused ≡ Rem
 
 module _ {K V T : Type 0} (eq : K → K → Bool) (key : K)
     (old new : List (Change K (Stored K V))) where
-  -- the closure was shown this very pair, and answered this
+  -- The closure was called with this very entry, and returned `done`.
   abbrev pub WasOperated : Stored K V → Operation V T → List (Option (Stored K V) × Operation V T)
       → Type 0
   WasOperated p done said = (shown : Stored K V) × IsSamePair shown p
       × Member (Some shown, done) said
 
-  -- What a compute answers, by what its closure was shown and answered. A new pair has the value of
-  -- the closure's answer to just what it takes the place of, and the key of that: the stored key
-  -- stays. Where there was none, it has the key that was handed in.
+  -- The result of a compute, by the calls of its closure in `said`. The value of a new entry was
+  -- returned by a call with the very entry that it replaces, whose key stays. If it replaces none,
+  -- its value was returned by a call with `None`, and it has the key that was passed in. Removals
+  -- and aborts are likewise what the closure returned.
   abbrev pub IsOperated : List (Option (Stored K V) × Operation V T)
       → Result (Computed K V T) Refused → Type 0
   IsOperated said (Ok (Inserted k v)) = (q : Stored K V) × IsChangeOf (eq key) old new None (Some q)
@@ -52,8 +53,9 @@ module _ {K V T : Type 0} (eq : K → K → Bool) (key : K)
       × WasLast held (operation.Abort t) said
   IsOperated said (Err refused) = IsRefusedBy said refused
 
-  -- A compute whose closure was `first`. What it was shown was the map's between the two histories,
-  -- and at most once that there is none.
+  -- The result of a compute whose closure was `first`. Whatever the closure was called with, an
+  -- entry or `None`, the map had for the key in some history between the two. It was called with
+  -- `None` at most once.
   pub record IsComputeBy {F : Type 0} (operates : F → Option (Stored K V) → Operation V T → F
       → Type 0) (first : F) (answer : Result (Computed K V T) Refused) : Type 0 where
     pub said : List (Option (Stored K V) × Operation V T)

@@ -1,4 +1,4 @@
--- What a compute on the shared map holds and relies on, by what it sees of the map.
+-- A compute on the shared map: what it holds and relies on, by what it has observed of the map.
 use Rattle.std.specs.Prelude.{◌≡◌, ℕ, Option, None, Some, Result, Ok, IfErr, []}
 use Rattle.papaya_words.specs.declared.refused.Refused.{Refused}
 use Rattle.papaya_call.specs.declared.answers.Operation.{Operation}
@@ -52,15 +52,16 @@ module _ {K V S T H : Type 0} {d : keyed.Ghosts S K H} where
   Replies w x answer = computing.Replies d.keys.eq d.keys.hash (begun_of w.book.now.parts)
       w.book.now.begun.book w.sight.log x answer
 
-  -- its machine was told this answer, and the call was set aside where that asks for it
+  -- The compute's machine received this answer, and if that set it aside, the call has helped the
+  -- copy.
   pub record IsTold (w : Window K V S H d) (x : Computing K V S T H) (answer : Answer)
       (w' : Window K V S H d) (x' : Computing K V S T H) : Type 0 where
     pub helps : Helps w (after x.writer.call.machine (Told answer)) w' x'.writer.call
     pub still : (after x.writer.call.machine (Told answer)).phase ≡ Calling → w' ≡ w
     pub takes : Takes w x answer w' x'
 
-  -- It has replied so. Refused it is for the cause that its machine tells, and where it is aborted,
-  -- its machine has told so.
+  -- The compute has returned `answer`. If it is a refusal, its machine replied the same cause, and
+  -- if it is an abort, its machine replied that.
   pub record HasReplied (w : Window K V S H d) (x : Computing K V S T H)
       (answer : Result (Computed K V T) Refused) : Type 0 where
     pub refusal : IfErr answer (λ refused. ask_of x.writer.call.machine
@@ -70,12 +71,12 @@ module _ {K V S T H : Type 0} {d : keyed.Ghosts S K H} where
         × (ask_of x.writer.call.machine ≡ Call (Done (ReplyAborted n)))
     pub replies : Replies w x answer
 
-  -- one that begins
+  -- A compute of this key that begins now.
   abbrev pub IsBegun : Window K V S H d → K → Computing K V S T H → Type 0
   IsBegun w key x = computing.IsComputing d.keys.eq d.keys.hash (begun_of w.book.now.parts)
       w.book.now.begun.book key w.sight.log w.sight.log x []
 
-  -- what it does next
+  -- The compute's next turn: it gets an answer, its closure is to be called, or it has replied.
   abbrev pub Turns : Window K V S H d → Computing K V S T H → Window K V S H d
       → Computing K V S T H → ComputeStep K V → Type 0
   Turns w x w' x' (Answered answer) = Computes w x w' x' (Some answer)
@@ -84,7 +85,7 @@ module _ {K V S T H : Type 0} {d : keyed.Ghosts S K H} where
   Turns w x w' x' Replied = Computes w x w' x' None
       × Answers (call_ask_of x.writer.call.machine.call) None w w'
 
-  -- and so it has done that
+  -- The compute has taken this turn, and its machine is the same.
   pub record HasTurned (w : Window K V S H d) (x : Computing K V S T H) (w' : Window K V S H d)
       (x' : Computing K V S T H) (turn : ComputeStep K V) : Type 0 where
     pub sees : Sees w w'
@@ -92,11 +93,12 @@ module _ {K V S T H : Type 0} {d : keyed.Ghosts S K H} where
     pub turns : Turns w x w' x' turn
 
 module _ {K V S T H : Type 0} where
-  -- some compute is under way, whatever is seen of the map
+  -- For some window of such a map, some compute is under way.
   abbrev pub IsAnyCompute : Keys K S → Computing K V S T H → Type 0
   IsAnyCompute keys x = (w : Window K V S H (record { keys = keys })) × CanCompute w x
 
-  -- Whatever is seen of the map, the closure was shown this and has answered so, with no step.
+  -- Whatever has been observed of the map: the closure was called with `shown` and returned `done`,
+  -- and each compute under way goes on with this answer and no step.
   abbrev pub Hears : Keys K S → Computing K V S T H → Option (Stored K V) → Operation V T
       → Computing K V S T H → Answer → Type 0
   Hears keys x shown done x' answer = (w : Window K V S H (record { keys = keys }))

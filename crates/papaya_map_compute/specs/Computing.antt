@@ -1,4 +1,4 @@
--- What a compute on the shared map holds and relies on, and what it answers.
+-- A compute on the shared map: what it holds and relies on, and what it returns.
 use Rattle.std.specs.Prelude.{◌≡◌, ◌⊎◌, ℕ, Bool, MatchOption, Option, None, Some, Result, List, ◌∷◌, option_map}
 use mathlib.Core.List.{IsPrefix}
 use Rattle.logbook.specs.Pages.{Book}
@@ -42,13 +42,14 @@ use Rattle.papaya_map_change.specs.Writing.{HasKeyAt, IsWriting, answered as ans
 use Rattle.papaya_map_compute.specs.ComputeAnswers.{IsOperated, IsRefusedBy}
 use Rattle.papaya_map_compute.specs.Putting.{PutsChosen}
 
--- what the machine is told of an answer of the closure
+-- The kind of the operation that the closure returned, which the machine receives.
 abbrev pub kind_of : {V T : Type 0} → Operation V T → OpKind
 kind_of (operation.Insert v) = kinds.Insert
 kind_of operation.Remove = kinds.Remove
 kind_of (operation.Abort t) = kinds.Abort 0
 
--- the value of the next pair after it, and what the call is to end with
+-- The value of the next pair after the closure has returned this operation, and (in
+-- `aborted_after`) what the call is to return if it is aborted.
 abbrev pub value_after : {K V T : Type 0} → Operation V T → Option (ValuePart K V)
     → Option (ValuePart K V)
 value_after (operation.Insert v) before = Some (values.Own v)
@@ -60,7 +61,7 @@ aborted_after (operation.Insert v) before = before
 aborted_after operation.Remove before = before
 aborted_after (operation.Abort t) before = Some t
 
--- the pair of which it was answered that it is to go, or the one of before
+-- The pair for which the closure has returned `Remove`, or the one of before.
 abbrev pub chosen_after : {K V T : Type 0} → Option (Stored K V) → Operation V T
     → Option (Stored K V) → Option (Stored K V)
 chosen_after None done before = before
@@ -68,7 +69,7 @@ chosen_after (Some p) (operation.Insert v) before = before
 chosen_after (Some p) operation.Remove before = Some p
 chosen_after (Some p) (operation.Abort t) before = before
 
--- the compute that keeps it
+-- The compute that keeps what the closure has returned.
 abbrev pub keeping : {K V S T H : Type 0} → Operation V T → Computing K V S T H
     → Computing K V S T H
 keeping done x = record x {
@@ -80,27 +81,28 @@ abbrev pub IsKept : {K V S H T : Type 0} → Operation V T → Answer → Comput
     → Computing K V S T H → Type 0
 IsKept done answer x x' = (answer ≡ Op (kind_of done)) × (x' ≡ keeping done x)
 
--- the pair that an exchange of this kind puts in: a claim the one that fills, and any other the one
--- of the choice
+-- The pair that an exchange of this kind puts in: `fill` for a claim, and `made` for any other
+-- kind.
 abbrev pub pair_for : {P : Type 0} → Option StepKind → (fill made : Option P) → Option P
 pair_for (Some Claim) fill made = fill
 pair_for _ fill made = made
 
--- the value of what is shown
+-- The value of the pair with which the closure is called, if any.
 abbrev pub value_in : {K V : Type 0} → Option (Stored K V) → Option V
 value_in held = option_map (λ p. p.value.value) held
 
--- the number of what is shown
+-- The number of the pair with which the closure is called, if any.
 abbrev pub number_of : {K V : Type 0} → Option (Stored K V) → Option ℕ
 number_of None = None
 number_of (Some p) = Some p.index
 
--- the closure is to be shown this: that there is none, or the pair last loaded
+-- The closure is to be called with `shown`: with `None`, or with the pair last loaded.
 abbrev pub IsToShow : {K V S H T : Type 0} → Computing K V S T H → Option (Stored K V) → Type 0
 IsToShow x shown = (ask_of x.writer.call.machine ≡ Call (show (number_of shown)))
     × MatchOption shown (Unit {0}) (λ p. x.writer.call.copier.last ≡ Some p)
 
--- what any call asks that inserts, but for its pairs and the slots that it exchanges
+-- The ask is one that every inserting call makes, and neither for a pair nor for an exchange of a
+-- slot.
 abbrev pub IsWriters : Ask → Type 0
 IsWriters (Load at) = Unit {0}
 IsWriters (LoadHint t x) = Unit {0}
@@ -113,8 +115,8 @@ IsWriters (Exchange Root old new) = Unit {0}
 IsWriters (Exchange Made_word old new) = Unit {0}
 IsWriters _ = ⊥
 
--- A pair that was made of a value that the closure answered: with the key of the pair that it was
--- shown, or with the call's own where there was none.
+-- The pair `q` was made of a value that the closure returned. It has the key of the pair with which
+-- the closure was called, or the call's own key if it was called with `None`.
 pub record IsMadeOf {K V T : Type 0} (key : K) (made : List (Stored K V))
     (said : List (Option (Stored K V) × Operation V T)) (held : Option (Stored K V)) (n : ℕ)
     (q : Stored K V) : Type 0 where
@@ -125,8 +127,8 @@ pub record IsMadeOf {K V T : Type 0} (key : K) (made : List (Stored K V))
 
 module _ {K V S T H : Type 0} (key : K) (made : List (Stored K V))
     (said : List (Option (Stored K V) × Operation V T)) (x : Computing K V S T H) where
-  -- What the machine stands on, the closure answered; what was made of it, and the pairs that it
-  -- was shown, are at hand.
+  -- If the machine relies on an answer of the closure, the closure returned it, and the compute
+  -- holds the pair with which the closure was called and what was made of its result.
   abbrev pub Holds : Said → Type 0
   Holds (Agrees n agrees) = ⊥
   Holds (Inserts None) = (x.shown ≡ None) × ((v : V)
@@ -140,30 +142,33 @@ module _ {K V S T H : Type 0} (key : K) (made : List (Stored K V))
   Holds (Removes n) = (p : Stored K V) × (x.chosen ≡ Some p) × (p.index ≡ n)
       × Member (Some p, operation.Remove) said
 
--- Where a pair was made in the place of another, that one was shown last, and the next pair would
--- have the same value.
+-- For a pair that was made to replace another: the closure was called with that other one last, and
+-- the next pair would have the same value.
 pub record IsNewest {K V S T H : Type 0} (x : Computing K V S T H) : Type 0 where
   pub shown : x.shown ≡ x.chosen
   pub made : (q : Stored K V) × (x.made ≡ Some q)
       × (held_value x.writer.value ≡ Some q.value.value)
 
 module _ {K V S T H : Type 0} (m : Machine) (x : Computing K V S T H) where
-  -- So it is with what is remembered, but while a newer answer waits.
+  -- If the machine relies on a pair that was made to replace another, then `IsNewest` holds, unless
+  -- a pair is being made of the closure's last result or the call is over.
   abbrev pub HasNewest : Type 0
   HasNewest = (i n : ℕ) → StandsOn m (Makes (Some i) n) → IsAnswered m.state ⊎ IsNewest x
 
-  -- The pair that is remembered has the key that is in the slot that it was made for.
+  -- The pair that the machine remembers to put in place of another has the key that is in the slot
+  -- for which it was made.
   abbrev pub IsOfItsSlot : List (Event K V S) → Type 0
   IsOfItsSlot log = (old : ℕ) (new : Of) → m.remembered.choice ≡ Some (To_replace old new)
       → (q : Stored K V) × (x.made ≡ Some q) × HasKeyAt log new.table new.index (key_of q)
 
--- The pair that would fill has the value that the closure answered where it was shown none.
+-- If the closure returned a value when it was called with `None`, then `fill` is a pair of that
+-- value.
 abbrev pub IsSpared : {K V T : Type 0} → Option (Stored K V)
     → List (Option (Stored K V) × Operation V T) → Type 0
 IsSpared {K = K} {V = V} fill heard = (v : V) → Member (None, operation.Insert v) heard
     → (q : Stored K V) × (fill ≡ Some q) × (q.value.value ≡ v)
 
--- What a compute has answered whose closure was shown and answered these, the last of them first.
+-- The result of a compute, by the calls of its closure in `heard`, of which the last comes first.
 pub record IsReplied {K V T : Type 0} (eq : K → K → Bool) (key : K)
     (old new : List (Change K (Stored K V))) (heard : List (Option (Stored K V) × Operation V T))
     (answer : Result (Computed K V T) Refused) : Type 0 where
@@ -173,7 +178,7 @@ pub record IsReplied {K V T : Type 0} (eq : K → K → Bool) (key : K)
 
 module _ {K V S H T : Type 0} (eq : K → K → Bool) (hash : S → K → ℕ) (b : Begun K V S)
     (name : Book) where
-  -- A compute whose closure was shown and answered these.
+  -- A compute is under way, whose closure had the calls in `heard`.
   pub record IsComputing (key : K) (begun log : List (Event K V S)) (x : Computing K V S T H)
       (heard : List (Option (Stored K V) × Operation V T)) : Type 0 where
     pub made : List (Stored K V)
@@ -204,11 +209,11 @@ module _ {K V S H T : Type 0} (eq : K → K → Bool) (hash : S → K → ℕ) (
     pub spent : ask_of x.writer.call.machine ≡ Call (Done (reply.Refused Limit))
         → IsSpent b.limit log
 
-  -- the compute after its machine was answered
+  -- The compute after its machine was answered.
   abbrev pub answered : Computing K V S T H → Answer → Computing K V S T H
   answered x answer = record x { writer = answered_writer x.writer answer }
 
-  -- it has replied, or this is an answer to what it asks
+  -- The compute has replied, or `answer` is an answer to what it asks.
   abbrev pub IsComputingOn : K → List (Event K V S) → List (Event K V S) → Computing K V S T H
       → List (Option (Stored K V) × Operation V T) → Option Answer → Type 0
   IsComputingOn key begun log x heard None = IsComputing key begun log x heard
@@ -216,46 +221,47 @@ module _ {K V S H T : Type 0} (eq : K → K → Bool) (hash : S → K → ℕ) (
   IsComputingOn key begun log x heard (Some answer) =
       IsComputing key begun log (answered x answer) heard × IsFit answer
 
-  -- some compute is under way
+  -- Some compute is under way.
   abbrev pub CanCompute : List (Event K V S) → Computing K V S T H → Type 0
   CanCompute log x = (key : K) × (begun : List (Event K V S))
       × (heard : List (Option (Stored K V) × Operation V T)) × IsComputing key begun log x heard
 
-  -- and each that is goes on so, with nothing shown to its closure
+  -- Each compute that was under way goes on with this answer, and its closure was not called.
   abbrev pub Computes : List (Event K V S) → Computing K V S T H → List (Event K V S)
       → Computing K V S T H → Option Answer → Type 0
   Computes log x log' x' answer = (key : K) (begun : List (Event K V S))
       (heard : List (Option (Stored K V) × Operation V T)) → IsComputing key begun log x heard
       → IsComputingOn key begun log' x' heard answer
 
-  -- or with this shown to it, and this answered
+  -- Each compute that was under way goes on with this answer; its closure was called with `shown`,
+  -- and returned `done`.
   abbrev pub Hears : List (Event K V S) → Computing K V S T H → Option (Stored K V) → Operation V T
       → Computing K V S T H → Answer → Type 0
   Hears log x shown done x' answer = (key : K) (begun : List (Event K V S))
       (heard : List (Option (Stored K V) × Operation V T)) → IsComputing key begun log x heard
       → IsComputingOn key begun log x' ((shown, done) ∷ heard) (Some answer)
 
-  -- what is an answer to it may be told to its machine
+  -- `answer` is an answer to what some compute under way asks.
   abbrev pub CanTake : List (Event K V S) → Computing K V S T H → Answer → Type 0
   CanTake log x answer = (key : K) × (begun : List (Event K V S))
       × (heard : List (Option (Stored K V) × Operation V T))
       × IsComputingOn key begun log x heard (Some answer)
 
-  -- and then it goes on so
+  -- Each such compute goes on once its machine has received the answer.
   abbrev pub Takes : List (Event K V S) → Computing K V S T H → Answer → List (Event K V S)
       → Computing K V S T H → Type 0
   Takes log x answer log' x' = (key : K) (begun : List (Event K V S))
       (heard : List (Option (Stored K V) × Operation V T))
       → IsComputingOn key begun log x heard (Some answer) → IsComputing key begun log' x' heard
 
-  -- what each compute that is under way answers
+  -- This is the result of each compute that is under way.
   abbrev pub Replies : List (Event K V S) → Computing K V S T H
       → Result (Computed K V T) Refused → Type 0
   Replies log x answer = (key : K) (begun : List (Event K V S))
       (heard : List (Option (Stored K V) × Operation V T)) → IsComputing key begun log x heard
       → IsReplied eq key (history_of begun) (history_of log) heard answer
 
-  -- a compute that began after all that was seen of this log
+  -- A compute is under way that began no earlier than at the log `old`.
   abbrev pub IsUnderWay : K → List (Event K V S) → List (Event K V S) → Computing K V S T H
       → List (Option (Stored K V) × Operation V T) → Type 0
   IsUnderWay key old log x heard = (begun : List (Event K V S)) × IsPrefix old begun

@@ -1,4 +1,4 @@
--- The fast path of a compute: what it has come to, and where the machine starts where it gave up.
+-- The fast path of a compute: how it ends, and where the machine starts if the fast path gave up.
 use Rattle.std.specs.Prelude.{◌≡◌, ℕ, ◌<◌, ◌^◌, false, true, Option, None, Some, Result, List, []}
 use Rattle.std.specs.Prelude.{◌∷◌, ◌⊎◌, Bool, Err}
 use mathlib.Core.List.{IsPrefix}
@@ -37,30 +37,31 @@ use Rattle.papaya_map_compute.specs.Computing as computing
 use Rattle.papaya_map_compute.specs.ComputeAnswers.{changes}
 use Rattle.papaya_map_compute.specs.Computing.{IsReplied}
 
--- it is over, and this holds of its answer
+-- If the call is over, `P` holds of its result.
 abbrev pub IfOver : {C A : Type 0} → Attempt C A → (A → Type 0) → Type 0
 IfOver (Over answer) P = P answer
 IfOver (On x) P = Unit {0}
 
--- its machine goes on, and this holds of it
+-- If the call's machine goes on, `P` holds of where it does.
 abbrev pub IfOn : {C A : Type 0} → Attempt C A → (C → Type 0) → Type 0
 IfOn (Over answer) P = Unit {0}
 IfOn (On x) P = P x
 
--- it has changed nothing yet, and asks for itself, on a map of this initial capacity
+-- The compute has changed nothing yet, is not set aside, and is on a map of this initial capacity.
 pub record IsAhead {K V S T H : Type 0} (initial : ℕ) (x : Computing K V S T H) : Type 0 where
   pub standing : IsStanding x.writer.call.machine
   pub calling : x.writer.call.machine.phase ≡ Calling
   pub initial_is : x.writer.call.machine.call.initial ≡ initial
   pub unchanged : has_changed x.writer.call.machine ≡ false
 
--- what a first look alone may be refused for: no room is wanted there, and no number of a pair
+-- Why the fast path alone may refuse: memory ran out, or there is nothing to remove.
 abbrev pub IsAtOnce : Refused → Type 0
 IsAtOnce cause = (cause ≡ Memory) ⊎ (cause ≡ RemoveNothing)
 
 module _ {K V S H : Type 0} {d : keyed.Ghosts S K H} where
-  -- How a first look ends. Where the call is over, it has made one change, if its answer tells of
-  -- one, and that answer is right. Else it has made none, and its machine may start so.
+  -- How the fast path ends. If the call is over, it has made one change if `changed` says so of its
+  -- result, and that result is right. If not, it has made no change, and its machine may start
+  -- here.
   pub record ComesTo {A C : Type 0} (changed : Result A Refused → Bool)
       (is_right : Result A Refused → Type 0) (may_start : C → Type 0) (w w' : Window K V S H d)
       (first : Attempt C (Result A Refused)) : Type 0 where
@@ -72,19 +73,20 @@ module _ {K V S H : Type 0} {d : keyed.Ghosts S K H} where
     pub idle : IfOn first (λ start. Does false w w')
     pub starts : IfOn first may_start
 
-  -- each call of this key that began at this log is led so by a turn
+  -- This outcome leads each call of this key that began at the log `begun` to its next state.
   abbrev pub IsFoundAt : Window K V S H d → K → List (Event K V S) → Sheet → ProbeHit (Met K V) → Type 0
   IsFoundAt w key begun table turn = (who : Seeker) (state : State) → leads who turn ≡ Some state
       → IsSeekingAt who w key begun state (met_by turn) table
 
-  -- They are so in a map that has no limit on pairs, by the hash of the key.
+  -- The same on a map without a limit on pairs, where `hash` is the hash of the key.
   pub record IsLed (w : Window K V S H d) (key : K) (hash : ℕ) (begun : List (Event K V S))
       (table : Sheet) (turn : ProbeHit (Met K V)) : Type 0 where
     pub hashed : hash ≡ d.keys.hash w.book.now.parts.hasher key
     pub limit : w.book.now.parts.limit ≡ None
     pub found : IsFoundAt w key begun table turn
 
-  -- A pair of this key is at hand that was made of what the closure answered.
+  -- The call holds a pair of this key's class, which is stored in the arena; `hash` is the hash of
+  -- the key.
   pub record IsMade (w : Window K V S H d) (key : K) (hash : ℕ) (pair : Stored K V) : Type 0 where
     pub lawful : IsLawful w
     pub hashed : hash ≡ d.keys.hash w.book.now.parts.hasher key
@@ -92,20 +94,21 @@ module _ {K V S H : Type 0} {d : keyed.Ghosts S K H} where
     pub number : pair.index < 2 ^ 48
     pub same : d.keys.eq key (key_of pair) ≡ true
 
-  -- It was made in the place of the pair that was met.
+  -- The pair was made to replace the one that was met, whose key it has.
   pub record IsMadeFor (w : Window K V S H d) (met : Met K V) (pair : Stored K V) : Type 0 where
     pub shown : IsIn w (Pair met.stored)
     pub kept : key_of pair ≡ key_of met.stored
     pub there : HasKeyAt w.sight.log met.place.table met.place.probe.i (key_of pair)
 
-  -- The pair is at hand that the closure was shown, and answered that it is to go.
+  -- The call holds the pair with which the closure was called, which is stored in the arena; `hash`
+  -- is the hash of the key.
   pub record IsShown (w : Window K V S H d) (key : K) (hash : ℕ) (pair : Stored K V) : Type 0 where
     pub lawful : IsLawful w
     pub hashed : hash ≡ d.keys.hash w.book.now.parts.hasher key
     pub placed : IsIn w (Pair pair)
 
 module _ {K V S T H : Type 0} {d : keyed.Ghosts S K H} where
-  -- A machine of this key can start so whose closure was shown and answered these.
+  -- A machine of this key whose closure had the calls in `heard` can start from `start`.
   abbrev pub CanStart : Window K V S H d → K → Start K V
       → List (Option (Stored K V) × Operation V T) → Type 0
   CanStart w key (Anew own) heard = (own ≡ key) × (heard ≡ [])
@@ -117,13 +120,15 @@ module _ {K V S T H : Type 0} {d : keyed.Ghosts S K H} where
   CanStart w key (Removing own hash shown) heard = (own ≡ key) × IsShown w key hash shown
       × (heard ≡ ((Some shown, operation.Remove) ∷ []))
 
-  -- And it was shown what was the map's since this log.
+  -- The same, and whatever the closure was called with, the map had at some point since the log
+  -- `begun`.
   abbrev pub HasHeard : Window K V S H d → K → List (Event K V S) → Start K V
       → List (Option (Stored K V) × Operation V T) → Type 0
   HasHeard w key begun start heard = CanStart w key start heard × IsPrefix begun w.sight.log
       × AllShown (WasHeld d.keys.eq (d.keys.eq key) (history_of begun) (past w)) heard
 
-  -- and then the machine goes on so
+  -- From this start the machine goes on as `x`, for each key, log and calls with which it can
+  -- start.
   abbrev pub GoesFrom : (w : Window K V S H d) → Start K V → (w' : Window K V S H d)
       → Computing K V S T H → Type 0
   GoesFrom w start w' x = (key : K) (begun : List (Event K V S))
@@ -131,34 +136,35 @@ module _ {K V S T H : Type 0} {d : keyed.Ghosts S K H} where
       → computing.IsUnderWay d.keys.eq d.keys.hash (begun_of w'.book.now.parts)
       w'.book.now.begun.book key begun w'.sight.log x heard
 
-  -- the machine that starts so
+  -- The machine that started here is `x`, which has changed nothing yet.
   pub record StartsAt (initial : ℕ) (w : Window K V S H d) (start : Start K V)
       (w' : Window K V S H d) (x : Computing K V S T H) : Type 0 where
     pub ahead : IsAhead initial x
     pub goes : GoesFrom w start w' x
 
-  -- Where its closure was shown once what the search found, and answered so, it answers so since
-  -- each log at which the search may have begun.
+  -- If the closure was called once, with what the search found, and returned `done`, then this is
+  -- the result for each log at which the search may have begun.
   abbrev pub RepliesOnce : (w w' : Window K V S H d) → K → Sheet → ProbeHit (Met K V) → Operation V T
       → Result (Computed K V T) Refused → Type 0
   RepliesOnce w w' key table turn done answer = (begun : List (Event K V S))
       → IsFoundAt w key begun table turn
       → IsReplied d.keys.eq key (history_of begun) (past w') ((met_by turn, done) ∷ []) answer
 
-  -- and else its machine starts so
+  -- If the closure was called so and the call is not over, its machine starts from `start`.
   abbrev pub GoesOnce : (w w' : Window K V S H d) → K → Sheet → ProbeHit (Met K V) → Operation V T
       → Start K V → Type 0
   GoesOnce w w' key table turn done start = (begun : List (Event K V S))
       → IsFoundAt w key begun table turn → HasHeard w' key begun start ((met_by turn, done) ∷ [])
 
-  -- what it has come to whose closure was shown and answered so
+  -- How the fast path ends if the closure was called once, with what the search found, and returned
+  -- `done`.
   abbrev pub DoesAtOnce : (w w' : Window K V S H d) → K → Sheet → ProbeHit (Met K V) → Operation V T
       → Attempt (Start K V) (Result (Computed K V T) Refused) → Type 0
   DoesAtOnce w w' key table turn done first = ComesTo changes
       (RepliesOnce w w' key table turn done) (GoesOnce w w' key table turn done) w w' first
 
-  -- One of this key starts so that began since what was seen first. Its closure was `first` then,
-  -- and is `left` now.
+  -- A compute of this key that began at the log of `w` starts from `start`. Its closure was `first`
+  -- when it began, and is now `left`.
   abbrev pub IsOnItsWay : {F : Type 0} → (w w' : Window K V S H d) → K
       → (F → Option (Stored K V) → Operation V T → F → Type 0) → (first left : F)
       → Start K V → Type 0

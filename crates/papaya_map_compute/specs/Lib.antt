@@ -1,15 +1,15 @@
--- what a compute answers, and what it relies on
+-- The results of a compute, and what it relies on.
 pub mod ComputeAnswers
 pub mod Computing
 pub mod Putting
--- one that goes on with a pair that was made
+-- A compute that goes on with a pair that was made.
 pub mod Resuming
 pub mod FastPath
--- how a compute asks, and how it has ended
+-- How a compute calls its operator, and how it has ended.
 pub mod Operating
--- what a call does that stores where its rule says so
+-- A call that stores a value under a condition.
 pub mod Deciding
--- the same by what is seen of the map
+-- The same definitions by what a window has observed of the map.
 pub mod Computes
--- what the rules answer
+-- The results of the rules.
 pub mod Rules

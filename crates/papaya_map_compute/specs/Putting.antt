@@ -1,4 +1,4 @@
--- Where a compute puts the pair that it made in the place of another.
+-- The slot in which a compute puts the pair that it made to replace another.
 use Rattle.std.specs.Prelude.{◌≡◌, ◌<◌, Option, Some}
 use Rattle.papaya_words.specs.Word.{pair_of}
 use Rattle.papaya_call.specs.declared.compute.Choice.{Choice}
@@ -9,7 +9,7 @@ use Rattle.papaya_call.specs.declared.machine.State.{State}
 use Rattle.papaya_call.specs.declared.machine.State.TheVariants.{Putting}
 use Rattle.papaya_call.specs.Write.{made_of}
 
--- it was made for just this slot, and is remembered
+-- A pair that is to replace another was made for this very slot, and is remembered.
 abbrev pub IsChosen : Option Choice → Put → Type 0
 IsChosen choice put = 0 < put.write.old
     → choice ≡ Some (To_replace (pair_of put.write.old) (made_of put.write put.pair))

@@ -1,5 +1,5 @@
--- A compute whose exchange at once was lost: its machine goes on from the root with what its
--- closure answered in mind.
+-- A compute whose fast path lost its exchange: its machine starts at the root, and remembers what
+-- the closure returned.
 use Rattle.std.specs.Prelude.{ℕ, false, Option, List, [], ◌∷◌}
 use mathlib.Core.List.{IsPrefix}
 use Rattle.papaya_words.specs.declared.resize_mode.ResizeMode.{ResizeMode}
@@ -19,7 +19,7 @@ use Rattle.papaya_map_change.specs.Showings.{WasHeld}
 use Rattle.papaya_map_compute.specs.declared.slow_path.Computing.{Computing}
 use Rattle.papaya_map_compute.specs.Computing as computing
 
--- the machine of a compute that begins at the root with what it remembers
+-- The machine of a compute that starts at the root with what it remembers.
 abbrev pub resumed_at : (hash : ℕ) → ResizeMode → (initial : ℕ) → (limit : Option ℕ) → Remembered
     → Machine
 resumed_at hash mode initial limit held = record {
@@ -30,8 +30,8 @@ resumed_at hash mode initial limit held = record {
 }
 
 module _ {K V S T H : Type 0} {d : keyed.Ghosts S K H} where
-  -- A compute goes on whose closure was shown this once, and answered so: since whatever log that
-  -- was the map's.
+  -- A compute is under way whose closure was called once, with `held`, and returned `done`. It may
+  -- have begun at any observed log since which, at some point, the map had `held` for the key.
   abbrev pub IsResumed : Window K V S H d → K → Option (Stored K V) → Operation V T
       → Computing K V S T H → Type 0
   IsResumed w key held done x = (begun : List (Event K V S)) → IsPrefix begun w.sight.log

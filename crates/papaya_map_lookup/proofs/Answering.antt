@@ -1,4 +1,4 @@
--- After each answer a lookup relies on what holds again, holds what it was told of last, and has less left to do.
+-- After each answer a lookup again relies on what holds, holds what it loaded last, and has fewer steps left.
 use Rattle.std.proofs.Common.{◌≡◌, ⊎_elim, ℕ, ◌^◌, ◌<◌, ◌≤◌, Bool, true, MatchOption, Option, None}
 use Rattle.std.proofs.Common.{Some, List, [], append-nil, refl, sym, ap, ◌∙◌, subst, arith}
 use Rattle.std.specs.Cmp.{IsEquivalence}

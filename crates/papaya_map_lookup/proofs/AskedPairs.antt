@@ -1,4 +1,4 @@
--- Which of its pairs a machine asks to put in, and by an exchange of which kind.
+-- The pairs that a machine asks to put in, and the kinds of exchange by which it does.
 use Rattle.std.proofs.Common.{◌≡◌, ⊎_elim, ℕ, ◌==◌, eqb-true, Bool, true, false, cond, MatchBool, Option, None, Some, sym, ap, ◌∙◌, subst, refl}
 use Rattle.std.proofs.lemmas.Bool.{and_parts}
 use Rattle.papaya_words.specs.Word.{live_word, pair_of}

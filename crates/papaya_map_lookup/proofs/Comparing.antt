@@ -1,4 +1,4 @@
--- A lookup is told of the size of a table, and whether the key of the pair last told of matches.
+-- A lookup receives the size of a table, and whether the key of the pair last loaded matches.
 use Rattle.std.proofs.Common.{◌≡◌, inl, ⊎_elim, ℕ, ◌+◌, ◌<◌, Bool, true, Option, None, Some, List, [], ◌++◌, length, refl, sym, ap, ◌∙◌, subst}
 use Rattle.std.specs.Cmp.{IsEquivalence}
 use mathlib.Core.List.{IsPrefix}

@@ -1,4 +1,4 @@
--- What a machine relies on makes its exchanges possible, and what the calls of a book tell is what machines are to be told.
+-- The facts that a machine relies on make its exchanges possible, and the results of a book's calls are right answers to the machine.
 use Rattle.std.proofs.Common.{◌≡◌, inl, inr, ℕ, Bool, true, Option, None, Some, List, ◌++◌, refl, sym, ap, ◌∙◌, subst, append_assoc}
 use Rattle.papaya_words.specs.Word.{pair_of}
 use Rattle.std.specs.Cmp.{IsEquivalence}

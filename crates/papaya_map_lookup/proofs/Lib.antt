@@ -1,4 +1,4 @@
--- what machines are told
+-- The answers that machines receive.
 pub mod AskedPairs
 pub mod KeptKeys
 pub mod Namesakes

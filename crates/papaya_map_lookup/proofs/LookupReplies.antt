@@ -1,4 +1,4 @@
--- What a lookup replies is the answer of a history between the two that its pass has seen.
+-- The reply of a lookup is right for some history between the two that its pass has observed.
 use Rattle.std.proofs.Common.{◌≡◌, ℕ, Bool, true, Option, None, Some, option_map, List, refl, ap, ◌∙◌, subst}
 use Rattle.std.specs.Cmp.{IsEquivalence}
 use mathlib.Core.List.{IsPrefix}

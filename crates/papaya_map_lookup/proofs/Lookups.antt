@@ -1,4 +1,4 @@
--- Where an answer leads a lookup: which table it names then, and that less is left to do.
+-- The table that a lookup names after an answer; and each answer leaves it fewer steps.
 use Rattle.std.proofs.Common.{◌≡◌, ℕ, ◌+◌, ◌*◌, ◌-◌, ◌^◌, ◌<◌, ◌≤◌, ◌==◌, nat_lt, Bool, true, false, if◌then◌else◌, Option, Some, refl, sym, ap, ◌∙◌, arith}
 use Rattle.std.proofs.lemmas.Bool.{eqb-false, ltb-true}
 use Rattle.papaya_words.specs.Word.{kind_of, may_hold, pair_of}

@@ -1,4 +1,4 @@
--- What the map had at a moment of a call is what a history has between the two that the call's pass has seen.
+-- An entry that the map had at some point of a call is the map's in some history between the two that the call's pass has observed.
 use Rattle.std.proofs.Common.{◌≡◌, ℕ, Bool, true, Option, None, Some, List, ◌++◌, append_assoc, sym, ap, ◌∙◌, subst}
 use Rattle.std.specs.Cmp.{IsEquivalence}
 use mathlib.Core.List.{IsPrefix}

@@ -1,4 +1,4 @@
--- Of two pairs with one key and one number the one may be put in instead of the other: that is allowed as well, and writes the same word.
+-- If two pairs have the same key and the same number, either may be put in instead of the other: both are allowed, and write the same word.
 use Rattle.std.proofs.Common.{◌≡◌, ℕ, ◌==◌, ◌&&◌, Bool, true, false, cond, refl, sym, ◌∙◌, subst}
 use Rattle.papaya_words.specs.Word.{live_word}
 use Rattle.papaya_call.specs.declared.ask.At.{At}

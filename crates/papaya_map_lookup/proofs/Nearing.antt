@@ -1,4 +1,4 @@
--- One place of a search of the root alone: where it leads the machine that nothing runs.
+-- One place of a search of the root alone: where it leads the machine, which nothing runs.
 use Rattle.std.proofs.Common.{◌≡◌, ℕ, nat_lt, if◌then◌else◌, Bool, true, false, MatchOption, Option, Some, List, sym, ap, ◌∙◌, subst}
 use Rattle.std.specs.Cmp.{IsEquivalence}
 use Rattle.std.proofs.lemmas.Bool.{ltb-true}

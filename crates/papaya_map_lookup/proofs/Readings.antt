@@ -1,4 +1,4 @@
--- A lookup with what is looked up as a further key: what it relies on, over longer logs and after each answer.
+-- A lookup with the key that it searches for as a further key: what it relies on, over longer logs and after each answer.
 use Rattle.std.proofs.Common.{◌≡◌, ℕ, ◌%◌, ◌^◌, Bool, true, Option, None, List, [], ◌++◌, append-nil, append_assoc, sym, ap, ◌∙◌, subst, arith}
 use Rattle.std.specs.Cmp.{IsEquivalence}
 use Rattle.std.specs.List.{fold}

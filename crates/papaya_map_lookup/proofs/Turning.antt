@@ -1,4 +1,4 @@
--- A search of a table and the lookup around it: where each turn leads the machine that nothing runs.
+-- A search of a table and the lookup around it: where each outcome of a place leads the machine, which nothing runs.
 use Rattle.std.proofs.Common.{◌≡◌, ℕ, ◌<◌, ◌==◌, nat_lt, if◌then◌else◌, Bool, true, false}
 use Rattle.std.proofs.Common.{MatchOption, Option, None, Some, List, length, refl, sym, ap, ◌∙◌}
 use Rattle.std.proofs.Common.{subst, arith}

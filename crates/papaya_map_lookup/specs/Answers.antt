@@ -1,4 +1,4 @@
--- What a lookup on the shared map answers.
+-- The results of lookups on the shared map.
 use Rattle.std.specs.Prelude.{◌≡◌, Bool, true, MatchOption, Option, None, Some, List}
 use mathlib.Core.List.{IsPrefix}
 use denote.Bor.{Bor}
@@ -6,8 +6,9 @@ use Rattle.papaya_map_lookup.specs.History.{Change, key_of, replay}
 use Rattle.papaya_map_book.specs.Logs.{Stored}
 use Rattle.papaya_map_lookup.specs.declared.lookup.Hit.{Hit}
 
--- The answer is that of a history between the two: it is of the pair that a matching key has there,
--- or none where no matching key has one.
+-- The answer is right for some history between `old` and `new`, which extends `old` and is a prefix
+-- of `new`. It is `None` if no key that matches has an entry there. Otherwise it is some `a`, a key
+-- that matches has an entry `p` there, and `is_of a p` holds.
 pub record IsFoundBetween {K V A : Type 0} (is_of : A → Stored K V → Type 0) (eq : K → K → Bool)
     (matches : K → Bool) (old new : List (Change K (Stored K V))) (answer : Option A)
     : Type 0 where
@@ -19,18 +20,18 @@ pub record IsFoundBetween {K V A : Type 0} (is_of : A → Stored K V → Type 0)
       (λ a. (p : Stored K V) × (matches (key_of p) ≡ true) × (replay eq seen (key_of p) ≡ Some p)
       × is_of a p)
 
--- what a lookup of a value answers: that pair's value
+-- The result of a lookup of a value: a reference to the value of the entry that was found.
 abbrev pub IsAnsweredBetween : {K V : Type 0} → (K → K → Bool) → (K → Bool)
     → (old new : List (Change K (Stored K V))) → Option (Bor V) → Type 0
 IsAnsweredBetween = IsFoundBetween (λ value p. value.now ≡ p.value.value)
 
--- what a lookup of a pair answers: that pair's own key, and its value
+-- The result of a lookup of an entry: references to its stored key and to its value.
 abbrev pub IsPairAnsweredBetween : {K V : Type 0} → (K → K → Bool) → (K → Bool)
     → (old new : List (Change K (Stored K V))) → Option (Bor K × Bor V) → Type 0
 IsPairAnsweredBetween = IsFoundBetween
     (λ pair p. (pair.0.now ≡ key_of p) × (pair.1.now ≡ p.value.value))
 
--- the same of one that tells where it found the pair
+-- The same for a lookup that also returns where it found the entry.
 abbrev pub IsHitAnsweredBetween : {K V S H : Type 0} → (K → K → Bool) → (K → Bool)
     → (old new : List (Change K (Stored K V))) → Option (Hit K V S H) → Type 0
 IsHitAnsweredBetween = IsFoundBetween

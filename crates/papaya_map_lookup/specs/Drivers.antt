@@ -1,4 +1,5 @@
--- What a lookup relies on, and what a caller has seen and made, by what it sees of the map.
+-- Restates the definitions of `Lookups`, and a thread's history and its own changes, by the window
+-- through which the thread observes the map.
 use Rattle.std.specs.Prelude.{◌≡◌, ℕ, MatchOption, List}
 use mathlib.Core.List.{IsPrefix}
 use denote.Bor.{Bor}
@@ -20,15 +21,15 @@ use Rattle.papaya_map_lookup.specs.History.{Change, changes_by, history_of, key_
 use Rattle.papaya_map_lookup.specs.Lookups as lookups
 
 module _ {K V S H : Type 0} {d : keyed.Ghosts S K H} where
-  -- the history that is seen
+  -- The history that the thread has observed.
   abbrev pub past : Window K V S H d → List (Change K (Stored K V))
   past w = history_of w.sight.log
 
-  -- the changes that were made through it
+  -- The changes that were made through this window.
   abbrev pub own : Window K V S H d → List (Change K (Stored K V))
   own w = changes_by w.own.done
 
-  -- what a lookup has left to do after a turn
+  -- A bound on the steps that are left to a lookup after this outcome of a place.
   abbrev pub left_after : Window K V S H d → ProbeHit (Met K V) (Bor K × Bor V) → ℕ
   left_after w turn = lookups.left_of (lookups.led_to w.book.now.parts.mode 0 turn)
 
@@ -39,25 +40,27 @@ module _ {K V S H : Type 0} {d : keyed.Ghosts S K H} where
   HoldsHintAt w = lookups.HoldsHintAt w.sight.log
 
   module _ (query : Query K S) (began : List (Event K V S)) where
-    -- the lookup that began at this log would stand here, with this table
+    -- The lookup that began at the log `began` would be at this stage, and holds this table.
     abbrev pub IsReadingAt : Window K V S H d → ℕ → Stage → Sheet → Type 0
     IsReadingAt w hash stage table = lookups.IsReadingAt d.keys.eq d.keys.hash
         (begun_of w.book.now.parts) query.matches (query.hash w.book.now.parts.hasher)
         (exchanges_of began) hash w.sight.log stage table
 
-    -- a turn led it on, as is seen by now
+    -- This outcome of a place leads the lookup to its next stage, by what has been observed now.
     abbrev pub IsTurned : Window K V S H d → ℕ → Sheet → ProbeHit (Met K V) (Bor K × Bor V) → Type 0
     IsTurned w hash table turn = lookups.IsTurned d.keys.eq d.keys.hash (begun_of w.book.now.parts)
         w.book.now.begun.book query.matches (query.hash w.book.now.parts.hasher)
         (exchanges_of began) hash w.sight.log table turn
 
-    -- where a place leads, a turn led it on, as is seen by now
+    -- This result for the place `at` of the root leads the lookup to its next stage, by what has
+    -- been observed now, unless the result is `Aside`.
     abbrev pub IsNear : Window K V S H d → ℕ → Sheet → Place → RootHit (Met K V) (Bor K × Bor V)
         → Type 0
     IsNear w hash table at near = MatchOption (lookups.turn_near at near) (Unit {0})
         (IsTurned w hash table)
 
-    -- a search that began at this log met this pair, as is seen by now
+    -- A search that began at the log `began` has met the entry of this hit, by what has been
+    -- observed now. The hit refers to the key and the value of that entry.
     abbrev pub HasHit : Window K V S H d → Hit K V S H → Type 0
     HasHit w hit = IsPrefix began w.sight.log × (hit.key.now ≡ key_of hit.met.stored)
         × (hit.value.now ≡ hit.met.stored.value.value) × lookups.HasHit d.keys.eq d.keys.hash
@@ -65,18 +68,20 @@ module _ {K V S H : Type 0} {d : keyed.Ghosts S K H} where
         (query.hash w.book.now.parts.hasher) (exchanges_of began) w.sight.log hit.table.now hit.met
 
   module _ (query : Query K S) where
-    -- some lookup would stand here, with this table
+    -- For some log at which it began, a lookup would be at this stage and holds this table.
     abbrev pub Reads : Window K V S H d → ℕ → Stage → Sheet → Type 0
     Reads w hash stage table = (began : List (Event K V S))
         × IsReadingAt query began w hash stage table
 
-    -- each one that stood here is led on by a turn, as is seen by now
+    -- This outcome leads each lookup that was at this stage in `w` to its next stage, by what has
+    -- been observed in `w'`.
     abbrev pub Leads : (w w' : Window K V S H d) → ℕ → Stage → Sheet
         → ProbeHit (Met K V) (Bor K × Bor V) → Type 0
     Leads w w' hash stage table turn = (began : List (Event K V S))
         → IsReadingAt query began w hash stage table → IsTurned query began w' hash table turn
 
-  -- one that began after all that was seen by then has met it
+  -- A search that began no earlier than at the log of `w` has met this entry, by what has been
+  -- observed in `w'`.
   abbrev pub Hits : Query K S → (w w' : Window K V S H d) → Hit K V S H → Type 0
   Hits query w w' hit = (began : List (Event K V S)) × IsPrefix w.sight.log began
       × HasHit query began w' hit

@@ -1,5 +1,5 @@
 pub mod History
 pub mod Answers
 pub mod Lookups
--- the same by what is seen of the map
+-- The same definitions by what a window has observed of the map.
 pub mod Drivers

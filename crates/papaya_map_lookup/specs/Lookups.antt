@@ -1,4 +1,4 @@
--- What a lookup on the shared map holds and relies on, and what it answers.
+-- A lookup on the shared map: what it holds and relies on, and what it has found.
 use Rattle.std.specs.Prelude.{◌≡◌, ℕ, ◌+◌, ◌*◌, ◌-◌, ◌^◌, Bool, true, Option, None, Some, List, ◌++◌, slice_get}
 use denote.Bor.{Bor}
 use Rattle.logbook.specs.Pages.{Book, Named as Word}
@@ -33,7 +33,7 @@ use Rattle.papaya_map_lookup.specs.declared.near.RootHit.TheVariants as nears
 use Rattle.papaya_map_lookup.specs.declared.lookup.ProbeHit.{ProbeHit}
 use Rattle.papaya_map_lookup.specs.declared.lookup.ProbeHit.TheVariants as turns
 
--- the table that a lookup searches or leaves
+-- The table that a lookup searches or leaves at this stage.
 abbrev pub table_of : Stage → Option ℕ
 table_of (Searching (Sizing t)) = Some t
 table_of (Searching (Looking at)) = Some at.table
@@ -42,12 +42,13 @@ table_of (Searching (Comparing at word)) = Some at.table
 table_of (Leaving t) = Some t
 table_of _ = None
 
--- what is left to do in table t and after it, where so much is left in t itself
+-- A bound on the steps that are left in table `t` and the tables after it, if `more` are left in
+-- `t` itself.
 abbrev pub left_in : (t more : ℕ) → ℕ
 left_in t more = (2 ^ 32 + 1 - t) * 2 ^ 34 + more
 
--- What a lookup has left to do. It goes down with each answer: a search looks at each place once,
--- and the next table has a greater number.
+-- A bound on the steps that are left to a lookup. It decreases with each answer, because a search
+-- looks at each place once and the next table has a greater number.
 abbrev pub left_of : Stage → ℕ
 left_of AtRoot = left_in 0 (3 * 2 ^ 32 + 6)
 left_of (Searching (Sizing t)) = left_in t (3 * 2 ^ 32 + 5)
@@ -59,17 +60,18 @@ left_of (Leaving t) = left_in t 1
 left_of _ = 0
 
 module _ {K V S : Type 0} where
-  -- the table of this number is held
+  -- If there is a table number, the lookup holds the table of that number.
   abbrev pub HoldsTable : List (Event K V S) → Option ℕ → Option (Bor Sheet) → Type 0
   HoldsTable log None table = Unit {0}
   HoldsTable log (Some t) None = ⊥
   HoldsTable log (Some t) (Some r) = IsTable log t r.now
 
-  -- the pair that is held is the one last told of, and is in the logs
+  -- The pair that the lookup holds, if any, is the last one that it loaded, and is stored in the
+  -- arena.
   abbrev pub HoldsPair : Begun K V S → (last pair : Option (Stored K V)) → Type 0
   HoldsPair b last pair = (pair ≡ last) × IsPlaced b None (pair_named pair)
 
-  -- the setting of a log, with what is looked up as a further key
+  -- The setting of a log, with the key that is looked up as a further key.
   abbrev pub setting_for : (K → K → Bool) → (S → K → ℕ) → Begun K V S → (K → Bool) → ℕ
       → List (Event K V S) → Setting (Option K) (Stored K V)
   setting_for eq hash b matches fed log =
@@ -78,8 +80,9 @@ module _ {K V S : Type 0} where
 abbrev pub coding_for : {K V S : Type 0} → (S → K → ℕ) → S → ℕ → Coding (Option K) (Stored K V)
 coding_for hash hasher fed = coding_with (coding_of (hash hasher)) fed
 
--- A lookup of what matches these keys, and hashes so, relies on the log since its call began, and
--- holds the table and the pair of which it was told last.
+-- A lookup of the keys that match, with the hash `fed`, relies on the log since its call began. It
+-- holds the table that it is at, and the pair that it loaded last. If it has found a pair, that
+-- pair was the key's at some point of the call.
 pub record IsReading {K V S : Type 0} (eq : K → K → Bool) (hash : S → K → ℕ) (b : Begun K V S)
     (matches : K → Bool) (fed : ℕ) (begun : List (Exchange (Stored K V))) (log : List (Event K V S))
     (m : Machine) (table : Option (Bor Sheet)) (pair : Option (Stored K V)) : Type 0 where
@@ -97,42 +100,44 @@ pub record IsReading {K V S : Type 0} (eq : K → K → Bool) (hash : S → K �
       (setting_for eq hash b matches fed log) (coding_for hash b.hasher fed) begun since None
       (Some p)
 
--- the machine of a lookup that stands here
+-- The machine of a lookup at this stage.
 abbrev pub lookup_at : (hash : ℕ) → ResizeMode → (limit : Option ℕ) → Stage → Machine
 lookup_at hash mode limit stage = record (started Get hash mode 0 limit) { state = stage }
 
--- The lookup's machine, that nothing runs, would stand here by now. It relies on this table, and on
--- some pair that it was told of last.
+-- The lookup's machine, which nothing runs, would be at this stage now. It relies on this table,
+-- and on some pair that it loaded last.
 abbrev pub IsReadingAt : {K V S : Type 0} → (K → K → Bool) → (S → K → ℕ) → Begun K V S → (K → Bool)
     → ℕ → List (Exchange (Stored K V)) → ℕ → List (Event K V S) → Stage → Sheet → Type 0
 IsReadingAt {K} {V} eq hash b matches fed begun h log stage table = (lent : Bor Sheet)
     × (lent.now ≡ table) × (pair : Option (Stored K V))
     × IsReading eq hash b matches fed begun log (lookup_at h b.mode b.limit stage) (Some lent) pair
 
--- the table of this number has come, and this is the word of its slot x
+-- The table `t` is in the log, and `word` is the word of its slot `x`.
 abbrev pub IsSlotAt : {K V S : Type 0} → List (Event K V S) → (t x : ℕ) → Word → Type 0
 IsSlotAt log t x word = (sheet : Sheet) × IsTable log t sheet × (k : ℕ)
     × (slice_get sheet.slots x ≡ Some k) × (word ≡ word_named sheet.book k)
 
--- the word beside the number with the hint of a slot of a table
+-- The table `t` is in the log, and `word` is beside the number that has the hint of its slot `x`.
 abbrev pub HoldsHintAt : {K V S : Type 0} → List (Event K V S) → (t x : ℕ) → Word → Type 0
 HoldsHintAt log t x word = (sheet : Sheet) × IsTable log t sheet
     × HoldsHint sheet.book sheet.slots x word
 
--- where a search goes on that has found no pair
+-- The outcome of a place at which no entry was found, by the search's next step.
 abbrev pub turn_of : {M E : Type 0} → ProbeStep → ProbeHit M E
 turn_of (On (Looking at)) = turns.Next at
 turn_of (Over t) = turns.Over t
 turn_of _ = turns.Absent
 
--- the turn that the search has made where it has looked at one place of a table, if it is known
+-- The outcome of the place `at`, by its result in the root. There is none if the whole search is
+-- needed.
 abbrev pub turn_near : {M E : Type 0} → Place → RootHit M E → Option (ProbeHit M E)
 turn_near at nears.On = Some (turn_of (go_on at))
 turn_near at (nears.Found met entry) = Some (turns.Found met entry)
 turn_near at nears.Absent = Some turns.Absent
 turn_near at nears.Aside = None
 
--- where a turn leads the lookup's machine, with the number of the pair that was found
+-- The stage to which an outcome of a place leads the lookup's machine. `number` is that of the pair
+-- that was found.
 abbrev pub led_to : {M E : Type 0} → ResizeMode → ℕ → ProbeHit M E → Stage
 led_to mode number (turns.Next at) = Searching (Looking at)
 led_to mode number (turns.Found met entry) = Ended (Found number)
@@ -140,7 +145,7 @@ led_to mode number turns.Absent = Ended Absent
 led_to mode number (turns.Over t) = passes Get mode None t
 
 -- A search has met a pair with a matching key: the word that it loaded at this place of this table
--- named the pair, which lies in the logs.
+-- named the pair, which is stored in the arena.
 pub record HasHit {K V S : Type 0} (eq : K → K → Bool) (hash : S → K → ℕ) (b : Begun K V S)
     (name : Book) (matches : K → Bool) (fed : ℕ) (begun : List (Exchange (Stored K V)))
     (log : List (Event K V S)) (table : Sheet) (hit : Met K V) : Type 0 where
@@ -154,8 +159,8 @@ pub record HasHit {K V S : Type 0} (eq : K → K → Bool) (hash : S → K → �
   pub holds : IsTable log hit.place.table table
   pub placed : IsPlaced b (Some name) (Pair hit.stored)
 
--- A turn of a search led the lookup's machine on. Where a pair was found, the search has met it,
--- and these are its key and its value.
+-- An outcome of a place has led the lookup's machine to its next stage. If an entry was found, the
+-- search has met its pair, and the references are to that pair's key and value.
 pub record IsTurned {K V S : Type 0} (eq : K → K → Bool) (hash : S → K → ℕ) (b : Begun K V S)
     (name : Book) (matches : K → Bool) (fed : ℕ) (begun : List (Exchange (Stored K V))) (h : ℕ)
     (log : List (Event K V S)) (table : Sheet)

@@ -7,8 +7,8 @@ ghost use Rattle.papaya_words_law.specs.Exchange.{Exchange, Setting, start};
 ghost use Rattle.papaya_words_law.specs.Meaning.{IsLawful, map_left};
 ghost use Rattle.papaya_map_lookup.specs.History.{IsLegalHistory, changes_of, replay};
 
-/// The changes of allowed exchanges are a legal history, whose replay is the map that the exchanges
-/// leave. More exchanges only extend it.
+/// States that the changes of allowed exchanges are a legal history, whose replay is the map that
+/// the exchanges leave. More exchanges only extend it.
 pub fn exchanges_have_a_history<K, P>()
     ensures replay { (g : Setting K P) (es : List (Exchange P)) (k : K)
         → replay g.same (changes_of g.key es) k ≡ map_left g es k }

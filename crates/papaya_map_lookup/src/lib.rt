@@ -1,4 +1,4 @@
-//! Lookups on the shared map, and the histories from which the results of all calls come.
+//! Lookups on the shared map, and the histories that the contracts of all its calls speak of.
 //! It uses `papaya_map_book`.
 //! `papaya_map_change` builds on it, and `papaya_map` has the public lookups.
 #![tactic(auto)]

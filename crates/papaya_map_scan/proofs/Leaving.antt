@@ -1,4 +1,4 @@
--- A pair that the map had is the map's still, or a change took it out.
+-- An entry that the map had is still in the map, or a change took it out.
 use Rattle.std.proofs.Common.{◌≡◌, ◌⊎◌, inl, inr, ⊎_elim, Bool, true, false, cond, Option, None}
 use Rattle.std.proofs.Common.{Some, List, [], ◌∷◌, ◌++◌, Result, append_assoc, refl, sym, ap, ◌∙◌}
 use Rattle.std.proofs.Common.{subst}

@@ -1,4 +1,4 @@
--- what became of a pair that stood in a slot
+-- The later states of an entry that was in a slot.
 pub mod Pairs
 -- and of one that the map had
 pub mod Leaving

@@ -1,4 +1,4 @@
--- A pair that stood in a slot stands there still, or an exchange took it out; and a table has no two slots with pairs of one key.
+-- A pair that was in a slot is still there, or an exchange took it out; and no two slots of a table have pairs of one key.
 use Rattle.std.proofs.Common.{◌≡◌, ◌⊎◌, inl, inr, ⊎_elim, ℕ, ◌<◌, true, Option, None, Some, List, [], ◌∷◌, ◌++◌, refl, sym, ap, ◌∙◌, subst}
 use Rattle.std.proofs.lemmas.Bool.{cond-true}
 use Rattle.papaya_words_law.specs.Allows.{Allows, AllAllowed}

@@ -1,4 +1,4 @@
--- How the scan of a slot goes on, by the word that stands there and by what is answered of its pair.
+-- The scan of a slot goes on by the word that is there and by what the closure returns for its pair.
 use Rattle.std.proofs.Common.{◌≡◌, inl, inr, ⊎_elim, ℕ, suc, ◌==◌, Bool, true, false, Option, None}
 use Rattle.std.proofs.Common.{Some, List, [], ◌∷◌, ◌++◌, map, append_assoc, eqb-true, refl, sym, ap}
 use Rattle.std.proofs.Common.{◌∙◌, subst}

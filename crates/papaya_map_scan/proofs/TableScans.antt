@@ -1,4 +1,4 @@
--- What is so of a table and of a closure stays so, whatever is seen next.
+-- Facts about a table and about a closure that stay true, whatever is observed next.
 use Rattle.std.proofs.Common.{ℕ, suc, ◌+◌, ◌-◌, ◌<◌, ◌≤◌, Bool, MatchOption, Option, None, Some, List, [], ◌∷◌, length, map, slice_get, ◌≡◌, refl, sym, ap, ◌∙◌, subst, arith}
 use mathlib.Core.List.{IsPrefix}
 use denote.Bor.{Bor}

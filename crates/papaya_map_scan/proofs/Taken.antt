@@ -1,4 +1,4 @@
--- What stands in the slots of a table that was taken: pairs of the map, which may be deleted.
+-- The slots of a table that was taken hold entries of the map, which may be deleted.
 use Rattle.std.proofs.Common.{◌≡◌, ◌⊎◌, inl, inr, ⊎_elim, ℕ, suc, ◌<◌, ◌≤◌, ◌==◌, Bool, true, false}
 use Rattle.std.proofs.Common.{MatchBool, Option, None, Some, List, [], ◌∷◌, ◌++◌, length}
 use Rattle.std.proofs.Common.{append_assoc, append-nil, eqb-true, refl, sym, ap, ◌∙◌, subst, arith}

@@ -1,4 +1,4 @@
--- What a walk has passed: each pair that the map had as it began was given, was taken out since, or is ahead.
+-- An iteration has passed each entry that the map had as it began: it was returned, was taken out since, or is ahead.
 use Rattle.std.proofs.Common.{◌≡◌, ◌⊎◌, inl, inr, ⊎_elim, ℕ, suc, ◌-◌, ◌<◌, ◌≤◌, Bool, true, false, MatchOption, Option, None, Some, is_some, List, [], ◌∷◌, ◌++◌, length}
 use Rattle.std.proofs.Common.{refl, sym, ap, ◌∙◌, subst, arith}
 use Rattle.std.proofs.lemmas.Bool.{cases_lt}

@@ -1,4 +1,4 @@
--- What a clear and a retain leave of the pairs that the map had, and what they take out.
+-- Which of the map's entries `clear` and `retain` leave, and which they take out.
 use Rattle.std.specs.Prelude.{◌≡◌, ◌⊎◌, Bool, true, false, None, Some, Result, List, [], ◌∷◌, ◌++◌, IfOk}
 use mathlib.Core.List.{IsPrefix}
 use Rattle.papaya_words.specs.declared.refused.Refused.{Refused}
@@ -9,7 +9,7 @@ use Rattle.papaya_map_change.specs.Showings.{AllShown, HasSaid, IsSamePair}
 use Rattle.papaya_map_scan.specs.Meeting.{HadPair}
 
 module _ {K V : Type 0} where
-  -- a change between the two histories took out this pair
+  -- A change between the two histories took out this entry.
   pub record WasTakenOut (old new : List (Change K (Stored K V))) (p : Stored K V) : Type 0 where
     pub before : List (Change K (Stored K V))
     pub change : Change K (Stored K V)
@@ -18,22 +18,24 @@ module _ {K V : Type 0} where
     pub is : change.taken ≡ Some p
 
   module _ (eq : K → K → Bool) (old new : List (Change K (Stored K V))) where
-    -- each pair that the map had after the first history was taken out since
+    -- Each entry that the map had after the history `old` was taken out since.
     abbrev pub IsCleared : Type 0
     IsCleared = (k : K) (p : Stored K V) → replay eq old k ≡ Some p → WasTakenOut old new p
 
-    -- or it was shown, and the last answer was that it stays
+    -- Each entry that the map had after the history `old` was taken out since, or the closure's
+    -- last answer for it was to keep it.
     abbrev pub IsRetained : List (Stored K V × Bool) → Type 0
     IsRetained said = (k : K) (p : Stored K V) → replay eq old k ≡ Some p
         → WasTakenOut old new p ⊎ IsLastAnswer said p true
 
-  -- the change takes out this very pair, and puts none in
+  -- The change takes out this very entry, and puts none in.
   abbrev pub Drops : Change K (Stored K V) → Stored K V → Type 0
   Drops change p = (q : Stored K V) × (change.taken ≡ Some q) × (change.put ≡ None)
       × IsSamePair q p
 
-  -- What was made of these answers, the last of them first in the list: after one that a pair does
-  -- not stay, and before the next, one change at most, with which that pair went; and no other one.
+  -- These changes were made because of the closure's answers in `said`, of which the last comes
+  -- first. After each answer not to keep an entry, and before the next answer, at most one change
+  -- was made, which takes out that entry. No other change was made.
   abbrev pub AreDropped : List (Stored K V × Bool) → List (Change K (Stored K V)) → Type 0
   AreDropped [] made = made ≡ []
   AreDropped (last ∷ before) made = AreDropped before made
@@ -41,9 +43,9 @@ module _ {K V : Type 0} where
       × (change : Change K (Stored K V)) × (made ≡ earlier ++ change ∷ []) × Drops change last.0
       × AreDropped before earlier)
 
-  -- A closure that was `first` was shown these pairs, and is `left` now. Each the map had between
-  -- the two histories. Of the changes that were made, those since `made` are what was made of the
-  -- closure's answers.
+  -- The closure, which was `first`, was called with the entries in `said`, and is now `left`. Each
+  -- of these entries was in the map in some history between the two. The changes since `made` are
+  -- those that were made because of the closure's answers.
   pub record HasShown {F : Type 0} (eq : K → K → Bool)
       (old new made made' : List (Change K (Stored K V)))
       (judges : F → Stored K V → Bool → F → Type 0) (first left : F)
@@ -55,20 +57,23 @@ module _ {K V : Type 0} where
     pub dropped : AreDropped said changes
 
   module _ (eq : K → K → Bool) (old new : List (Change K (Stored K V))) where
-    -- each took out a pair that the map had between the two histories, and put none in
+    -- Each change took out an entry that the map had in some history between the two, and put none
+    -- in.
     abbrev pub AllDrop : List (Change K (Stored K V)) → Type 0
     AllDrop [] = Unit {0}
     AllDrop (change ∷ later) = ((p : Stored K V) × HadPair eq old new p × Drops change p)
         × AllDrop later
 
-    -- of the changes that were made, those since `made` are such
+    -- Each change since `made` took out an entry that the map had in some history between the two,
+    -- and put none in.
     pub record HasDropped (made made' : List (Change K (Stored K V))) : Type 0 where
       pub changes : List (Change K (Stored K V))
       pub made_is : made' ≡ made ++ changes
       pub dropped : AllDrop changes
 
-  -- What a retain did: it took out only pairs of which the last answer then was that they do not
-  -- stay; and where it is not refused, it left only such of which the last answer was that they do.
+  -- `retain` took out only entries that it was not to keep, by the closure's latest answer at that
+  -- point. If it was not refused, it left, of the entries that the map had after the history `old`,
+  -- only those for which the last answer was to keep them.
   pub record HasKept {F A : Type 0} (eq : K → K → Bool)
       (old new made made' : List (Change K (Stored K V)))
       (judges : F → Stored K V → Bool → F → Type 0) (first : F)

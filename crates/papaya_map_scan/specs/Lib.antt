@@ -1,10 +1,10 @@
--- the pairs that are met in the slots of a table
+-- The entries that are met in the slots of a table.
 pub mod Meeting
--- which pairs a clear and a retain leave, and which they take out
+-- Which entries `clear` and `retain` leave, and which they take out.
 pub mod Leaving
--- the table that is scanned, and what was done slot by slot
+-- The table that is scanned, and what was done slot by slot.
 pub mod Taking
--- the same by what is seen of the map
+-- The same definitions by what a window has observed of the map.
 pub mod TableScans
--- what a walk shows and gives
+-- An iterator as contracts see it, and what it returns.
 pub mod Walked

@@ -1,4 +1,4 @@
--- The pairs that are met in the slots of a table.
+-- The entries that are met in the slots of a table.
 use Rattle.std.specs.Prelude.{◌≡◌, ℕ, Bool, true, false, Option, Some, List}
 use mathlib.Core.List.{IsPrefix}
 use Rattle.logbook.specs.Pages.{Book}
@@ -11,14 +11,14 @@ use Rattle.papaya_map_book.specs.Logs.{Stored, pair_named}
 use Rattle.papaya_map_book.specs.Rule.{IsPlaced}
 use Rattle.papaya_map_lookup.specs.History.{Change, history_of, key_of, replay}
 
--- a word of this kind names a pair that the map has, or had until it was copied
+-- A word of this kind names an entry that the map has, or had until the slot was copied.
 abbrev pub has_pair : Kind → Bool
 has_pair Live = true
 has_pair Marked = true
 has_pair Copied = true
 has_pair _ = false
 
--- the map had this pair in a history between the two
+-- The map had this entry in some history between the two.
 pub record HadPair {K V : Type 0} (eq : K → K → Bool) (old new : List (Change K (Stored K V)))
     (p : Stored K V) : Type 0 where
   pub seen : List (Change K (Stored K V))
@@ -26,8 +26,8 @@ pub record HadPair {K V : Type 0} (eq : K → K → Bool) (old new : List (Chang
   pub until : IsPrefix seen new
   pub is : replay eq seen (key_of p) ≡ Some p
 
--- A word was found that names this pair, which lies in the logs; and where it is a word of a pair
--- of the map, the map had it between the two logs.
+-- The pair that a loaded word names, if any, is stored in the arena. If the word is `Live`,
+-- `Marked` or `Copied`, it names a pair, which the map had at some point between the two logs.
 pub record IsMet {K V S : Type 0} (eq : K → K → Bool) (b : Begun K V S) (name : Book)
     (old log : List (Event K V S)) (word : ℕ) (pair : Option (Stored K V)) : Type 0 where
   pub placed : IsPlaced b (Some name) (pair_named pair)

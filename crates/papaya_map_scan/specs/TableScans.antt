@@ -1,4 +1,5 @@
--- How a table is scanned, by what is seen of the map; `began` is what was seen as the call began.
+-- How a table is scanned, by what a window has observed of the map. `began` is the log that had
+-- been observed when the call began.
 use Rattle.std.specs.Prelude.{ℕ, Bool, Option, List}
 use Rattle.papaya_map_book.specs.declared.keyed.Keyed as keyed
 use Rattle.papaya_map_book.specs.declared.rule.entry.Event.{Event}
@@ -12,11 +13,11 @@ use Rattle.papaya_map_scan.specs.Meeting as meeting
 use Rattle.papaya_map_scan.specs.Taking as taking
 
 module _ {K V S H : Type 0} {d : keyed.Ghosts S K H} where
-  -- the number of the root
+  -- The number of the root.
   abbrev pub root_of : Window K V S H d → ℕ
   root_of w = (state_of w.sight.log).root
 
-  -- the last exchange that is seen deleted this very pair in this slot
+  -- The last exchange of the observed log deleted this very entry in this slot.
   abbrev pub IsBuried : Window K V S H d → (t x : ℕ) → Stored K V → Type 0
   IsBuried w = taking.IsBuried w.sight.log
 
@@ -37,8 +38,9 @@ module _ {K V S H : Type 0} {d : keyed.Ghosts S K H} where
       HasShown made w first left said = leaving.HasShown d.keys.eq (history_of began) (past w) made
           (own w) judges first left said
 
-      -- What the closure was shown so far, and what was made of its answers, goes on. Where the
-      -- slots of the table were scanned so far, they are so to the end, if it has come to its end.
+      -- The closure's calls and the changes that they caused continue from `w` to `w'`. If `ended`
+      -- holds, and the slots of the table below `from` had been scanned, then those below `upto`
+      -- have been.
       abbrev pub Scans : Window K V S H d → F → Window K V S H d → F → (t from upto : ℕ)
           → (ended : Type 0) → Type 0
       Scans w f w' f' t from upto ended = (first : F) (made : List (Change K (Stored K V)))

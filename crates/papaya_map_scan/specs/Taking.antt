@@ -1,4 +1,5 @@
--- How a table comes to be scanned, and what was done of the pairs that stood in its slots then.
+-- How a call takes a table to scan, and what it did with the entries that the table's slots held at
+-- that point.
 use Rattle.std.specs.Prelude.{◌≡◌, ◌⊎◌, ℕ, ◌<◌, Bool, true, false, List, [], ◌∷◌, ◌++◌}
 use mathlib.Core.List.{IsPrefix}
 use Rattle.papaya_words_law.specs.Exchange.{Word, Bury, Live, Marked}
@@ -12,7 +13,7 @@ use Rattle.papaya_map_lookup.specs.History.{history_of}
 use Rattle.papaya_map_change.specs.Showings.{IsSamePair}
 use Rattle.papaya_map_scan.specs.Leaving.{WasTakenOut}
 
--- At this moment between the two logs the table was the root and, without blocking, had no
+-- At `at`, a point between the two logs, the table was the root and, unless resizes block, had no
 -- next table.
 pub record IsTakenAt {K V S : Type 0} (b : Begun K V S) (old log : List (Event K V S)) (t : ℕ)
     (at : List (Event K V S)) : Type 0 where
@@ -22,7 +23,7 @@ pub record IsTakenAt {K V S : Type 0} (b : Begun K V S) (old log : List (Event K
   pub some : 0 < t
   pub last : is_blocking b.mode ≡ false → (state_of at).next t ≡ 0
 
--- at some moment between them it was
+-- The table was so at some point between the two logs.
 pub record IsTaken {K V S : Type 0} (b : Begun K V S) (old log : List (Event K V S))
     (t : ℕ) : Type 0 where
   pub at : List (Event K V S)
@@ -32,20 +33,20 @@ pub record IsTaken {K V S : Type 0} (b : Begun K V S) (old log : List (Event K V
   pub some : 0 < t
   pub last : is_blocking b.mode ≡ false → (state_of at).next t ≡ 0
 
--- with this word the map has this pair
+-- A slot with this word holds this entry for the map.
 abbrev pub Holds : {P : Type 0} → Word P → P → Type 0
 Holds w p = (w ≡ Live p) ⊎ (w ≡ Marked p)
 
 module _ {K V S : Type 0} where
-  -- Each pair that the map had in one of the first slots of the table, as it was taken, was taken
-  -- out since, or was shown, with the last answer that it stays.
+  -- Each entry that one of the first `upto` slots of the table held when the table was taken was
+  -- taken out since, or the closure's last answer for it was to keep it.
   abbrev pub IsScannedUpTo : (at log : List (Event K V S)) → (t upto : ℕ) → List (Stored K V × Bool)
       → Type 0
   IsScannedUpTo at log t upto said = (x : ℕ) → x < upto → (p : Stored K V)
       → Holds ((state_of at).slot t x) p
       → WasTakenOut (history_of at) (history_of log) p ⊎ IsLastAnswer said p true
 
-  -- the last exchange of the log deleted a pair in this slot, and it is this very pair
+  -- The last exchange of the log deleted the entry in this slot, and that entry is `shown`.
   pub record IsBuried (log : List (Event K V S)) (t x : ℕ) (shown : Stored K V) : Type 0 where
     pub before : List (Event K V S)
     pub step : Step K V

@@ -7,10 +7,10 @@
 //! as each of them has come back once.
 //!
 //! ```
-//! let users: ReclaimingMap<u64, u64> = Reclaiming::new(alloc, HashMap::new(rt, alloc)?)?;
-//! let mut handle = users.handle(); // one a thread
+//! let map: ReclaimingMap<u64, u64> = Reclaiming::new(alloc, HashMap::new(rt, alloc)?)?;
+//! let mut handle = map.handle(); // one for each thread
 //! handle.enter(rt).pin().insert(rt, 1, 10)?;
-//! handle.reclaim_if(rt, 2)?; // if more than half of what is stored is of no use
+//! let reclaimed = handle.reclaim_if(rt, 2)?; // false, since only one entry is stored
 //! ```
 #![tactic(auto)]
 

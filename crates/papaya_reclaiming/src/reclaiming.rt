@@ -45,7 +45,8 @@ impl<M: Reclaim + Drop> Reclaiming<M> {
     /// reclaimed: hasher, resize mode, capacity, shards and limit.
     ///
     /// # Errors
-    /// `Refused::Memory` if there is no memory for the lock; the map is dropped then.
+    ///
+    /// Fails with `Refused::Memory` if there is no memory for the lock. The map is then dropped.
     pub fn new(alloc: Global, map: M) -> Result<Reclaiming<M>, Refused>
         ensures { IfErr result (λ refused. refused ≡ Refused.Memory) }
     {
@@ -61,6 +62,15 @@ impl<M: Reclaim + Drop> Reclaiming<M> {
 
     /// Returns a thread's handle to the map. Each thread makes one, once: handles take the eight
     /// places of the lock in turn, so that up to eight threads write to cache lines of their own.
+    ///
+    /// # Examples
+    ///
+    /// ```
+    /// let map: ReclaimingMap<u64, u64> = Reclaiming::new(alloc, HashMap::new(rt, alloc)?)?;
+    /// let mut handle = map.handle(); // one for each thread
+    /// handle.enter(rt).pin().insert(rt, 1, 10)?;
+    /// let reclaimed = handle.reclaim_if(rt, 2)?; // false, since only one entry is stored
+    /// ```
     pub fn handle(&self) -> Handle<'_, M> {
         Handle {
             shared: self,
@@ -107,6 +117,14 @@ impl<'a, M: Reclaim + Drop> Handle<'a, M> {
     /// A thread that keeps a guard for long calls [`Entered::refresh`] from time to time. Until it
     /// does, the map cannot be reclaimed, and threads that want to enter may wait for one that
     /// waits to reclaim it.
+    ///
+    /// # Examples
+    ///
+    /// ```
+    /// let entered = handle.enter(rt);
+    /// entered.pin().insert(rt, 1, 10)?;
+    /// let len = entered.len(); // 1
+    /// ```
     #[inline(always)]
     pub fn enter<R: Wait>(&mut self, rt: &R) -> Entered<'_, M> {
         Entered {
@@ -121,8 +139,10 @@ impl<'a, M: Reclaim + Drop> Handle<'a, M> {
     /// hold it off; a thread that never comes back does.
     ///
     /// # Errors
-    /// As `reclaim` of the map itself: `Refused::Memory` if there is no memory for both maps, or an
-    /// entry was not cloned. The map is as it was then.
+    ///
+    /// Fails with `Refused::Memory` if there is no memory for both maps or an entry is not cloned,
+    /// and with `Refused::Capacity` if there is no room, as `reclaim` of the map itself does. The
+    /// map is then as it was.
     pub fn reclaim<R: Wait>(&mut self, rt: &R) -> Result<(), Refused> {
         self.shared.alone(rt).reclaim(rt)
     }
@@ -131,7 +151,8 @@ impl<'a, M: Reclaim + Drop> Handle<'a, M> {
     /// thread that must not wait, or that may have another handle's guard.
     ///
     /// # Errors
-    /// As [`Handle::reclaim`].
+    ///
+    /// Fails with `Refused::Memory` or `Refused::Capacity`, as [`Handle::reclaim`] does.
     pub fn try_reclaim<R: Wait>(&mut self, rt: &R) -> Result<bool, Refused> {
         match self.shared.lock.try_write() {
             Some(mut map) => {
@@ -152,7 +173,8 @@ impl<'a, M: Reclaim + Drop> Handle<'a, M> {
     /// changes, or from time to time.
     ///
     /// # Errors
-    /// As [`Handle::reclaim`].
+    ///
+    /// Fails with `Refused::Memory` or `Refused::Capacity`, as [`Handle::reclaim`] does.
     pub fn reclaim_if<R: Wait>(&mut self, rt: &R, share: usize) -> Result<bool, Refused> {
         if !is_due(&*self.enter(rt), share) {
             return Ok(false);

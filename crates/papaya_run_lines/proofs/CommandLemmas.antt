@@ -1,4 +1,4 @@
--- A text writes one command at most.
+-- A text denotes at most one command.
 use Rattle.std.proofs.Common.{◌≡◌, ◌≢◌, ℕ, List, ◌∷◌, ◌++◌, sym, ◌∙◌, ap, subst, arith, Contains, codes, inl, inr}
 use Rattle.std.specs.Prelude.{◌⊎◌, Option, None, Some, MatchOption}
 use Rattle.papaya_run_lines.specs.Commands.{Parts, WritesBare, WritesCommand, keyed_word}

@@ -1,4 +1,4 @@
--- A run of a script on a core, whose trace is told.
+-- A run of a script on a core, and what is printed of its trace.
 use Rattle.std.proofs.Common.{◌≡◌, ◌==◌, ℕ, None, Some, Ok, Err, IfSome, List, length, reverse, inl, inr, sym, subst, ◌∙◌}
 use Rattle.std.specs.Option.{option_or}
 use Rattle.std.specs.Prelude.{IsErrAnd, Option, Result}

@@ -1,4 +1,4 @@
--- A line read through its end, and the lines that are left.
+-- A line that was read with its line end, and the lines that are left.
 use Rattle.std.proofs.Common.{◌≡◌, ℕ, zero, suc, ◌+◌, ◌-◌, Bool, true, false, cond, eqb, None, Some}
 use Rattle.std.proofs.Common.{IfSome, List, [], ◌∷◌, ◌++◌, length, take, slice_index, Ok, Err, refl}
 use Rattle.std.proofs.Common.{sym, ap, subst, ◌∙◌, arith, not, eq-eqb, ne_eqb, ⊎_elim}

@@ -1,4 +1,4 @@
--- Answers that borrow the map, with values in the place of references.
+-- Results that borrow the map, with values in place of references.
 use Rattle.std.proofs.Common.{◌≡◌, ℕ, Bool, None, Some, Ok, Err, refl, ap, ◌∙◌}
 use Rattle.std.specs.Fn.{FnReturnsAt, Shared}
 use Rattle.std.specs.Prelude.{IsOk, Option, Result}

@@ -1,4 +1,4 @@
--- What a session answers: an update whose closure answers what the closures of a script do; and why a map without a limit refuses.
+-- The results of a session: an update whose closure returns what a script's closures do; and why a map without a limit refuses.
 use Rattle.std.proofs.Common.{◌≡◌, ◌==◌, ℕ, None, Some, Ok, Err, Option, inl, inr, sym, ◌∙◌, ap}
 use Rattle.std.specs.Fn.{FnReturnsAt, Shared}
 use Rattle.std.specs.Prelude.{IfErr, IfOk, Result}

@@ -1,4 +1,4 @@
--- Lines that print what their turns told, one after the other.
+-- Lines that print the replies of their turns, one after the other.
 use Rattle.std.proofs.Common.{◌≡◌, ◌≢◌, ℕ, suc, ◌+◌, ◌<◌, Bool, true, false, eqb, eq-eqb, ne_eqb}
 use Rattle.std.proofs.Common.{None, Some, List, [], ◌∷◌, ◌++◌, drop, drop-cons, get_or, length, inl}
 use Rattle.std.proofs.Common.{inr, refl, reverse, sym, ap, subst, ◌∙◌, arith, append_assoc}

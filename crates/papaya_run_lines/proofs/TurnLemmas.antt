@@ -1,4 +1,4 @@
--- A line asks for one turn at most.
+-- A line requests at most one turn.
 use Rattle.std.proofs.Common.{◌≡◌, ◌≢◌, ℕ, List, ◌∷◌, ◌++◌, true, false, sym, ◌∙◌, ap, subst, arith, Contains, codes, inl, inr}
 use Rattle.std.specs.Prelude.{◌⊎◌, Option, None, MatchOption}
 use Rattle.papaya_call.specs.declared.call.Call.{Call}

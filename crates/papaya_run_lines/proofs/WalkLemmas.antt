@@ -1,4 +1,4 @@
--- The pairs that a walk over the shared map has given so far.
+-- The entries that an iteration over the shared map has returned so far.
 use Rattle.std.proofs.Common.{◌≡◌, ◌==◌, ℕ, Option, None, Some, List, [], ◌∷◌, ◌++◌, sym, ◌∙◌, ap, subst, refl}
 use Rattle.std.specs.Borrow.{Bor}
 use Rattle.std.specs.List.{All}

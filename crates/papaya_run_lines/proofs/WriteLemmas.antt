@@ -1,4 +1,4 @@
--- What was written to a writer whose bytes are known, or not.
+-- The bytes that were written to a writer, whether its bytes are known or not.
 use Rattle.std.proofs.Common.{ℕ, None, Some, List, [], ◌++◌, refl, sym, ap, ◌∙◌, append_assoc}
 use Rattle.std.specs.Prelude.{Option}
 use Rattle.std.proofs.lemmas.List.{append-nil}

@@ -1,4 +1,4 @@
--- What the lines say that are one call or one question.
+-- The lines that are one command: a call or a question.
 use Rattle.std.specs.Prelude.{◌≡◌, ℕ, List, [], ◌∷◌, ◌++◌, Contains, codes}
 use Rattle.papaya_run_lines.specs.Numbers.{WritesNumber}
 use Rattle.papaya_run_lines.specs.declared.commands.Command.{Command}
@@ -6,24 +6,24 @@ use Rattle.papaya_run_lines.specs.declared.commands.Command.TheVariants.{Insert,
 use Rattle.papaya_run_lines.specs.declared.commands.KeyedCommand.{KeyedCommand}
 use Rattle.papaya_run_lines.specs.declared.commands.KeyedCommand.TheVariants as keyed
 
--- the text is the first word, one space, and the rest
+-- The text is the first word, one space, and the rest.
 abbrev pub Parts : List ℕ → List ℕ → List ℕ → Type 0
 Parts text first rest = (text ≡ first ++ 32 ∷ rest) × ¬ (Contains first 32)
 
--- words with one space between two of them
+-- The words, with one space between neighbours.
 abbrev pub spaced : List (List ℕ) → List ℕ
 spaced [] = []
 spaced (word ∷ []) = word
 spaced (word ∷ next ∷ words) = word ++ 32 ∷ spaced (next ∷ words)
 
--- the word that names a command that has a key
+-- The word for a command that has a key.
 abbrev pub keyed_word : KeyedCommand → List ℕ
 keyed_word keyed.Get = codes "g"
 keyed_word keyed.Insert = codes "i"
 keyed_word keyed.Remove = codes "r"
 keyed_word keyed.Update = codes "u"
 
--- the text is the command's word
+-- The text is the word for this command, which has no key.
 abbrev pub WritesBare : List ℕ → Command → Type 0
 WritesBare text Len = text ≡ codes "len"
 WritesBare text Slots = text ≡ codes "slots"
@@ -34,11 +34,11 @@ WritesBare text (Get k) = ⊥
 WritesBare text (Remove k) = ⊥
 WritesBare text (Update k) = ⊥
 
--- the text is this word and a number
+-- The text is this word, one space, and a number.
 abbrev pub WritesKeyed : List ℕ → List ℕ → ℕ → Type 0
 WritesKeyed text word k = (key : List ℕ) × WritesNumber key k × (text ≡ spaced (word ∷ key ∷ []))
 
--- the text is the command: its name, and for those that have them its key and its value
+-- The text denotes the command: its name, and its key and its value if it has them.
 abbrev pub WritesCommand : List ℕ → Command → Type 0
 WritesCommand text (Insert k v) = (key value : List ℕ) × WritesNumber key k × WritesNumber value v
     × (text ≡ spaced (codes "i" ∷ key ∷ value ∷ []))
@@ -50,6 +50,6 @@ WritesCommand text Slots = text ≡ codes "slots"
 WritesCommand text Clear = text ≡ codes "clear"
 WritesCommand text Walk = text ≡ codes "walk"
 
--- the text is no command
+-- The text denotes no command.
 abbrev pub WritesNone : List ℕ → Type 0
 WritesNone text = (command : Command) → ¬ (WritesCommand text command)

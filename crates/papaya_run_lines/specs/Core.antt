@@ -1,4 +1,4 @@
--- What a run of lines on a core prints.
+-- The output of a run of lines on a core.
 use Rattle.std.specs.Prelude.{◌≡◌, ◌==◌, ℕ, true, List, length, reverse, Option, Some, None, Result, Ok, Err}
 use Rattle.std.specs.Option.{option_or}
 use Rattle.papaya_call.specs.Answers.{Says}
@@ -14,7 +14,7 @@ use Rattle.papaya_run_lines.specs.Told.{Tells, no_calls}
 use Rattle.papaya_run_lines.specs.declared.closures.Answering.{Answering}
 use Rattle.papaya_run_lines.specs.declared.script.Line.{Line}
 
--- what the closures of a script answer
+-- The results of the closures of a script.
 abbrev pub script_says : Says ℕ ℕ Answering
 script_says = record {
   op = λ a shown answer a'. answer ≡ operation_of shown;
@@ -22,9 +22,9 @@ script_says = record {
 }
 
 module _ {S : Type 0} (hash : S → ℕ → ℕ) (first : CoreState ℕ ℕ S Answering → Type 0) where
-  -- The turns that these lines ask for were run as one schedule, from a first state, and what its
-  -- trace tells was written. The first line that was passed over, or else the bad line, is of this
-  -- number, if there is one.
+  -- The turns that these lines request were run as one schedule, from a first state, and what the
+  -- lines print of its trace was written. `bad` is the number of the first line that was passed
+  -- over, or else of the bad line, if there is one.
   pub record Ran (lines : List (List ℕ)) (wrote : List ℕ → Type 0) (bad : Option ℕ) : Type 0 where
     pub turns : List (Turn ℕ ℕ Answering)
     pub rows : List Line
@@ -42,7 +42,8 @@ module _ {S : Type 0} (hash : S → ℕ → ℕ) (first : CoreState ℕ ℕ S An
     pub written : wrote text
     pub bad_is : bad ≡ option_or passed_over bad_line
 
-  -- A run of these lines ends so. Where memory, the reader or the writer fails, nothing is said.
+  -- The result of a run of these lines. If memory, the reader or the writer fails, nothing is
+  -- stated.
   abbrev pub IsCoreRun : List (List ℕ) → (wrote : List ℕ → Type 0) → Result (Unit {0}) Failure
       → Type 0
   IsCoreRun lines wrote (Ok done) = Ran lines wrote None

@@ -6,7 +6,8 @@ use Rattle.papaya_run_lines.specs.Walk.{pairs_text}
 use Rattle.papaya_run_lines.specs.declared.printed.Printed.{Printed}
 use Rattle.papaya_run_lines.specs.declared.printed.Printed.TheVariants as printed
 
--- a word, and for a reply that tells of one a number in decimal digits
+-- A word, followed by what the reply has: a number in decimal digits, the entries of an iteration,
+-- or the cause of a refusal.
 abbrev pub text_of : Printed → List ℕ
 text_of printed.Absent = codes "none"
 text_of (printed.Found value) = codes "some " ++ decimal value

@@ -1,4 +1,4 @@
--- What a run of the program prints.
+-- The output of a run of the program.
 use Rattle.std.specs.Prelude.{◌≡◌, ℕ, List, [], ◌⊎◌, Result, Err}
 use Rattle.std.specs.Hash.{u64}
 use Rattle.papaya_words.specs.declared.resize_mode.ResizeMode.{ResizeMode}
@@ -25,27 +25,28 @@ use Rattle.papaya_run_lines.specs.Runs.{IsRun}
 use Rattle.papaya_run_lines.specs.Seq.{ObeysLine}
 use Rattle.papaya_run_lines.specs.Shared as shared
 
--- a hash of the program: what is made of the eight bytes of a key, the lowest first
+-- The hash of a key by `Identity`, which is made of the key's eight bytes, the lowest first; by
+-- `Zero` it is 0.
 abbrev pub identity_hash : Identity → ℕ → ℕ
 identity_hash = hash_of u64 (λ s. 0) (λ h bytes. number_written bytes) (λ h. h)
 
 abbrev pub zero_hash : Zero → ℕ → ℕ
 zero_hash s key = 0
 
--- a new map for one caller
+-- A new map for one caller.
 abbrev pub IsNewMap : {S : Type 0} → ResizeMode → S → MapState ℕ ℕ S → Type 0
 IsNewMap mode hasher s = IsNew {A = Unit {0}} mode 0 1 hasher (core_of s)
 
--- a line that is done on a map for one caller
+-- A line that is run on a map for one caller.
 abbrev pub DoesLine : {S : Type 0} → MapState ℕ ℕ S → List ℕ → Printed → MapState ℕ ℕ S → Type 0
 DoesLine old line text new = ObeysLine line old text new
 
--- A line that is done on a map that threads share, by a session of the whole run: there is one
--- history, and no line is answered by less of it than the line before.
+-- A line that is run on a shared map, by one session for the whole run. There is one history, and
+-- each line's result is right for a state no earlier than what the line before had observed.
 abbrev pub ShowsLine : {S : Type 0} → Known ℕ ℕ S → List ℕ → Printed → Known ℕ ℕ S → Type 0
 ShowsLine old line text new = shared.ObeysLine line old text new
 
--- The run of these lines on a new map ends so.
+-- The result of a run of these lines on a new map.
 abbrev pub RunsOn : {S : Type 0} → (hash : S → ℕ → ℕ) → Backend → ResizeMode → S
     → List (List ℕ) → (wrote : List ℕ → Type 0) → Result (Unit {0}) Failure → Type 0
 RunsOn hash backend.Core mode hasher lines wrote ended =
@@ -55,7 +56,7 @@ RunsOn hash backend.Seq mode hasher lines wrote ended =
 RunsOn {S = S} hash backend.Shared mode hasher lines wrote ended =
     IsRun (shared.IsBegun {S = S}) ShowsLine shared.IsBad lines wrote ended
 
--- the same with the hasher that is asked for
+-- The same with the hasher that was requested.
 abbrev pub RunsBy : Backend → ResizeMode → Hashing → List (List ℕ) → (wrote : List ℕ → Type 0)
     → Result (Unit {0}) Failure → Type 0
 RunsBy on mode hashing.Identity lines wrote ended =
@@ -63,8 +64,8 @@ RunsBy on mode hashing.Identity lines wrote ended =
 RunsBy on mode hashing.Zero lines wrote ended =
     RunsOn zero_hash on mode (record {}) lines wrote ended
 
--- A run of the program by these words and lines ends so: where the words are no arguments, nothing
--- was written.
+-- The result of a run of the program with these words and lines. If the words are no arguments,
+-- nothing was written.
 abbrev pub IsProgramRun : (words lines : List (List ℕ)) → (wrote : List ℕ → Type 0)
     → Result (Unit {0}) Failure → Type 0
 IsProgramRun words lines wrote ended =
@@ -72,7 +73,7 @@ IsProgramRun words lines wrote ended =
     ⊎ ((a : Arguments) × WritesArguments words a
     × RunsBy a.backend a.mode a.hashing lines wrote ended)
 
--- the run ends so to this exit status
+-- The run ends with this exit status.
 abbrev pub RunsTo : (status : ℕ) → (words lines : List (List ℕ)) → (wrote : List ℕ → Type 0) → Type 0
 RunsTo status words lines wrote = (ended : Result (Unit {0}) Failure)
     × (status ≡ exit_status ended) × IsProgramRun words lines wrote ended

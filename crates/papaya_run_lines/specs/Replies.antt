@@ -1,4 +1,4 @@
--- What is printed of a core's replies.
+-- The printed form of a core's replies.
 use Rattle.std.specs.Prelude.{ℕ, Bool, true, false, Option, Some, option_map}
 use Rattle.papaya_call.specs.declared.call.Reply.{Reply}
 use Rattle.papaya_call.specs.declared.call.Reply.TheVariants.{Absent, Found, Inserted, Replaced, Occupied, Removed, Kept, Aborted, Done, Refused}
@@ -6,16 +6,17 @@ use Rattle.papaya_core_store.specs.Store.{StoreState, pair_of}
 use Rattle.papaya_run_lines.specs.declared.printed.Printed.{Printed}
 use Rattle.papaya_run_lines.specs.declared.printed.Printed.TheVariants as printed
 
--- the value of the pair of this number, if there is one
+-- The value of the pair of this number, if there is one.
 abbrev pub value_in : {S : Type 0} → StoreState ℕ ℕ S → ℕ → Option ℕ
 value_in s n = option_map (λ p. p.value) (pair_of s n)
 
--- what is printed of a replacement: the new value of an update, and else the old one
+-- The printed form of a replacement: the new value for an update, and the old one for any other
+-- call.
 abbrev pub replaced_by : {S : Type 0} → StoreState ℕ ℕ S → Bool → (old new : ℕ) → Option Printed
 replaced_by s true old new = option_map (λ v. printed.New v) (value_in s new)
 replaced_by s false old new = option_map (λ v. printed.Old v) (value_in s old)
 
--- what is printed of a reply, of an update or of another call, whose pairs are these
+-- The printed form of a reply of an update or of another call, with the entries of this store.
 abbrev pub printed_of : {S : Type 0} → StoreState ℕ ℕ S → Bool → Reply → Option Printed
 printed_of s is_update Absent = Some printed.Absent
 printed_of s is_update (Inserted n) = Some printed.Absent

@@ -1,4 +1,4 @@
--- What a script keeps of its lines.
+-- The record that a script keeps of its lines.
 use Rattle.std.specs.Prelude.{◌≡◌, ◌≢◌, ℕ, ◌+◌, List, [], ◌∷◌, ◌++◌, IsSome, Option, None, Some, ◌⊎◌}
 use Rattle.papaya_core_timeline.specs.declared.trace.Turn.{Turn}
 use Rattle.papaya_core_timeline.specs.declared.trace.Turn.TheVariants.{Begin, Step, Finish}
@@ -11,48 +11,48 @@ use Rattle.papaya_run_lines.specs.declared.script.LinePart.TheVariants as part
 use Rattle.papaya_run_lines.specs.declared.script.Script.{Script}
 use Rattle.papaya_run_lines.specs.Turns.{WritesTurn}
 
--- what the begin of a call is
+-- The kind of a line that begins this call.
 abbrev pub part_of : Call ℕ ℕ Answering → LinePart
 part_of (Compute k answers) = part.Update
 part_of Walk = part.Walk
 part_of _ = part.Call
 
--- the line of this number that asks for the turn
+-- The record of the line of this number, which requests the turn.
 abbrev pub line_of : ℕ → Turn ℕ ℕ Answering → Line
 line_of number (Begin c what) = record { number = number; caller = c; part = part_of what }
 line_of number (Step c refused) = record { number = number; caller = c; part = part.Step }
 line_of number (Finish c most) = record { number = number; caller = c; part = part.Finish }
 
--- no turn is what this line asks for
+-- The line requests no turn.
 abbrev pub AsksNone : List ℕ → Type 0
 AsksNone line = (turn : Turn ℕ ℕ Answering) → ¬ (WritesTurn line turn)
 
--- the line asks for the turn, which is the script's last
+-- The line requests the turn, which is now the script's last.
 abbrev pub AddsTurn : Script → ℕ → List ℕ → Script → Turn ℕ ℕ Answering → Type 0
 AddsTurn old number line new turn = WritesTurn line turn
     × (new.turns.items ≡ old.turns.items ++ turn ∷ [])
     × (new.lines.items ≡ old.lines.items ++ line_of number turn ∷ [])
     × (new.bad_line ≡ old.bad_line)
 
--- the line asks for no turn, and the script says so by its number
+-- The line requests no turn, and the script records its number.
 abbrev pub NotesBad : Script → ℕ → List ℕ → Script → Type 0
 NotesBad old number line new = AsksNone line
     × (new.turns.items ≡ old.turns.items) × (new.lines.items ≡ old.lines.items)
     × (new.bad_line ≡ Some number)
 
--- the script is added the line of this number, which is not empty
+-- The line of this number, which is not empty, is added to the script.
 abbrev pub AddsLine : Script → ℕ → List ℕ → Script → Type 0
 AddsLine old number line new = ((turn : Turn ℕ ℕ Answering) × AddsTurn old number line new turn)
     ⊎ NotesBad old number line new
 
--- the script is handed the line of this number: an empty one, and one behind a bad one, is
--- passed over
+-- The line of this number is passed to the script, which passes over an empty line and any line
+-- after a bad one.
 abbrev pub Adds : Script → ℕ → List ℕ → Script → Type 0
 Adds old number line new = ((IsSome old.bad_line ⊎ (line ≡ [])) × (new ≡ old))
     ⊎ ((old.bad_line ≡ None) × (line ≢ []) × AddsLine old number line new)
 
--- The script of these lines, of which the first has this number: the turns that they ask for, up
--- to the first line that is not empty and asks for none; the line of each turn; the number of that
+-- The script of these lines, the first of which has this number: the turns that they request, up to
+-- the first line that is not empty and requests none; the line of each turn; and the number of that
 -- bad line, if there is one.
 abbrev pub IsScript : List (List ℕ) → ℕ → List (Turn ℕ ℕ Answering) → List Line → Option ℕ → Type 0
 IsScript [] number turns rows bad = (turns ≡ []) × (rows ≡ []) × (bad ≡ None)

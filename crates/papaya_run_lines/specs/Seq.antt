@@ -1,4 +1,4 @@
--- What a command does to a map for one caller, and what is printed of it.
+-- The effect of a command on a map for one caller, and its output.
 use Rattle.std.specs.Prelude.{◌≡◌, ◌==◌, ℕ, List, Option, Result, Ok, Err, IsOk, MatchOption, [], length, map}
 use Rattle.papaya_words.specs.declared.refused.Refused.{Refused}
 use Rattle.papaya_core.specs.Content.{content}
@@ -17,24 +17,24 @@ use Rattle.papaya_run_lines.specs.declared.printed.Printed.{Printed}
 use Rattle.papaya_run_lines.specs.declared.printed.Printed.TheVariants as printed
 
 module _ {S : Type 0} where
-  -- the map has this value at the key, or has not the key
+  -- The map has this value for the key, or it does not have the key.
   abbrev pub HasAt : MapState ℕ ℕ S → ℕ → Option ℕ → Type 0
   HasAt s k found = MatchOption found (HasNone (λ a b. a == b) (λ key. k == key) s.store)
       (λ value. (p : Stored ℕ ℕ) × Holds (λ a b. a == b) (λ key. k == key) s.store p
       × (p.value ≡ value))
 
-  -- the keys of the map, each with its value
+  -- The entries of the map as pairs of a key and a value.
   abbrev pub pairs_of : MapState ℕ ℕ S → List (ℕ × ℕ)
   pairs_of s = map entry_of (content (λ a b. a == b) s.store)
 
-  -- a clear leaves no pair, or it is refused, with the map as it was
+  -- A clear leaves no entry; or it is refused, and the map is as it was.
   abbrev pub IsCleared : MapState ℕ ℕ S → Result (Unit {0}) Refused → MapState ℕ ℕ S → Type 0
   IsCleared s (Ok done) s' = content (λ a b. a == b) s'.store ≡ []
   IsCleared s (Err refused) s' = IsCopyCause s refused s'
       × Unchanged (λ a b. a == b) s.store s'.store
 
-  -- The command makes of the one map the other, and this is printed. A removal and a clear are
-  -- refused only while pairs are being moved to a next table.
+  -- The command takes the map from `s` to `s'`, and `text` is printed. A removal and a clear are
+  -- refused only while entries are being moved to a next table.
   abbrev pub Obeys : Command → MapState ℕ ℕ S → Printed → MapState ℕ ℕ S → Type 0
   Obeys (command.Insert k v) s text s' = (answer : Result (Option ℕ) Refused)
       × (text ≡ of_insertion answer) × IsInserted (λ a b. a == b) k v s answer s'
@@ -54,6 +54,6 @@ module _ {S : Type 0} where
   Obeys command.Walk s text s' = (pairs : List (ℕ × ℕ)) × (text ≡ printed.Walk pairs)
       × IsByKey (pairs_of s) pairs × (s' ≡ s)
 
-  -- the line writes a command, and this does what it asks for
+  -- The line denotes a command, which does this.
   abbrev pub ObeysLine : List ℕ → MapState ℕ ℕ S → Printed → MapState ℕ ℕ S → Type 0
   ObeysLine line s text s' = (what : Command) × WritesCommand line what × Obeys what s text s'

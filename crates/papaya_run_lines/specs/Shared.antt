@@ -1,6 +1,6 @@
--- What a command to a map that threads share prints, in a run that is one caller of it by a session:
--- the answer of a map that the history makes, between what the session had seen before the line and
--- what it has seen after it.
+-- The output of a command to a shared map, in a run that calls the map through one session. Its
+-- result is right for some history between what the session had observed before the line and what
+-- it has observed after it.
 use Rattle.std.specs.Prelude.{◌≡◌, ◌==◌, ℕ, List, [], Option, Result, IfOk, IfErr, is_ok, option_map, ◌⊎◌}
 use mathlib.Core.List.{IsPrefix}
 use Rattle.std.specs.Borrow.{Bor}
@@ -26,11 +26,11 @@ use Rattle.papaya_run_lines.specs.declared.commands.Command.TheVariants as comma
 use Rattle.papaya_run_lines.specs.declared.printed.Printed.{Printed}
 use Rattle.papaya_run_lines.specs.declared.printed.Printed.TheVariants as printed
 
--- the history of a map from numbers to numbers
+-- The history of a map from numbers to numbers.
 abbrev pub Seen : Type 0
 Seen = List (Change ℕ (Stored ℕ ℕ))
 
--- the shared map has no such command
+-- The shared map does not have this command.
 abbrev pub IsMissing : Command → Type 0
 IsMissing (command.Insert k v) = ⊥
 IsMissing (command.Get k) = ⊥
@@ -41,16 +41,17 @@ IsMissing command.Slots = Unit {0}
 IsMissing command.Clear = ⊥
 IsMissing command.Walk = ⊥
 
--- an update of the key k: its value is the number after the one that was there, or none was
+-- An update of the key `k`: its value is now the number after the one that was there, or the key
+-- had no entry.
 abbrev pub IsFollowed : ℕ → Seen → Seen → Option (Bor ℕ) → Type 0
 IsFollowed k old new = IsUpdated (λ a b. a == b) k old new (λ before after. after ≡ follower before)
 
--- the map had this key with this value in a history between the two
+-- In some history between the two, the map had this key with this value.
 abbrev pub Had : Seen → Seen → ℕ × ℕ → Type 0
 Had old new pair = (p : Stored ℕ ℕ) × ((key_of p, p.value.value) ≡ pair)
     × HadPair (λ a b. a == b) old new p
 
--- pairs that the map had are printed by rising key, or the walk was refused
+-- Entries that the map had are printed, ordered by key; or the iteration was refused.
 abbrev pub IsWalked : Seen → Seen → Printed → Type 0
 IsWalked old new (printed.Walk pairs) = IsNonDecreasingBy (λ pair. pair.0) pairs
     × All (Had old new) pairs
@@ -58,16 +59,16 @@ IsWalked old new (printed.Refused refused) = IsMemoryOrCapacity refused
 IsWalked old new _ = ⊥
 
 module _ {S : Type 0} where
-  -- a session that has seen no change, and made none
+  -- The session has observed no change, and made none.
   abbrev pub IsBegun : Known ℕ ℕ S → Type 0
   IsBegun s = (s.history ≡ []) × (s.made ≡ [])
 
-  -- what was seen before begins what is seen now, which is a legal history
+  -- The history that the session has observed extends the one before, and is legal.
   abbrev pub GoesOn : Known ℕ ℕ S → Known ℕ ℕ S → Type 0
   GoesOn s s' = IsPrefix s.history s'.history × IsLegalHistory (λ a b. a == b) key_of s'.history
 
-  -- The command was done, this is printed, and the session's own changes are those that the command
-  -- asks for. Of what was counted, a session says nothing.
+  -- The command was run and `text` is printed, and the session's own changes are those that the
+  -- command makes. Nothing is stated of the number that `len` prints.
   abbrev pub Obeys : Command → Known ℕ ℕ S → Printed → Known ℕ ℕ S → Type 0
   Obeys (command.Insert k v) s text s' = (answer : Result (Option (Bor ℕ)) Refused)
       × (text ≡ of_insertion (old_answered answer))
@@ -93,11 +94,11 @@ module _ {S : Type 0} where
       × HasDropped (λ a b. a == b) s.history s'.history s.made s'.made
   Obeys command.Walk s text s' = IsWalked s.history s'.history text × (s'.made ≡ s.made)
 
-  -- the line writes a command, this is printed of it, and the history goes on
+  -- The line denotes a command, `text` is printed for it, and the history goes on.
   abbrev pub ObeysLine : List ℕ → Known ℕ ℕ S → Printed → Known ℕ ℕ S → Type 0
   ObeysLine line s text s' = (what : Command) × WritesCommand line what × Obeys what s text s'
       × GoesOn s s'
 
--- the line writes no command, or one that the shared map has not
+-- The line denotes no command, or one that the shared map does not have.
 abbrev pub IsBad : List ℕ → Type 0
 IsBad line = WritesNone line ⊎ ((what : Command) × WritesCommand line what × IsMissing what)

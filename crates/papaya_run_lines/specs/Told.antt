@@ -1,4 +1,4 @@
--- What the lines of a script print of the trace of its run.
+-- The output of the lines of a script, by the trace of its run.
 use Rattle.std.specs.Prelude.{◌≡◌, ◌≢◌, ℕ, ◌+◌, ◌==◌, nat_lt, Bool, true, false, ◌||◌, not}
 use Rattle.std.specs.Prelude.{if◌then◌else◌, List, [], ◌∷◌, ◌++◌, filter_map, replicate, reverse}
 use Rattle.std.specs.Prelude.{set, get_or, Option, Some, None, option_map, ◌⊎◌, codes}
@@ -21,41 +21,42 @@ use Rattle.papaya_run_lines.specs.declared.script.Line.{Line}
 use Rattle.papaya_run_lines.specs.declared.script.LinePart.{LinePart}
 use Rattle.papaya_run_lines.specs.declared.script.LinePart.TheVariants as part
 
--- the entries at the front that are of this turn
+-- The entries of this turn at the front of the trace.
 abbrev pub own_of : ℕ → List Entry → List Entry
 own_of turn [] = []
 own_of turn (entry ∷ entries) = if entry.turn == turn then entry ∷ own_of turn entries else []
 
--- the entries behind those
+-- The entries after those of this turn at the front.
 abbrev pub behind : ℕ → List Entry → List Entry
 behind turn [] = []
 behind turn (entry ∷ entries) = if entry.turn == turn then behind turn entries else entry ∷ entries
 
--- the reply that an event is, and else another
+-- The reply that the event is, or `other` if it is none.
 abbrev pub reply_or : Option Reply → Event → Option Reply
 reply_or other (Replied reply) = Some reply
 reply_or other _ = other
 
--- the first reply among these entries
+-- The first reply among these entries.
 abbrev pub reply_among : List Entry → Option Reply
 reply_among [] = None
 reply_among (entry ∷ entries) = reply_or (reply_among entries) entry.event
 
--- the pairs that a call gave: this event's, if it gave one, after those before; none before
--- it began
+-- The pairs that a call returned, of which there are none when it begins: this event's, if it
+-- returns one, in front of those before.
 abbrev pub gave_by : List ℕ → Event → List ℕ
 gave_by before Begun = []
 gave_by before (Gave n) = n ∷ before
 gave_by before _ = before
 
--- the pairs that the caller's last call gave up to this turn, by these entries, the newest first
+-- The pairs that the caller's last call returned up to this turn, by these entries, the newest
+-- first.
 abbrev pub gave_to : (caller turn : ℕ) → List Entry → List ℕ
 gave_to caller turn [] = []
 gave_to caller turn (entry ∷ before) =
     if nat_lt turn entry.turn || not (entry.caller == caller) then gave_to caller turn before
     else gave_by (gave_to caller turn before) entry.event
 
--- does a line of this part begin a call?
+-- Whether a line of this part begins a call.
 abbrev pub begins_call : LinePart → Bool
 begins_call part.Update = true
 begins_call part.Walk = true
@@ -63,24 +64,24 @@ begins_call part.Call = true
 begins_call part.Step = false
 begins_call part.Finish = false
 
--- what each caller's last call is, after this line
+-- The kind of each caller's last call, after this line.
 abbrev pub with_call : List LinePart → Line → List LinePart
 with_call calls line =
     if begins_call line.part then set calls line.caller line.part else calls
 
--- what the last call of this line's caller is
+-- The kind of the last call of this line's caller.
 abbrev pub call_of : List LinePart → Line → LinePart
 call_of calls line = get_or (with_call calls line) line.caller line.part
 
--- before the first line no caller has begun a call
+-- The same before the first line, when no caller has begun a call.
 abbrev pub no_calls : List LinePart
 no_calls = replicate 64 part.Call
 
--- the writer failed, or there was no memory for the pairs of a walk
+-- The writer failed, or memory for the entries of an iteration ran out.
 abbrev pub IsPrintFailure : Failure → Type 0
 IsPrintFailure why = (why ≡ Output) ⊎ (why ≡ without_memory)
 
--- a line that is printed for a caller
+-- A line that is printed for a caller.
 abbrev pub told_text : ℕ → List ℕ → List ℕ
 told_text caller text = decimal caller ++ codes ": " ++ text ++ 10 ∷ []
 
@@ -88,33 +89,33 @@ abbrev pub reply_text : ℕ → Option Printed → List ℕ
 reply_text caller None = []
 reply_text caller (Some p) = told_text caller (text_of p)
 
--- what is printed where the turn gave no reply: a `finish` says that its call is still running
+-- The output if the turn gave no reply: for `finish`, that its call is still running.
 abbrev pub unended_text : ℕ → LinePart → List ℕ
 unended_text caller part.Finish = told_text caller (codes "running")
 unended_text caller _ = []
 
 module _ {S : Type 0} (store : StoreState ℕ ℕ S) where
-  -- the keys and the values of the pairs of these numbers
+  -- The keys and the values of the pairs with these numbers.
   abbrev pub pairs_in : List ℕ → List (ℕ × ℕ)
   pairs_in = filter_map (λ n. option_map (λ p. (p.key, p.value)) (pair_of store n))
 
-  -- what is printed of the reply of a call of this kind: of a walk that is done, all pairs that it
-  -- gave, by rising key
+  -- The printed form of the reply of a call of this kind: for an iteration that is done, all pairs
+  -- that it returned, ordered by key.
   abbrev pub Replies : LinePart → (given : List ℕ) → Reply → Option Printed → Type 0
   Replies part.Walk given Done text = (pairs : List (ℕ × ℕ)) × IsByKey (pairs_in given) pairs
       × (text ≡ Some (printed.Walk pairs))
   Replies part.Update given reply text = text ≡ printed_of store true reply
   Replies _ given reply text = text ≡ printed_of store false reply
 
-  -- what a line prints, by the reply of its turn
+  -- The output of a line, by the reply of its turn.
   abbrev pub IsTold : LinePart → Line → (given : List ℕ) → Option Reply → List ℕ → Type 0
   IsTold kind line given None text = text ≡ unended_text line.caller line.part
   IsTold kind line given (Some reply) text = (p : Option Printed)
       × Replies kind given reply p × (text ≡ reply_text line.caller p)
 
-  -- What the lines print one after the other, of which the first has this turn, and whose
-  -- entries these are. A turn that has no entry was passed over: then its line and those behind
-  -- it print nothing.
+  -- The output of these lines, one after the other. The first of them has this turn, and `entries`
+  -- are the rest of the trace from there. If a turn has no entry, it was passed over: its line and
+  -- all later lines print nothing.
   abbrev pub Tells : (trace : List Entry) → List LinePart → List Line → (turn : ℕ) → List Entry
       → List ℕ → (passed_over : Option ℕ) → Type 0
   Tells trace calls [] turn entries text passed = (text ≡ []) × (passed ≡ None)

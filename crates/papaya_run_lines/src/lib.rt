@@ -1,4 +1,4 @@
-//! The program `papaya-run` over any reader and writers: its lines, and the maps that it runs.
+//! The library of `papaya-run`: it reads lines from any reader, and runs them on a map.
 //! It uses `papaya_core`, `papaya_seq`, `papaya_map` and `papaya_run_shell`.
 //! `papaya_run` is the program, and `papaya_run_tests` tests it.
 #![tactic(auto)]

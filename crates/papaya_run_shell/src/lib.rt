@@ -1,6 +1,6 @@
-//! The common part of the programs: their failures, their arguments, and readers for their tests.
+//! The common part of the programs: failures, arguments, and readers for their tests.
 //! It uses `papaya_words`.
-//! All programs build on it.
+//! All programs but `shop` build on it.
 #![tactic(auto)]
 
 pub mod failure;

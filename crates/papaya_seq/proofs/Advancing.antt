@@ -1,4 +1,5 @@
--- A chunk that was copied, and those behind it that are: where a loop over them leads the machine of a copy.
+-- A chunk that was copied, and the chunks after it that are copied already: the state to which a
+-- loop over them brings the machine of a copy.
 use Rattle.std.proofs.Common.{◌≡◌, ℕ, ◌+◌, ◌-◌, ◌<◌, ◌==◌, nat_lt, nat_le, Bool, true, false, cond, not, ◌&&◌, if◌then◌else◌}
 use Rattle.std.proofs.Common.{◌∷◌, [], refl, sym, ap, ltb-true, arith}
 use Rattle.std.specs.Prelude.{MatchBool}

@@ -1,4 +1,4 @@
--- What a call that was made alone leaves of a map for one caller.
+-- The map for one caller that a call leaves which is made alone.
 use Rattle.std.proofs.Common.{◌≡◌, ℕ, Bool, true, List, None}
 use Rattle.std.specs.Cmp.{IsEquivalence}
 use Rattle.papaya_call.specs.declared.call.Call.{Call}

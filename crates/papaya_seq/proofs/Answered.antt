@@ -1,4 +1,4 @@
--- What the reply of an insertion says of the map, in terms of its pairs.
+-- What the reply of an insertion says about the map, in terms of its pairs.
 use Rattle.std.proofs.Common.{◌≡◌, ⊎_elim, ℕ, Bool, true, false, cond, List, [], ◌∷◌, Option, Some}
 use Rattle.std.proofs.Common.{None, Result, Ok, Err, inl, inr, refl, sym, ◌∙◌, ap, subst, IfErr}
 use Rattle.std.proofs.lemmas.Bool.{cases_Bool}

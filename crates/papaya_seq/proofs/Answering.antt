@@ -1,4 +1,5 @@
--- What a store answers, whatever a closure's answers are: a call is made with answers of some type, and proved with those of another.
+-- What a store answers does not depend on the answers of closures: a call is made with answers of
+-- one type, and proved with answers of another.
 use Rattle.std.proofs.Common.{◌≡◌, ℕ, Bool, true, false, Option, None, Some, inl, inr, refl, sym, ◌∙◌, ap}
 use Rattle.papaya_call.specs.Answers.{Says}
 use Rattle.papaya_call.specs.declared.ask.Ask.{Ask as Call_ask}

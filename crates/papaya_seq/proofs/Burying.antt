@@ -1,4 +1,4 @@
--- A removal that is made at once is one that its machine made.
+-- A removal on the fast path is a run of its machine.
 use Rattle.std.proofs.Common.{◌≡◌, ℕ, ◌==◌, Bool, true, false, MatchBool, Option, List, [], ◌∷◌, ◌++◌, refl, sym, ap, subst, eq-eqb}
 use Rattle.std.specs.Prelude.{negsuc}
 use denote.Ref.{Bor}

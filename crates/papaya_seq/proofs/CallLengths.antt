@@ -1,4 +1,4 @@
--- How long the tables are that a call on a key makes of a map for one caller.
+-- The lengths of the tables that a call on a key makes in a map for one caller.
 use Rattle.std.proofs.Common.{◌≡◌, ◌⊎◌, inl, inr, ⊎_elim, ℕ, zero, suc, ◌<◌, ◌≤◌, Bool, false, List}
 use Rattle.std.proofs.Common.{[], ◌∷◌, ◌++◌, length, map, max, slice_get, Option, None, Some, refl}
 use Rattle.std.proofs.Common.{sym, ◌∙◌, ap, subst, arith}

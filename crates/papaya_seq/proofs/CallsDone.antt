@@ -1,4 +1,4 @@
--- What lookups and removals by an owned key do, as calls do it.
+-- The effect of lookups and removals by an owned key, as calls have it.
 use Rattle.std.proofs.Common.{◌≡◌, ⊎_elim, inl, inr, ℕ, zero, suc, Bool, true, false, List, [], ◌∷◌}
 use Rattle.std.proofs.Common.{◌++◌, Option, Some, None, Result, Ok, Err, MatchResult, OnOk, IfErr}
 use Rattle.std.proofs.Common.{refl, sym, ◌∙◌, ap, subst, arith}

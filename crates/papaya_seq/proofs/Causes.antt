@@ -1,4 +1,5 @@
--- Why a call of a map for one caller is refused: a log was full, or there is no next table, or memory was short; or its closure would remove a pair where there is none.
+-- Why a call of a map for one caller is refused: the arena was full, no further table can be made,
+-- memory ran out, or its closure would remove an absent entry.
 use Rattle.std.proofs.Common.{◌≡◌, ◌⊎◌, inl, inr, ℕ, ◌^◌, ◌<◌, ◌≤◌, ◌==◌, Bool, false, Option, None, Some, length, refl, sym, ◌∙◌, ap, subst, arith}
 use Rattle.papaya_words.specs.Counter.{count_of}
 use Rattle.papaya_words.specs.Table.{TableWords, length_after}

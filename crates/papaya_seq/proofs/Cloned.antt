@@ -1,4 +1,4 @@
--- Clones of pairs of different keys, put in one after the other.
+-- Clones of pairs with different keys, inserted one after the other.
 use Rattle.std.proofs.Common.{◌≡◌, ⊎_elim, Bool, true, false, List, [], ◌∷◌, ◌++◌, map, Option}
 use Rattle.std.proofs.Common.{Some, None, Ok, Err, MatchOption, option_map, refl, sym, ap, ◌∙◌}
 use Rattle.std.proofs.Common.{subst, arith, ◌+◌, ◌≤◌, length}

@@ -1,4 +1,4 @@
--- A compute of a map for one caller, over the answer of its closure.
+-- A compute of a map for one caller, over the call of its closure.
 use Rattle.std.proofs.Common.{◌≡◌, inl, inr, ⊎_elim, ℕ, ◌^◌, ◌<◌, Bool, true, false, Option, None, Some, List, option_map, refl, sym, ◌∙◌, ap, subst}
 use Rattle.std.specs.Prelude.{MatchOption}
 use denote.Ref.{Bor}

@@ -1,4 +1,4 @@
--- A compute of a list of calls.
+-- A compute in a list of calls.
 use Rattle.std.proofs.Common.{◌≡◌, ℕ, Bool, Option, None, Some, Result, Ok, Err, option_map, ⊎_elim, inl, inr, refl, sym, ◌∙◌, ap, subst}
 use denote.Ref.{Bor}
 use Rattle.std.specs.Cmp.{IsEquivalence}

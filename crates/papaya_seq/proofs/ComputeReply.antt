@@ -1,4 +1,4 @@
--- What a compute replied is what it did to the finite map.
+-- A compute that has replied did to the finite map what its reply says.
 use Rattle.std.proofs.Common.{◌≡◌, inl, inr, ⊎_elim, IfOk, option_map, ℕ, Bool, Option, None, Some, Result, Ok, Err, refl, sym, ◌∙◌, ap, subst}
 use denote.Ref.{Bor}
 use Rattle.std.specs.Cmp.{IsEquivalence}

@@ -1,4 +1,5 @@
--- What the closure of a compute is shown is what the map holds: the same call could go on otherwise, to a removal, which says so.
+-- The closure of a compute is called with what the map holds: the same call could also go on with a
+-- removal, whose reply would say so.
 use Rattle.std.proofs.Common.{◌≡◌, ℕ, ◌^◌, ◌<◌, negsuc, Bool, true, Option, None, Some, List, inr, refl, ◌∙◌, ap, subst}
 use Rattle.std.specs.Cmp.{IsEquivalence}
 use Rattle.papaya_words.specs.Counter.{added}

@@ -1,4 +1,5 @@
--- Where a compute is: in the root, while its closure was not called and no pairs are being moved; or at the place of the pair that its closure was shown.
+-- Where a compute is: in the root, while its closure was not called and no pairs are being moved;
+-- or at the place of the pair with which its closure was called.
 use Rattle.std.proofs.Common.{◌≡◌, inl, inr, ℕ, ◌<◌, ◌==◌, Bool, false, Option, None, Some, refl, sym, ◌∙◌, ap, subst, arith}
 use Rattle.std.proofs.lemmas.Bool.{cond_both, eqb-true}
 use Rattle.papaya_words.specs.Table.{TableWords}

@@ -1,4 +1,4 @@
--- A compute that is made at once: what it logs and writes are answers of its machine.
+-- A compute on the fast path: what it stores and writes are answers to the asks of its machine.
 use Rattle.std.proofs.Common.{◌≡◌, ◌≢◌, ℕ, ◌<◌, ◌==◌, slice_get, Bool, true, false, cond, List, []}
 use Rattle.std.proofs.Common.{◌∷◌, Option, None, Some, IsSome, Result, Ok, Err, option_map, length}
 use Rattle.std.proofs.Common.{inl, inr, refl, sym, ◌∙◌, ap, subst}

@@ -1,4 +1,4 @@
--- What a compute says of the map, by what it answers.
+-- What a compute did to the map, by its result.
 use Rattle.std.proofs.Common.{◌≡◌, ◌⊎◌, inl, inr, ℕ, Bool, Option, Some, None, Result, Ok, Err, refl, sym, ◌∙◌, ap, subst}
 use denote.Ref.{Bor}
 use Rattle.std.specs.Cmp.{IsEquivalence}

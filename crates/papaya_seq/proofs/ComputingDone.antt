@@ -1,4 +1,5 @@
--- What a compute leaves that has replied, and that one that was made at once is one that its machine made.
+-- What a compute that has replied leaves, and that a compute on the fast path is a run of its
+-- machine.
 use Rattle.std.proofs.Common.{◌≡◌, ℕ, ◌^◌, ◌<◌, Bool, true, List, [], ◌∷◌, Option, None, Some, Result, IfOk, option_map, refl, sym, ◌∙◌, ap, subst}
 use Rattle.std.specs.Prelude.{MatchOption}
 use denote.Ref.{Bor}

@@ -1,4 +1,4 @@
--- A copy by a loop: its turns lead the machine of a copy on.
+-- A copy by a loop: its turns bring the machine of a copy on.
 use Rattle.std.proofs.Common.{le-ltb, lt-ltb, ◌≡◌, ℕ, zero, suc, ◌+◌, ◌^◌, ◌<◌, ◌≤◌, ◌==◌, nat_lt, Bool, true}
 use Rattle.std.proofs.Common.{false, cond, List, [], ◌∷◌, ◌++◌, Option, Some, refl, sym, ◌∙◌, ap}
 use Rattle.std.proofs.Common.{subst}

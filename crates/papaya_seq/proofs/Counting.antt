@@ -1,4 +1,4 @@
--- The count of a map that no call is under way in.
+-- The count of a map in which no call is under way.
 use Rattle.std.proofs.Common.{◌≡◌, ℕ, ◌<◌, ◌^◌, Bool, ℤ, pos, ◌+ℤ◌, ◌-ℤ◌, to_z, of_z, List, [], ◌∷◌, length, FitsSigned, refl, sym, ◌∙◌, ap, subst, arith}
 use Rattle.std.proofs.lemmas.Int.{fits_signed_from_abs, ints, int_wrap_fits, to_z-of_z, to_z_pos}
 use Rattle.std.specs.Int.{w64, int_wrap}

@@ -1,4 +1,4 @@
--- What a map for one caller answered, beside the core's call that was made alone.
+-- The result of a call of a map for one caller, beside the core's call that was made alone.
 use Rattle.std.proofs.Common.{◌≡◌, ℕ, Bool, Result, Ok, Err, MatchResult, sym, ◌∙◌, ap}
 use Rattle.papaya_words.specs.declared.refused.Refused.{Refused}
 use Rattle.papaya_call.specs.declared.call.Call.{Call}

@@ -1,4 +1,5 @@
--- A call that is never set aside: its machine over a chain goes on as the call itself does.
+-- A call that is never set aside: its machine over a chain goes through the states of the call
+-- itself.
 use Rattle.std.proofs.Common.{◌≡◌, ℕ, ◌==◌, ◌⊎◌, false, cond, Option, inl, inr, refl, ◌∙◌, ap}
 use Rattle.papaya_call.specs.declared.ask.Ask.{Ask}
 use Rattle.papaya_call.specs.declared.ask.Answer.{Answer}

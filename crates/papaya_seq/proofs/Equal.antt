@@ -1,4 +1,4 @@
--- One look-up for each pair decides whether two maps of one length are equal.
+-- One lookup for each pair decides whether two maps of the same length are equal.
 use Rattle.std.proofs.Common.{◌≡◌, ⊎_elim, suc, ◌≤◌, Bool, true, false, cond, List, [], ◌∷◌, ◌++◌}
 use Rattle.std.proofs.Common.{map, length, Option, Some, None, MatchOption, refl, sym, ap, ◌∙◌}
 use Rattle.std.proofs.Common.{subst, arith}

@@ -1,4 +1,4 @@
--- An exchange of the word that stands there.
+-- An exchange whose old word is there.
 use Rattle.std.proofs.Common.{◌≡◌, ℕ, ◌==◌, true, MatchBool, refl, sym, subst, eq-eqb}
 use Rattle.papaya_call.specs.declared.ask.Answer.{Answer}
 use Rattle.papaya_call.specs.declared.ask.Answer.TheVariants.{Exchanged, Found as Found_instead}

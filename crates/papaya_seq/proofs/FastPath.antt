@@ -1,4 +1,4 @@
--- An insertion that is made at once: what it logs and writes are answers of its machine.
+-- An insertion on the fast path: what it stores and writes are answers to the asks of its machine.
 use Rattle.std.proofs.Common.{◌≡◌, ℕ, ◌<◌, ◌==◌, slice_get, Bool, true, false}
 use Rattle.std.proofs.Common.{cond, List, [], ◌∷◌, ◌++◌, Option, None, Some, option_map}
 use Rattle.std.proofs.Common.{length, inl, inr, refl, sym, ◌∙◌, ap, subst}

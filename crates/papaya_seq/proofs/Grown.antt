@@ -1,4 +1,5 @@
--- What an answered ask leaves of the arena of pairs and of the shards of the count: an insertion logs one pair at most.
+-- What an answered ask leaves of the arena of pairs and of the shards of the count: an insertion
+-- stores at most one pair.
 use Rattle.std.proofs.Common.{◌≡◌, inl, inr, ℕ, ◌+◌, ◌≤◌, ◌==◌, length, ◌∙◌, ap, arith, Bool}
 use Rattle.std.proofs.lemmas.List.{length_push}
 use Rattle.papaya_call.specs.declared.ask.Answer.{Answer as Call_answer}

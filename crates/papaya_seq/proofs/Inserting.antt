@@ -1,4 +1,4 @@
--- Where the machine of an insertion goes from the root, and from its write.
+-- The states to which the machine of an insertion goes from the root, and from its write.
 use Rattle.std.proofs.Common.{◌≡◌, ℕ, ◌==◌, Bool, true, false, Option, None, Some, refl, sym, subst}
 use Rattle.std.proofs.lemmas.Bool.{cond_both}
 use Rattle.papaya_words.specs.Word.{kind_of, pair_of}

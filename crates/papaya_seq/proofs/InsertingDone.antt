@@ -1,4 +1,4 @@
--- An insertion that was made at once is one that its machine made.
+-- An insertion on the fast path is a run of its machine.
 use Rattle.std.proofs.Common.{◌≡◌, ℕ, ◌^◌, ◌<◌, Bool, true, false, List, [], ◌∷◌, Option, None, Some, refl, sym, ◌∙◌, ap, subst}
 use Rattle.std.specs.Cmp.{IsEquivalence}
 use Rattle.papaya_words.specs.declared.refused.Refused.{Refused}

@@ -1,4 +1,4 @@
--- What an answer leaves an insertion of a map for one caller.
+-- An insertion of a map for one caller, over one answer.
 use Rattle.std.proofs.Common.{◌≡◌, ◌⊎◌, inl, inr, ℕ, Bool, false, Some, refl, sym, ◌∙◌, ap, subst}
 use Rattle.papaya_call.specs.declared.ask.Answer.{Answer as Call_answer}
 use Rattle.papaya_call.specs.declared.ask.Answer.TheVariants.{Exchanged, Found as Found_instead}

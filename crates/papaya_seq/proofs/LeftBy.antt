@@ -1,4 +1,5 @@
--- Calls that leave the map where they are refused: those on a key, and those that resize the map.
+-- Calls that leave the map as it was if they are refused: those on a key, and those that resize the
+-- map.
 use Rattle.std.proofs.Common.{◌≡◌, ℕ, None, Some, refl, sym, ◌∙◌, ap}
 use Rattle.papaya_core_store.specs.declared.store.Mode.{Mode}
 use Rattle.papaya_call.specs.declared.call.Call.{Call}

@@ -1,4 +1,4 @@
--- A map with a limit: how many numbers were taken for pairs.
+-- A map with a pair limit: how many numbers were taken for pairs.
 use Rattle.std.proofs.Common.{◌≡◌, ℕ, ◌<◌, ◌≤◌, Bool, List, [], ◌∷◌, Some, MatchOption, subst, arith}
 use Rattle.papaya_call.specs.declared.ask.At.TheVariants.{Made as Made_word}
 use Rattle.papaya_words_law.specs.Allows.{AllAllowed, Allows}

@@ -1,4 +1,4 @@
--- Where the making of a table stands after an answer: it begins there, or the answer led it there.
+-- The making of a table after an answer: it begins with this answer, or it was under way before it.
 use Rattle.std.proofs.Common.{◌≡◌, ◌⊎◌, inl, inr, ℕ, Option, None, Some, refl, sym, ap, subst}
 use Rattle.papaya_words.specs.declared.refused.Refused.{Refused}
 use Rattle.papaya_words.specs.declared.resize_mode.ResizeMode.{ResizeMode}

@@ -1,4 +1,5 @@
--- By what lengths the making of a table goes: by that of the table which it is to follow, and it makes one that may be so long.
+-- The lengths by which the making of a table goes: that of the table which it is to follow, and one
+-- that the new table may have.
 use Rattle.std.proofs.Common.{◌≡◌, inl, inr, ℕ, ◌==◌, ◌≤◌, ◌^◌, nat_le, Bool, cond, Option, None, Some, List, ◌*◌, ◌/◌, ◌||◌, max, refl, ap, ◌∙◌, subst, arith}
 use Rattle.std.proofs.lemmas.Bool.{cond_both}
 use Rattle.std.specs.List.{Contains}

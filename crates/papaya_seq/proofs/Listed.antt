@@ -1,4 +1,4 @@
--- The numbers that a walk lists, from pair to pair.
+-- The numbers that an iteration lists, from pair to pair.
 use Rattle.std.proofs.Common.{◌≡◌, ℕ, ◌<◌, Bool, List, [], ◌∷◌, ◌++◌, length, map, None, Some, sym, ◌∙◌, ap, arith}
 use Rattle.std.proofs.lemmas.List.{append-nil, append_assoc}
 use Rattle.papaya_core_store.specs.Store.{StoreState, Stored}

@@ -1,4 +1,5 @@
--- When a call alone logs a pair, and takes a number for it: it logs one for what it writes.
+-- When a call alone stores a pair in the arena, and takes a number for it: it stores one for what
+-- it writes.
 use Rattle.std.proofs.Common.{◌≡◌, ◌⊎◌, inl, inr, ℕ, ◌==◌, ◌&&◌, nat_lt, Bool, true, false, cond, Option, None, Some, refl, sym, ◌∙◌, ap, subst, eq-eqb}
 use Rattle.std.proofs.lemmas.Bool.{cond_both}
 use Rattle.papaya_words.specs.Word.{pair_of}

@@ -1,4 +1,4 @@
--- What a lookup replies is what the map has.
+-- A lookup replies what the map has.
 use Rattle.std.proofs.Common.{◌≡◌, ⊎_elim, ℕ, ◌<◌, ◌^◌, Bool, true, List, [], ◌∷◌, Option, Some, None, option_map, refl, sym, ◌∙◌, ap, subst}
 use Rattle.std.specs.Int.{IsPowerOfTwo}
 use Rattle.std.specs.Cmp.{IsEquivalence}

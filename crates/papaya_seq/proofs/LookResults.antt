@@ -1,4 +1,4 @@
--- What is answered of the pair that a lookup found.
+-- The result of a lookup, by the pair that it found.
 use Rattle.std.proofs.Common.{◌≡◌, ℕ, Bool, Option, Some, None, is_some, option_map, MatchBool, MatchOption, refl, sym, ◌∙◌, ap, subst}
 use denote.Ref.{Bor}
 use Rattle.std.specs.Cmp.{IsEquivalence}

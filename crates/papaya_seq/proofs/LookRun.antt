@@ -1,4 +1,4 @@
--- A lookup whose asks are answered by what stands in the tables is the whole of one call of the core.
+-- A lookup whose asks are answered by what is in the tables is one whole call of the core.
 use Rattle.std.proofs.Common.{◌≡◌, ℕ, suc, ◌<◌, ◌^◌, Bool, false, List, [], ◌∷◌, Option, Some, None, inl, refl, sym, ◌∙◌, ap, subst}
 use Rattle.std.specs.Int.{IsPowerOfTwo}
 use Rattle.papaya_words.specs.declared.refused.Refused.{Refused}

@@ -1,4 +1,4 @@
--- The machine of a lookup, whose asks are answered by the words that stand in the tables.
+-- The machine of a lookup whose asks are answered by the words of the tables.
 use Rattle.std.proofs.Common.{◌≡◌, ℕ, ◌+◌, ◌*◌, ◌-◌, ◌^◌, ◌<◌, ◌≤◌, ◌==◌, nat_lt, Bool, true, false}
 use Rattle.std.proofs.Common.{List, [], ◌∷◌, Option, Some, None, length, refl, sym, ◌∙◌, ap, subst}
 use Rattle.std.proofs.Common.{arith, eq-eqb}

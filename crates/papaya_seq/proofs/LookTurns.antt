@@ -1,4 +1,5 @@
--- A lookup as a loop over tables: where each turn leads its machine, that nothing runs.
+-- A lookup as a loop over tables: the state to which each turn would bring its machine, which is
+-- never run.
 use Rattle.std.proofs.Common.{◌≡◌, ℕ, ◌<◌, ◌≤◌, ◌==◌, if◌then◌else◌, Bool, List, [], ◌∷◌, Option}
 use Rattle.std.proofs.Common.{Some, None, length, inl, inr, refl, sym, ◌∙◌, ap, subst, arith}
 use Rattle.std.proofs.lemmas.Bool.{cases_eq, ne_eqb}

@@ -1,4 +1,5 @@
--- What an answer leaves of what a call has made: what holds of each way in which that changes, holds after it.
+-- What a call has made, after an answer: a fact that holds after each way in which that changes
+-- holds after every answer.
 use Rattle.std.proofs.Common.{ℕ, Option, None, Some}
 use Rattle.papaya_call.specs.declared.ask.Answer.{Answer as Call_answer}
 use Rattle.papaya_call.specs.declared.ask.Answer.TheVariants.{Word as Word_read, Exchanged}

@@ -1,4 +1,5 @@
--- Where a call of a map for one caller finds no room for its key in the root table, or an empty place, its key is absent while no pairs are being moved.
+-- If a call of a map for one caller finds no place for its key in the root, or an empty place, its
+-- key is absent while no pairs are being moved.
 use Rattle.std.proofs.Common.{◌≡◌, inl, inr, ℕ, Bool, false, None, Option, Some, List, ◌++◌, sym, ◌∙◌, ap, subst, refl, arith}
 use Rattle.std.proofs.lemmas.Bool.{cases_Bool}
 use Rattle.papaya_words.specs.Table.{TableWords}

@@ -1,4 +1,5 @@
--- Where a map has a limit, a number was taken for each pair of its log: a call takes one before it logs a pair.
+-- In a map with a pair limit, a number was taken for each pair of the arena: a call takes one
+-- before it stores a pair.
 use Rattle.std.proofs.Common.{◌≡◌, ◌⊎◌, inl, inr, ℕ, ◌+◌, ◌<◌, ◌≤◌, ◌==◌, Bool, true, false, cond}
 use Rattle.std.proofs.Common.{[], ◌∷◌, length, Option, Some, None, slice_get, refl, sym, ◌∙◌, ap}
 use Rattle.std.proofs.Common.{subst, arith, length-append}

@@ -1,4 +1,5 @@
--- A map that has no limit gets one, with some numbers taken. The exchanges that led to its words lead there without the numbers that they took, and then each number is taken in turn.
+-- A map without a pair limit gets one, with some numbers taken. The exchanges that led to its words
+-- also lead there without those that took numbers, and then each number is taken in turn.
 use Rattle.std.proofs.Common.{◌≡◌, inl, inr, ℕ, zero, suc, ◌+◌, ◌<◌, ◌≤◌, Bool, List, [], ◌∷◌, ◌++◌}
 use Rattle.std.proofs.Common.{length, MatchOption, Option, None, Some, pos, refl, sym, ◌∙◌, ap}
 use Rattle.std.proofs.Common.{subst, arith}

@@ -1,4 +1,4 @@
--- A pair that is logged for one place, and written there.
+-- A pair that is stored in the arena for one place, and written there.
 use Rattle.std.proofs.Common.{◌≡◌, ℕ, ◌<◌, ◌==◌, slice_get, Bool, true, false}
 use Rattle.std.proofs.Common.{[], ◌∷◌, ◌++◌, None, Some, length, refl, ◌∙◌}
 use Rattle.std.proofs.Common.{ap, subst, eq-eqb}

@@ -1,4 +1,4 @@
--- Entries that were put into a map one after the other, one entry on.
+-- Entries that are inserted into a map one after the other, after one more entry.
 use Rattle.std.proofs.Common.{◌≡◌, ℕ, ◌≤◌, Bool, List, [], ◌∷◌, ◌++◌, Result, Ok, Err, OnOk, map, inl, inr, refl, sym, ap, subst}
 use Rattle.std.specs.List.{AllZip}
 use Rattle.papaya_words.specs.declared.refused.Refused.{Refused}

@@ -1,4 +1,4 @@
--- A map of clones: what it has, its parts, and why there is none.
+-- A map of clones: its pairs, its parts, and why it could not be made.
 use Rattle.std.proofs.Common.{◌≡◌, ◌⊎◌, inl, inr, ⊎_elim, ℕ, zero, suc, ◌+◌, ◌*◌, ◌<◌, ◌≤◌, ◌^◌}
 use Rattle.std.proofs.Common.{Bool, true, false, cond, List, [], ◌∷◌, map, length, MatchOption}
 use Rattle.std.proofs.Common.{Option, None, Some, refl, sym, ap, ◌∙◌, subst, arith}

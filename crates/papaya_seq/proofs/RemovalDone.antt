@@ -1,4 +1,4 @@
--- What a removal leaves that has replied.
+-- What a removal that has replied leaves.
 use Rattle.std.proofs.Common.{◌≡◌, ⊎_elim, ◌⊎◌, inl, inr, ℕ, Bool, true, List, ◌∙◌, ap, refl}
 use Rattle.std.proofs.lemmas.Bool.{cases_eq}
 use denote.Ref.{Bor}

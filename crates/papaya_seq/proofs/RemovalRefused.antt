@@ -1,4 +1,4 @@
--- Why a removal is refused: there is no next table, or memory was short.
+-- Why a removal is refused: no further table can be made, or memory ran out.
 use Rattle.std.proofs.Common.{◌≡◌, ⊎_elim, inl, inr, ℕ, ◌^◌, ◌<◌, ◌-◌, ◌==◌, Bool, true, false, cond, Option, None, Some, slice_get, refl, sym, ◌∙◌, ap, subst}
 use denote.Ref.{Bor}
 use Rattle.std.specs.Fn.{Mut}

@@ -1,4 +1,4 @@
--- What a removal replied is what it did to the finite map.
+-- A removal that has replied did to the finite map what its reply says.
 use Rattle.std.proofs.Common.{◌≡◌, ⊎_elim, ◌⊎◌, ℕ, Bool, true, false, Option, Some, None, refl, sym, ◌∙◌, ap, subst}
 use denote.Ref.{Bor}
 use Rattle.std.proofs.lemmas.Bool.{cases_Bool}

@@ -1,4 +1,5 @@
--- A removal in a map of which no pairs are being moved: it stays in the root table, which keeps its slots and has no next one, and is not refused.
+-- A removal while no pairs are being moved: it stays in the root, which keeps its slots and has no
+-- next table, and it is not refused.
 use Rattle.std.proofs.Common.{◌≡◌, ⊎_elim, ◌≢◌, ℕ, ◌==◌, ◌-◌, nat_lt, slice_get, slice_set, length}
 use Rattle.std.proofs.Common.{length-set, Bool, true, false, cond, Option, Some, None, refl, sym}
 use Rattle.std.proofs.Common.{◌∙◌, ap, subst}

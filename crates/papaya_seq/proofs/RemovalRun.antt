@@ -1,4 +1,5 @@
--- A removal by what matches a logged pair: it is the removal by that pair's key, made alone.
+-- A removal by a query that matches a pair of the arena is the removal by that pair's key, made
+-- alone.
 use Rattle.std.proofs.Common.{Some, ◌≡◌, ℕ, ◌^◌, ◌<◌, Bool, false, None, refl, sym, ap, subst}
 use denote.Ref.{Bor}
 use Rattle.std.specs.Fn.{Mut}

@@ -1,4 +1,5 @@
--- The closure of a removal, over one step: it is as it was handed in, or it was called once and is not called again.
+-- The closure of a removal, over one step: it is as it was passed in, or it was called once and is
+-- not called again.
 use Rattle.std.proofs.Common.{◌≡◌, inl, inr, ℕ, ◌==◌, Bool, true, false, Option, Some, None, refl, sym, ◌∙◌, ap, subst}
 use denote.Ref.{Bor}
 use Rattle.std.specs.Fn.{Called, Mut}

@@ -1,4 +1,5 @@
--- A removal under way: a logged pair matches, and it is the removal by that pair's key, or none matches, and it finds nothing.
+-- A removal under way: if a pair of the arena matches, it is the removal by that pair's key; if
+-- none does, it finds nothing.
 use Rattle.std.proofs.Common.{Some, ◌≡◌, ⊎_elim, ◌⊎◌, inl, inr, ℕ, ◌^◌, ◌<◌, Bool, true, None, [], refl, sym, ◌∙◌, subst}
 use denote.Ref.{Bor}
 use Rattle.std.specs.Fn.{Mut}

@@ -1,4 +1,4 @@
--- What the reply of a removal says of the pair that is shown for it.
+-- What the reply of a removal says about the pair that the call returns for it.
 use Rattle.std.proofs.Common.{◌≡◌, ℕ, Bool, true, false, Option, Some, None, Result, Ok, Err, MatchOption, Bor, sym, ◌∙◌, ap, refl, subst, option_map}
 use Rattle.papaya_words.specs.declared.refused.Refused.{Refused}
 use Rattle.papaya_call.specs.declared.call.Reply.TheVariants as replies

@@ -1,4 +1,5 @@
--- A removal whose asks are answered by a store and by a closure, and the same as a call with an owned key.
+-- A removal whose asks are answered by a store and by a closure, and the same removal as a call
+-- with an owned key.
 use Rattle.std.proofs.Common.{◌≡◌, inl, inr, ℕ, Bool, false, Option, Some, None, refl, sym, ◌∙◌, ap, subst, slice_get}
 use denote.Ref.{Bor}
 use Rattle.std.specs.Fn.{Mut}

@@ -1,4 +1,4 @@
--- Why a call that resizes the map is refused, and where it leaves all words as they are.
+-- Why a call that resizes the map is refused, and when it leaves all words as they are.
 use Rattle.std.proofs.Common.{◌≡◌, inl, inr, ℕ, zero, suc, ◌+◌, ◌*◌, ◌^◌, ◌==◌, ◌<◌, ◌≤◌, nat_le, max, Bool, false}
 use Rattle.std.proofs.Common.{[], length, Option, None, Some, refl, sym, ◌∙◌, ap, subst, arith}
 use Rattle.std.proofs.Common.{eqb-true, leb-false}

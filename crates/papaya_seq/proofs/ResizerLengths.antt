@@ -1,4 +1,5 @@
--- How long the tables are that a call makes which resizes a map for one caller: none is shorter than the initial capacity.
+-- The lengths of the tables that are made by a call that resizes a map for one caller: none is
+-- shorter than the initial capacity.
 use Rattle.std.proofs.Common.{◌≡◌, inl, inr, ⊎_elim, ℕ, ◌+◌, ◌==◌, ◌<◌, ◌≤◌, ◌^◌, nat_le, Bool}
 use Rattle.std.proofs.Common.{false, List, [], ◌∷◌, max, Option, None, Some, option_map, refl, sym}
 use Rattle.std.proofs.Common.{◌∙◌, ap, subst, arith}

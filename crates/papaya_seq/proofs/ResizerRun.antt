@@ -1,4 +1,4 @@
--- A call of a map for one caller that resizes it, from its begin to its reply.
+-- A call that resizes a map for one caller, from its begin to its reply.
 use Rattle.std.proofs.Common.{◌≡◌, ◌⊎◌, inl, inr, ⊎_elim, ℕ, ◌+◌, ◌^◌, ◌<◌, ◌≤◌, Bool, true, false}
 use Rattle.std.proofs.Common.{FitsSigned, List, [], length, Option, None, Some, Result, Ok, Err, refl, sym, ◌∙◌, ap, subst}
 use Rattle.std.proofs.Common.{arith}

@@ -1,4 +1,5 @@
--- By how many slots a resizer counts a next table: by those of the table that it is to follow.
+-- The length from which a resizer computes that of a next table: that of the table which it is to
+-- follow.
 use Rattle.std.proofs.Common.{◌≡◌, ℕ, ◌+◌, ◌==◌, nat_le, Bool, Option, None, Some, ap, subst}
 use Rattle.std.proofs.lemmas.Bool.{cond_both}
 use Rattle.papaya_words.specs.declared.resize_mode.ResizeMode.{ResizeMode}

@@ -1,4 +1,4 @@
--- A call of a map for one caller that resizes it, as the steps of a core with one seat.
+-- A call that resizes a map for one caller, as the steps of a core with one seat.
 use Rattle.std.proofs.Common.{◌≡◌, ℕ, suc, ◌^◌, ◌<◌, ◌≤◌, Bool, true, false, Option, None, Some}
 use Rattle.std.proofs.Common.{List, [], ◌∷◌, length, inl, inr, refl, sym, ◌∙◌, ap, subst, arith}
 use Rattle.std.specs.Cmp.{IsEquivalence}

@@ -1,4 +1,5 @@
--- The deletion of a pair of the root of a map that no call is under way in, while no pairs are being moved.
+-- The removal of a pair of the root from a map in which no call is under way, while no pairs are
+-- being moved.
 use Rattle.std.proofs.Common.{◌≡◌, ◌⊎◌, inl, inr, ⊎_elim, ℕ, zero, suc, ◌<◌, ◌≤◌, ◌^◌, Bool, cond}
 use Rattle.std.proofs.Common.{pos, ◌+ℤ◌, List, [], ◌∷◌, ◌++◌, length, slice_index, slice_set}
 use Rattle.std.proofs.Common.{Option, Some, None, FitsSigned, append-nil, refl, sym, ◌∙◌, ap, subst}

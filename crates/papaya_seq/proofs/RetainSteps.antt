@@ -1,4 +1,4 @@
--- How the call that keeps some pairs goes from slot to slot.
+-- How a retain goes from slot to slot.
 use Rattle.std.proofs.Common.{◌≡◌, ◌⊎◌, inl, inr, ℕ, suc, ◌<◌, Bool, true, false, cond, List, []}
 use Rattle.std.proofs.Common.{◌∷◌, ◌++◌, length, take, drop, slice_index, slice_set, Option, Some}
 use Rattle.std.proofs.Common.{None, append-nil, refl, sym, ◌∙◌, ap, subst, arith, ◌==◌, eq-eqb}

@@ -1,4 +1,4 @@
--- How many slots a table is to have for a number of pairs, and for how many pairs there is none.
+-- How many slots a table for a number of pairs has, and for how many pairs there is no table.
 use Rattle.std.proofs.Common.{◌≡◌, inl, inr, ⊎_elim, ℕ, zero, suc, ◌*◌, ◌/◌, ◌-◌, ◌^◌, ◌<◌, ◌≤◌, nat_le, max, None, Some, sym, ◌∙◌, arith, leb-true, leb-false}
 use Rattle.std.proofs.Math.Nat.{pow-succ'}
 use Rattle.std.proofs.Math.Pow.{pow_mono}

@@ -1,4 +1,5 @@
--- The search of one table: each turn is one to three answers of the machine, and brings it nearer its end.
+-- The search of one table: each turn is one to three answers to the machine, and brings it nearer
+-- its end.
 use Rattle.std.proofs.Common.{◌≡◌, ℕ, zero, suc, ◌+◌, ◌*◌, ◌-◌, ◌<◌, ◌≤◌, nat_lt, lt-ltb, ltb-true, if◌then◌else◌}
 use Rattle.std.proofs.Common.{Bool, true, false, List, [], ◌∷◌, ◌++◌, length, slice_get, slice_index, Option, Some, refl, sym, ◌∙◌, ap}
 use Rattle.std.proofs.Common.{subst, arith}

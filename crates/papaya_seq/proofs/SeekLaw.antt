@@ -1,4 +1,4 @@
--- The law of a removal by a query that no pair of the log matches.
+-- The law of a removal by a query that matches no pair of the arena.
 use Rattle.std.proofs.Common.{◌≡◌, ◌⊎◌, ℕ, ◌^◌, ◌<◌, ◌≤◌, Bool, None, Some, [], ◌++◌, pos, ◌+ℤ◌, length, sym, ◌∙◌, ap, subst}
 use denote.Ref.{Bor}
 use Rattle.std.specs.Fn.{Mut}

@@ -1,4 +1,4 @@
--- An answer to a removal that meets no pair leaves it in order, and brings it nearer its end.
+-- After an answer a removal that meets no pair is still in order, and nearer its end.
 use Rattle.std.proofs.Common.{◌≡◌, ⊎_elim, inl, inr, ℕ, ◌^◌, ◌<◌, Bool, false, Option, None, Some}
 use Rattle.std.proofs.Common.{List, [], ◌++◌, append_assoc, refl, sym, ◌∙◌, ap, subst, ◌⊎◌, suc}
 use Rattle.std.proofs.Common.{◌+◌, ◌-◌, ◌==◌, ◌≤◌, true, ◌∷◌, length, arith, eqb-true}

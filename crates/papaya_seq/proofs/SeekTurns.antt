@@ -1,4 +1,4 @@
--- One answer to a removal that meets no pair: what it leaves of the words, the logs and the map.
+-- One answer to a removal that meets no pair: what it leaves of the words, the arena and the map.
 use Rattle.std.proofs.Common.{◌≡◌, ◌⊎◌, inl, inr, ℕ, ◌%◌, ◌^◌, ◌<◌, ◌≤◌, ◌==◌, Bool, false, Option}
 use Rattle.std.proofs.Common.{None, Some, List, [], ◌∷◌, ◌++◌, append_assoc, append-nil, refl, sym}
 use Rattle.std.proofs.Common.{◌∙◌, ap, subst}

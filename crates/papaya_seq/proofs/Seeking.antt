@@ -1,4 +1,4 @@
--- A removal by a query that no pair of the log matches: what holds between two of its answers.
+-- A removal by a query that matches no pair of the arena: what holds between two of its answers.
 use Rattle.std.proofs.Common.{◌≡◌, ◌⊎◌, ℕ, ◌^◌, ◌<◌, Bool, false, Option, None, Some, List, [], ◌++◌, length, refl, sym, subst, arith, append-nil}
 use Rattle.std.proofs.Math.Pow.{pow_pos}
 use Rattle.papaya_words.specs.Table.{TableWords}

@@ -1,4 +1,4 @@
--- What the answers of a retain leave.
+-- What a retain leaves, by what its closure returned.
 use Rattle.std.proofs.Common.{◌≡◌, ◌⊎◌, inl, inr, ⊎_elim, Bool, true, false, cond, List, [], ◌∷◌, None, Some, Result, Ok, Err, OnOk, IfErr, sym, ◌∙◌, ap, subst}
 use Rattle.std.proofs.lemmas.Bool.{cases_Bool, cond-true, cond-false}
 use denote.Ref.{Bor}

@@ -1,4 +1,5 @@
--- By how many slots a next table is counted: by those of the table that it is to follow, which is asked for its size.
+-- The length from which that of a next table is computed: that of the table which it is to follow,
+-- for which the machine asks.
 use Rattle.std.proofs.Common.{◌≡◌, ℕ, ◌==◌, ◌^◌, nat_le, Bool, Option, None, Some, length, refl, ap, subst}
 use Rattle.std.proofs.lemmas.Bool.{cond_both}
 use Rattle.papaya_words.specs.Chunks.{chunk_count, chunk_len}

@@ -1,4 +1,4 @@
--- A step that a call makes for itself, and what it was answered.
+-- A step that a call makes for itself, and its answer.
 use Rattle.std.proofs.Common.{◌≡◌, inl, inr, ℕ, Bool, false, Option, None, Some, sym, ◌∙◌, subst}
 use Rattle.papaya_call.specs.declared.ask.Answer.{Answer as Call_answer}
 use Rattle.papaya_call.specs.Answers.{Says}

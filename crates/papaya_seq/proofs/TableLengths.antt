@@ -1,4 +1,5 @@
--- What an answered ask leaves of the lengths of tables: one that is made has the slots that were asked for, and each other one stays as long as it was.
+-- The lengths of tables after an answered ask: a table that is made has the slots that were asked
+-- for, and each other table keeps its length.
 use Rattle.std.proofs.Common.{◌≡◌, ◌⊎◌, inl, inr, ℕ, zero, suc, ◌+◌, ◌-◌, ◌==◌, ◌<◌, ◌≤◌, nat_lt}
 use Rattle.std.proofs.Common.{Bool, true, false, cond, List, [], ◌∷◌, ◌++◌, length, length-set, map}
 use Rattle.std.proofs.Common.{max, replicate, slice_get, slice_set, Option, None, Some, refl, sym}

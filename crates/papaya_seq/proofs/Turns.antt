@@ -1,4 +1,4 @@
--- The whole of one call of a map for one caller, as turns of a core with one seat.
+-- One whole call of a map for one caller, as turns of a core with one seat.
 use Rattle.std.proofs.Common.{◌≡◌, ℕ, ◌^◌, ◌<◌, ◌≤◌, Bool, Option, None, Some, [], ◌∷◌, length, inl, refl, subst}
 use Rattle.std.specs.Int.{IsPowerOfTwo}
 use Rattle.papaya_core_store.specs.declared.store.Mode.{Mode}

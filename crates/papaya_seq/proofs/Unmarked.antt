@@ -1,4 +1,4 @@
--- A table that has no next one holds no pair that is being copied.
+-- A table without a next one has no pair that is being copied.
 use Rattle.std.proofs.Common.{◌≡◌, ℕ, ◌<◌, Bool, None, Option, Some, List, refl, ◌∙◌, ap, subst, arith}
 use Rattle.papaya_words.specs.Table.{TableWords}
 use Rattle.papaya_words.specs.Word.{kind_of}

@@ -1,4 +1,4 @@
--- What the calls answer that are computes, by what their closures answer.
+-- The results of the calls that are made as computes, by what their closures return.
 use Rattle.std.proofs.Common.{◌≡◌, ⊎_elim, inl, inr, ℕ, Bool, Option, Some, None, Result, Ok, Err}
 use Rattle.std.proofs.Common.{IfOk, IsSome, MatchOption, option_map, refl, sym, ◌∙◌, ap, subst}
 use denote.Ref.{Bor}

@@ -1,4 +1,5 @@
--- What the law says to a walk of a map that no call is under way in: where a pair stands in two tables, and which tables come.
+-- What the law says about an iteration over a map in which no call is under way: when two tables
+-- have the same pair, and which tables follow each other.
 use Rattle.std.proofs.Common.{◌≡◌, ◌⊎◌, inl, inr, ℕ, zero, suc, ◌+◌, ◌<◌, ◌≤◌, Bool, true, false}
 use Rattle.std.proofs.Common.{List, [], ◌∷◌, ◌++◌, length, Option, Some, None, is_some, refl, sym}
 use Rattle.std.proofs.Common.{◌∙◌, ap, subst, arith}

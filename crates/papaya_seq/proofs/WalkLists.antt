@@ -1,4 +1,4 @@
--- What is left to a walk, from slot to slot and from table to table.
+-- The pairs that are left to an iteration, from slot to slot and from table to table.
 use Rattle.std.proofs.Common.{◌≡◌, ℕ, zero, suc, ◌<◌, ◌≤◌, ◌||◌, Bool, true, false, cond, List, []}
 use Rattle.std.proofs.Common.{◌∷◌, ◌++◌, length, drop, slice_index, Option, Some, None, is_some}
 use Rattle.std.proofs.Common.{refl, sym, ◌∙◌, ap, arith}

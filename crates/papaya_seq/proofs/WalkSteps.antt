@@ -1,4 +1,4 @@
--- How a walk goes on.
+-- How an iteration goes on.
 use Rattle.std.proofs.Common.{◌≡◌, ◌⊎◌, inl, inr, ℕ, zero, suc, ◌+◌, ◌<◌, ◌≤◌, ◌||◌, Bool, true}
 use Rattle.std.proofs.Common.{false, [], ◌∷◌, ◌++◌, length, slice_index, Option}
 use Rattle.std.proofs.Common.{Some, None, is_some, refl, sym, ◌∙◌, ap, subst, arith}

@@ -1,4 +1,4 @@
--- What came of a walk over a list.
+-- The items that an iteration over a list has returned: with those that are left they are the list.
 use Rattle.std.proofs.Common.{◌≡◌, List, [], ◌∷◌, ◌++◌, map, Some, None, refl, ap, ◌∙◌}
 use Rattle.std.specs.Iterator.{Yields, YieldsFirstBy}
 use Rattle.std.specs.Vec.Iter.{into_iter_items, into_iter_steps}

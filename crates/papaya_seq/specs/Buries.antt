@@ -1,4 +1,4 @@
--- A removal, several of whose asks its driver answers at once.
+-- A removal whose driver answers several of its asks at once.
 use Rattle.std.specs.Prelude.{◌≡◌, ℕ, Bool, false, List, [], ◌∷◌, Option}
 use denote.Ref.{Bor}
 use Rattle.std.specs.Fn.{Mut}
@@ -20,19 +20,19 @@ use Rattle.papaya_call.specs.ChainMachine.{after, ask_of}
 use Rattle.papaya_core_store.specs.Store.{StoreState}
 use Rattle.papaya_seq.specs.Removes.{IsRemovalAnswer}
 
--- a call that goes on for itself
+-- a call that is not set aside for a copy
 abbrev pub itself : Call_machine → Machine
 itself m = record { call = m; number = 0; helped = false; phase = Calling }
 
 module _ {K V S F : Type 0} (g : Mut F (Bor K × (Bor V × Unit {0})) Bool) (matches : K → Bool) where
-  -- an ask of the removal was answered by the store, or by its closure
+  -- one ask of the removal was answered, by the store or by its closure
   pub record IsLed (s : StoreState K V S) (f : F) (m : Machine) (answer : Answer)
       (s' : StoreState K V S) (f' : F) : Type 0 where
     pub ask : Ask
     pub asked : asks.Call ask ≡ ask_of m
     pub answered : IsRemovalAnswer g matches ask s f answer s' f'
 
-  -- several were so, one after the other
+  -- these answers were given to its asks, one after the other
   abbrev pub Leads : List Answer → StoreState K V S → F → Machine → StoreState K V S → F → Machine
       → Type 0
   Leads [] s f m s' f' m' = (s' ≡ s) × (f' ≡ f) × (m' ≡ m)
@@ -40,7 +40,7 @@ module _ {K V S F : Type 0} (g : Mut F (Bor K × (Bor V × Unit {0})) Bool) (mat
       × IsLed s f m answer middle later
       × Leads rest middle later (after m (answers.Call answer)) s' f' m'
 
-  -- the removal has replied then
+  -- after some answers the removal has replied `reply`
   pub record IsRemovedFrom (s : StoreState K V S) (f : F) (m : Machine) (reply : Reply)
       (s' : StoreState K V S) (f' : F) : Type 0 where
     pub answers : List Answer
@@ -48,12 +48,13 @@ module _ {K V S F : Type 0} (g : Mut F (Bor K × (Bor V × Unit {0})) Bool) (mat
     pub leads : Leads answers s f m s' f' end
     pub replied : ask_of end ≡ asks.Call (Done reply)
 
-  -- any removal that was to show this pair has replied
+  -- any removal that is about to call its closure with the pair of `removal` comes to this reply
   abbrev pub IsBuried : Removal → StoreState K V S → F → Reply → StoreState K V S → F → Type 0
   IsBuried removal s f reply s' f' = (m : Call_machine)
       → IsRemovedFrom s f (itself (record m { task = RemoveIf; state = Showing removal })) reply s' f'
 
-  -- a removal has replied, whatever the map's settings are
+  -- a removal with this hash comes to this reply, whatever the map's resize mode, initial capacity
+  -- and pair limit are
   abbrev pub IsRemovedFast : (hashed : ℕ) → StoreState K V S → F → Reply → StoreState K V S → F
       → Type 0
   IsRemovedFast hashed s f reply s' f' = (mode : ResizeMode) (initial : ℕ) (limit : Option ℕ)

@@ -1,4 +1,4 @@
--- Calls that are handed in as values, one after the other.
+-- Calls that are passed in as values and made one after the other.
 use Rattle.std.specs.Prelude.{◌≡◌, ◌⊎◌, ℕ, cond, Bool, true, false, Option, Some, List, [], ◌∷◌, map, option_map}
 use Rattle.papaya_words.specs.declared.refused.Refused as words
 use Rattle.papaya_words.specs.declared.refused.Refused.TheVariants as refusals
@@ -21,25 +21,26 @@ use Rattle.papaya_seq.specs.MadeAlone.{IsRepliedAlone}
 use Rattle.papaya_seq.specs.Map.{IsResizing, IsTryCause, IsWriteCauseAt, Grows, Keeps, MapState, entry_of, next_of}
 use Rattle.papaya_seq.specs.Resizes.{HasRoomFor, IsCopyCause, IsReserveCause}
 
--- what the closure's answers give of the pair of this number
+-- called with the pair of number n in s, a closure that has the answers `a` returns `agrees`
 abbrev pub Gives : {K V S A : Type 0} → Says K V A → A → StoreState K V S → ℕ → Bool → Type 0
 Gives {K = K} {V = V} {A = A} says a s n agrees = (p : Stored K V) × (a' : A)
     × (pair_of s n ≡ Some p) × says.yes a p.key p.value agrees a'
 
--- what they give where they are shown this pair, or that there is none
+-- called with the pair `held`, or with None, such a closure returns `operation`
 abbrev pub Answers : {K V A : Type 0} → Says K V A → A → Option (Stored K V) → Operation V ℕ
     → Type 0
 Answers {A = A} says a held operation = (a' : A) × says.op a (option_map entry_of held) operation a'
 
 module _ {K V S A : Type 0} (says : Says K V A) (a : A) (s : MapState K V S)
     (held : Option (Stored K V)) (s' : StoreState K V S) where
-  -- they gave the value of the pair of this number
+  -- the closure returned an insertion of the value that the pair of number n has in s'
   abbrev GivesValue : ℕ → Type 0
   GivesValue n = (q : Stored K V) × (pair_of s' n ≡ Some q)
       × Answers says a held (ops.Insert q.value)
 
-  -- A compute's reply is what its closure's answers gave where they were shown what the class of
-  -- its key has. While pairs are being moved it may be refused before it shows anything.
+  -- A compute's reply follows from what its closure returned when it was called with `held`, the
+  -- pair of its key's class. While pairs are being moved, the compute may be refused before it
+  -- calls the closure.
   abbrev pub IsOperated : Reply → Type 0
   IsOperated (Inserted n) = GivesValue n
   IsOperated (Replaced m n) = GivesValue n
@@ -49,23 +50,25 @@ module _ {K V S A : Type 0} (says : Says K V A) (a : A) (s : MapState K V S)
   IsOperated (Refused refused) = ((v : V) × Answers says a held (ops.Insert v)) ⊎ IsResizing s
   IsOperated _ = ⊥
 
--- a removal's reply is what its closure's answers gave
+-- if a removal replies `Removed n`, its closure returned `true` for that pair, and if it replies
+-- `Kept n`, its closure returned `false`
 abbrev pub IsJudged : {K V S A : Type 0} → Says K V A → A → Reply → StoreState K V S → Type 0
 IsJudged says a (Removed n) s = Gives says a s n true
 IsJudged says a (Kept n) s = Gives says a s n false
 IsJudged says a _ s = Unit {0}
 
--- the reply of a call that has a closure is what its answers gave
+-- the reply of a call with a closure follows from what its closure returned
 abbrev pub IsSaid : {K V S A : Type 0} → (K → K → Bool) → Says K V A → Call K V A → MapState K V S
     → Reply → StoreState K V S → Type 0
 IsSaid eq says (RemoveIf k a) s reply s' = IsJudged says a reply s.store
 IsSaid eq says (Compute k a) s reply s' = IsOperated says a s (map_in eq s.store k) s' reply
 IsSaid eq says _ s reply s' = Unit {0}
 
--- A lookup is never refused, an insertion for a cause, and a compute for a cause, or where its
--- closure would remove what isn't there. Room is refused for a cause, and the end of a resize for
--- one while pairs are being moved: so is a removal then, and so are a clear and a retain, which end
--- it first. A walk is refused where there is no memory for its list.
+-- When a call may be refused. A lookup never is. An insertion and a compute are refused for a cause
+-- of `IsWriteCauseAt`, a `TryInsert` for a cause of `IsTryCause`, and a compute also if its closure
+-- would remove an absent entry. `Reserve` is refused for a cause of `IsReserveCause`. A removal,
+-- `CopyAll`, a clear and a retain are refused only while pairs are being moved. An iteration is
+-- refused only if memory runs out for its list, and leaves the map as it was.
 abbrev pub MayRefuse : {K V S A : Type 0} → (K → K → Bool) → MapState K V S → Call K V A
     → words.Refused → MapState K V S → Type 0
 MayRefuse eq s (Get k) refused s' = ⊥
@@ -80,26 +83,27 @@ MayRefuse eq s Clear refused s' = IsCopyCause s refused s'
 MayRefuse eq s (Retain a) refused s' = IsCopyCause s refused s'
 MayRefuse eq s Walk refused s' = (refused ≡ refusals.Memory) × (s' ≡ s)
 
--- each pair of the first list is shown once, in order, and the second has those that stay
+-- a closure with the answers `a` is called with each pair of `shown`, in order; `left` has those
+-- for which it returned `true`, and `a'` is what is left of the answers
 abbrev pub Sifts : {K V A : Type 0} → Says K V A → A → (shown left : List (Stored K V)) → A → Type 0
 Sifts says a [] left a' = (left ≡ []) × (a' ≡ a)
 Sifts {K = K} {V = V} {A = A} says a (p ∷ ps) left a' = (stays : Bool) × (later : A)
     × (rest : List (Stored K V)) × says.yes a p.key p.value stays later
     × Sifts says later ps rest a' × (left ≡ cond stays (p ∷ rest) rest)
 
--- the pairs of s were shown, and s' has those that stay
+-- the closure was called with each pair of s, and s' has those for which it returned `true`
 pub record IsSifted {K V S A : Type 0} (eq : K → K → Bool) (says : Says K V A) (a : A)
     (s s' : StoreState K V S) : Type 0 where
   pub shown : List (Stored K V)
   pub later : A
   pub sifts : Sifts says a shown (content eq s') later
   pub pairs : (k : K) → lookup eq (λ p. p.key) shown k ≡ map_in eq s k
-  -- each once
+  -- no key occurs twice
   pub once : AreApart eq (λ p. p.key) shown
 
--- What is so when a call is done: there is room, no pairs are being moved, the map is empty, it has
--- the pairs that stay by its closure's answers, or it is the one of before. A call on a key has
--- another reply.
+-- What holds when a call replies `Done`: there is room for `more` pairs, no pairs are being moved,
+-- the map is empty, it has the pairs for which the closure returned `true`, or, after an iteration,
+-- it is unchanged. A call on a key never replies `Done`.
 abbrev pub IsDone : {K V S A : Type 0} → (K → K → Bool) → Says K V A → Call K V A → StoreState K V S
     → StoreState K V S → Type 0
 IsDone eq says (Reserve more) s s' = HasRoomFor eq s more s'
@@ -109,8 +113,8 @@ IsDone eq says (Retain a) s s' = IsSifted eq says a s s'
 IsDone eq says Walk s s' = s' ≡ s
 IsDone eq says _ s s' = ⊥
 
--- A walk lists the numbers of the map's pairs, in the order of its content, or is refused. No other
--- call lists anything.
+-- An iteration returns the numbers of the map's pairs in the order of its content, or is refused
+-- with `Memory`. No other call returns a list.
 abbrev pub IsListed : {K V S A : Type 0} → (K → K → Bool) → Call K V A → StoreState K V S → Outcome
     → Type 0
 IsListed eq Walk s (Walked list) = list.items ≡ map (λ p. p.number) (content eq s)
@@ -119,8 +123,9 @@ IsListed eq Walk s (Replied reply) = reply ≡ Refused refusals.Memory
 IsListed eq call s (Replied reply) = Unit {0}
 
 module _ {K V S A : Type 0} (eq : K → K → Bool) (says : Says K V A) where
-  -- a call does what the finite map does, or is refused where it may be; one on a key makes tables
-  -- by the rule of sizes
+  -- The call `call` on the map s replies `reply` and leaves the map s'. It does what it does to the
+  -- finite map, or is refused for one of its causes. A call on a key makes tables by the rule of
+  -- sizes.
   pub record IsCalled (s : MapState K V S) (call : Call K V A) (reply : Reply)
       (s' : MapState K V S) : Type 0 where
     pub answered : IsAnswered eq call (map_in eq s.store) reply (map_in eq s'.store)
@@ -133,9 +138,9 @@ module _ {K V S A : Type 0} (eq : K → K → Bool) (says : Says K V A) where
     pub tables : (k : K) → key_of call ≡ Some k → Grows s s'
 
 module _ {K V S A : Type 0} (eq : K → K → Bool) (hash : S → K → ℕ) where
-  -- The tables, words, log, numbers and count that a call leaves are those that a core's own call
-  -- leaves, made alone from the map before. A lookup and a walk change nothing. Of what a clear and
-  -- a retain leave this says nothing.
+  -- The map that a call leaves is the one that the core's own call leaves, made alone on s, with
+  -- its tables, words, arena, numbers and count. A lookup and an iteration leave s itself. About
+  -- what a clear and a retain leave this states nothing.
   abbrev pub IsLeftAlone : MapState K V S → Call K V A → Reply → MapState K V S → Type 0
   IsLeftAlone s (Get k) reply s' = s' ≡ s
   IsLeftAlone s (Insert k v) reply s' = IsRepliedAlone eq hash s (Insert k v) reply s'
@@ -149,7 +154,7 @@ module _ {K V S A : Type 0} (eq : K → K → Bool) (hash : S → K → ℕ) whe
   IsLeftAlone s Walk reply s' = s' ≡ s
 
   module _ (says : Says K V A) where
-    -- one outcome a call
+    -- the calls are made one after the other from s to s', each with its outcome
     abbrev pub AreCalled : MapState K V S → List (Call K V A) → List Outcome → MapState K V S
         → Type 0
     AreCalled s [] [] s' = s' ≡ s

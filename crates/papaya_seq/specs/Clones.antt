@@ -21,7 +21,7 @@ HasEqual {V = V} eq same s e = (w : V) × (value_of (map_in eq s e.0) ≡ Some w
     × (same e.1 w ≡ true)
 
 module _ {K V W S Z : Type 0} (eq : K → K → Bool) where
-  -- of each class both maps have a pair of which this is so, or neither has one
+  -- for each class both maps have a pair, and `like` holds for the two, or neither has one
   abbrev pub Agree : (Stored K V → Stored K W → Type 0) → StoreState K V S → StoreState K W Z
       → Type 0
   Agree like s s' = (k : K) → MatchOption (map_in eq s k) (map_in eq s' k ≡ None)
@@ -32,7 +32,7 @@ abbrev pub AreEqual : {K V S Z : Type 0} → (K → K → Bool) → (V → V →
     → StoreState K V Z → Type 0
 AreEqual eq same s s' = Agree eq (λ p q. same p.value q.value ≡ true) s s'
 
--- of each class the second map has a clone of the first one's pair
+-- for each class the second map has a clone of the first map's pair, or neither has one
 abbrev pub IsCloned : {K V S Z : Type 0} → (K → K → Bool) → (K → K → Type 0) → (V → V → Type 0)
     → StoreState K V S → StoreState K V Z → Type 0
 IsCloned eq clones_key clones_value s s' = Agree eq (λ p q. clones_key p.key q.key
@@ -45,18 +45,18 @@ module _ {K V : Type 0} (clones_key : K → K → Type 0) (clones_value : V → 
 
 module _ {K V : Type 0} (eq : K → K → Bool) (clones_key : K → K → Type 0)
     (clones_value : V → V → Type 0) where
-  -- clones of these entries were put into the map, in their order
+  -- clones of these entries were inserted into the map, in their order
   pub record IsCopied {S : Type 0} (to : MapState K V S) (es : List (K × V))
       (to' : MapState K V S) : Type 0 where
     pub clones : List (K × V)
     pub each : AllZip (Clones clones_key clones_value) es clones
     pub fills : Fills eq (λ c. c) to clones to'
-    -- for each of them one pair was logged at most
+    -- for each of them at most one pair was added to the arena
     pub logged : length to'.store.pairs ≤ length to.store.pairs + length es
     pub shards : to'.store.count.shards ≡ to.store.count.shards
 
-  -- Clones of the first entries of a map were put into another one, in the order of a walk, and the
-  -- clone of the next one was refused.
+  -- Clones of the first entries of a map were inserted into another one, in the order of an
+  -- iteration, and the clone of the next entry was refused.
   pub record IsCopyCut {S Z : Type 0} (from : StoreState K V Z) (to : MapState K V S)
       (refused : Refused) (to' : MapState K V S) : Type 0 where
     pub done : List (K × V)
@@ -69,13 +69,13 @@ module _ {K V : Type 0} (eq : K → K → Bool) (clones_key : K → K → Type 0
     pub cloned : Clones clones_key clones_value next clone
     pub cut : IsCut eq (λ c. c) to clones clone refused to'
 
--- the map resizes as this one does, has its limit, and counts in as many shards
+-- s' has the mode of s, with its pair limit, the initial capacity of s, and as many shards
 pub record HasParts {K V S : Type 0} (s s' : MapState K V S) : Type 0 where
   pub mode : s'.mode ≡ s.mode
   pub initial : s'.initial ≡ s.initial
   pub shards : s'.store.count.shards ≡ s.store.count.shards
 
--- the same without a limit, as a map is that is built anew, until it has its pairs
+-- the same without a pair limit, which a map that is rebuilt gets once it has its pairs
 pub record HasFreeParts {K V S : Type 0} (s s' : MapState K V S) : Type 0 where
   pub mode : s'.mode ≡ unlimited s.mode.resize
   pub initial : s'.initial ≡ s.initial
@@ -83,13 +83,15 @@ pub record HasFreeParts {K V S : Type 0} (s s' : MapState K V S) : Type 0 where
 
 module _ {K V S : Type 0} (eq : K → K → Bool) (clones_key : K → K → Type 0)
     (clones_value : V → V → Type 0) where
-  -- A map of clones, and of nothing else: its log has as many pairs as this map has.
+  -- The map s' has clones of the pairs of s, and its arena holds nothing else: it has as many pairs
+  -- as the map s.
   pub record IsRebuilt (clones_hasher : S → S → Type 0) (s s' : MapState K V S) : Type 0 where
     pub cloned : IsCloned eq clones_key clones_value s.store s'.store
     pub logged : length s'.store.pairs ≡ length (content eq s.store)
     pub hasher : clones_hasher s.store.hasher s'.store.hasher
 
-  -- Clones were put into a new map, made for so many pairs as this one has, and one was refused.
+  -- Clones were inserted into a new map, which was made for as many pairs as `from` has, and one of
+  -- them was refused.
   pub record IsCloneCut (from : StoreState K V S) (refused : Refused) : Type 0 where
     pub new : MapState K V S
     pub left : MapState K V S
@@ -97,15 +99,15 @@ module _ {K V S : Type 0} (eq : K → K → Bool) (clones_key : K → K → Type
         new.store.hasher (core_of new)
     pub cut : IsCopyCut eq clones_key clones_value from new refused left
 
-  -- Why a map of clones is refused: for want of memory, as no table has slots for so many pairs, or
-  -- at one of the clones.
+  -- Why a clone of a map is not made: with `Memory`; with `Capacity` if no table may have slots for
+  -- as many pairs; or because one of the clones was refused.
   abbrev pub IsCloneRefusal : StoreState K V S → Refused → Type 0
   IsCloneRefusal from refused = (refused ≡ Memory)
       ⊎ ((refused ≡ Capacity) × IsTooMuch (length (content eq from)))
       ⊎ IsCloneCut from refused
 
-  -- A map without pairs and without a limit, with the other parts of this one, was refused room for
-  -- its pairs, or a clone.
+  -- An empty map with the settings of s but no pair limit was refused room for the pairs of s, or
+  -- one of their clones.
   pub record IsRebuildCut (s : MapState K V S) (refused : Refused) : Type 0 where
     pub fresh : MapState K V S
     pub empty : content eq fresh.store ≡ []
@@ -115,8 +117,8 @@ module _ {K V S : Type 0} (eq : K → K → Bool) (clones_key : K → K → Type
         ⊎ ((roomy : MapState K V S) × (content eq roomy.store ≡ []) × HasFreeParts s roomy
         × IsCopyCut eq clones_key clones_value s.store roomy refused left)
 
-  -- Why a map is not rebuilt: for want of memory, as it has more shards than a new one may have,
-  -- or so.
+  -- Why a map is not rebuilt: with `Memory`; with `Capacity` if s has more shards than a new map
+  -- may have; or for a cause of `IsRebuildCut`.
   abbrev pub IsRebuildRefusal : MapState K V S → Refused → Type 0
   IsRebuildRefusal s refused = (refused ≡ Memory)
       ⊎ ((refused ≡ Capacity) × (MAX_SHARDS < s.store.count.shards)) ⊎ IsRebuildCut s refused

@@ -1,4 +1,4 @@
--- A compute that is made at once, as a run of its machine.
+-- A compute that plain code makes at once, described as a run of its machine.
 use Rattle.std.specs.Prelude.{◌≡◌, ◌≢◌, ◌⊎◌, ℕ, Bool, Option, Some, None, List, Result, Ok, Err, option_map}
 use denote.Ref.{Bor}
 use Rattle.papaya_words.specs.Word.{kind_of, pair_of as number_of}
@@ -30,8 +30,8 @@ use Rattle.papaya_seq.specs.Writes.{IsWritten, burying}
 use Rattle.papaya_seq.specs.declared.search.ProbeHit.{ProbeHit}
 use Rattle.papaya_seq.specs.declared.search.ProbeHit.TheVariants as turns
 
--- what a call is told of its closure's answer, the value that it has of it, and what it is
--- ended with
+-- the kind of the operation that a closure returned, the value to insert (`value_by`), and the
+-- value to abort with (`ended_by`)
 abbrev pub told_by : {V T : Type 0} → Operation V T → OpKind
 told_by (Insert v) = kinds.Insert
 told_by Remove = kinds.Remove
@@ -47,18 +47,18 @@ ended_by (Insert v) = None
 ended_by Remove = None
 ended_by (Abort t) = Some t
 
--- a call asks that its closure be shown this
+-- the ask to call the closure with this pair, or with None
 abbrev pub show_of : {K V : Type 0} → Option (Stored K V) → Ask
 show_of None = ShowNone
 show_of (Some p) = ShowPair p.number
 
--- which is a pair of the log, if it is one
+-- the pair, if there is one, is in the arena under its number
 abbrev pub IsLogged : {K V S : Type 0} → StoreState K V S → Option (Stored K V) → Type 0
 IsLogged s None = Unit {0}
 IsLogged s (Some p) = pair_of s p.number ≡ Some p
 
--- What was done at one place of which a closure answered so: the pair of this word was shown to it,
--- or that there is none.
+-- What a compute does at the place `at` after its closure returned this operation. The closure was
+-- called with the pair that the old word names, or with None if the place is empty.
 abbrev pub IsOperated : {K V S T : Type 0} → StoreState K V S → (hashed : ℕ) → Write → K
     → Operation V T → Result (Computed ℕ T) Refused → StoreState K V S → Type 0
 IsOperated {V = V} s hashed at key (Insert v) result s' = (reply : Reply) × (left : Option V)
@@ -69,7 +69,8 @@ IsOperated s hashed at key Remove result s' =
     × (s' ≡ burying s (record { place = at.place; word = at.old })))
 IsOperated s hashed at key (Abort t) result s' = (result ≡ Ok (Aborted t)) × (s' ≡ s)
 
--- a closure may be shown what a search found: the pair of a Live word, or that there is none
+-- a closure with the precondition `pre` may be called with what a search found: the pair of a Live
+-- word, or None at an empty place
 abbrev pub TakesAt : {K V S : Type 0} → (Option (Bor K × Bor V) → Type 0) → StoreState K V S → ProbeHit
     → Type 0
 TakesAt pre s (turns.Empty at) = Takes pre None
@@ -78,8 +79,9 @@ TakesAt pre s turn = Unit {0}
 
 module _ {K V S T : Type 0} (eq : K → K → Bool) (hash : S → K → ℕ) (key : K)
     (said : Option (Stored K V) → Operation V T → Type 0) where
-  -- A compute has searched the root, shown its closure what it found, been told what that answered,
-  -- and replied. `said` says what it may have answered.
+  -- A compute has searched the root, called its closure with what it found, acted on what the
+  -- closure returned, and replied. `said held operation` states that the closure may return
+  -- `operation` when it is called with `held`.
   pub record IsComputedFrom (s : StoreState K V S) (begun : Machine) (shown : Option ℕ)
       (result : Result (Computed ℕ T) Refused) (s' : StoreState K V S) : Type 0 where
     pub loads : List Answer
@@ -97,7 +99,7 @@ module _ {K V S T : Type 0} (eq : K → K → Bool) (hash : S → K → ℕ) (ke
         (at_hand (after shows (Op (told_by operation))) key (value_by operation)) reply left s'
     pub computed : IsComputed reply (ended_by operation) result
 
-  -- so it has, whatever the map's settings are
+  -- the same for a map without a pair limit, whatever its resize mode and initial capacity are
   abbrev pub IsComputedFast : (hashed : ℕ) → StoreState K V S
       → Option ℕ × Result (Computed ℕ T) Refused → StoreState K V S → Type 0
   IsComputedFast hashed s done s' = (mode : ResizeMode) (initial : ℕ)

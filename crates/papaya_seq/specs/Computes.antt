@@ -1,4 +1,4 @@
--- What a compute does, and what the calls do that are computes.
+-- What a compute does, and what the calls do that are made as computes.
 use Rattle.std.specs.Prelude.{◌≡◌, ◌⊎◌, Bool, Option, Some, None, Result, Ok, Err, option_map}
 use denote.Ref.{Bor}
 use Rattle.papaya_words.specs.declared.refused.Refused.{Refused}
@@ -14,21 +14,22 @@ use Rattle.papaya_words_keys.specs.declared.results.Compute.TheVariants as shown
 use Rattle.papaya_words_keys.specs.declared.results.Computed.{Computed}
 use Rattle.papaya_words_keys.specs.declared.results.Computed.TheVariants.{Inserted, Updated, Removed, Aborted}
 
--- these are references to the key and the value of the pair that a class holds, if it holds one
+-- `shown` are references to the key and the value of `held`, the pair of a class, or both are None
 abbrev pub AreOf : {K V : Type 0} → Option (Bor K × Bor V) → Option (Stored K V) → Type 0
 AreOf shown held = option_map deref_pair shown ≡ option_map entry_of held
 
--- a closure may be called where it is shown what a class holds
+-- a closure with the precondition `pre` may be called with references to `held`
 abbrev pub Takes : {K V : Type 0} → (Option (Bor K × Bor V) → Type 0) → Option (Stored K V) → Type 0
 Takes {K = K} {V = V} pre held = (shown : Option (Bor K × Bor V)) → AreOf shown held → pre shown
 
--- and may answer this then
+-- a closure with the postcondition `post` may return `operation` when it is called with references
+-- to `held`
 abbrev pub Says : {K V T : Type 0} → (Option (Bor K × Bor V) → Operation V T → Type 0)
     → Option (Stored K V) → Operation V T → Type 0
 Says {K = K} {V = V} post held operation = (shown : Option (Bor K × Bor V)) × AreOf shown held
     × post shown operation
 
--- a pair of this key and this value, with a number never used before
+-- q has the key k and the value v, no pair of s has its number, and it is in the arena of s'
 pub record IsNew {K V S : Type 0} (k : K) (v : V) (s s' : StoreState K V S)
     (q : Stored K V) : Type 0 where
   pub key : q.key ≡ k
@@ -37,8 +38,9 @@ pub record IsNew {K V S : Type 0} (k : K) (v : V) (s s' : StoreState K V S)
   pub logged : pair_of s' q.number ≡ Some q
 
 module _ {K V S T : Type 0} (k : K) where
-  -- What a compute does where the class of its key has `held` and its closure answered so: what it
-  -- answers, and which pair the class has next. What takes the place of a pair keeps its key.
+  -- What a compute does if the class of its key has `held` and its closure returned this operation:
+  -- its result, and the pair `next` that the class has afterwards. A pair that replaces another one
+  -- has the key of that one.
   abbrev pub Operates : MapState K V S → MapState K V S → Option (Stored K V) → Operation V T
       → Result (Computed (Stored K V) T) Refused → Option (Stored K V) → Type 0
   Operates s s' None (Insert v) (Ok (Inserted q)) next = IsNew k v s.store s'.store q
@@ -52,15 +54,15 @@ module _ {K V S T : Type 0} (k : K) where
   Operates s s' held (Abort t) (Ok (Aborted u)) next = (u ≡ t) × (next ≡ held)
   Operates _ _ _ _ _ _ = ⊥
 
--- refused, for a cause, with the map as it was
+-- a compute is refused for a cause, and the finite map does not change
 abbrev pub IsComputeRefusal : {K V S : Type 0} → (K → K → Bool) → MapState K V S → Refused
     → MapState K V S → Type 0
 IsComputeRefusal eq s refused s' = IsWriteCause s refused s' × Unchanged eq s.store s'.store
     × KeepsAndGrows s s'
 
 module _ {K V S T : Type 0} (eq : K → K → Bool) (k : K) where
-  -- A compute whose closure was called once, and answered `operation`. `said` says what it may
-  -- answer where it is shown what the class of the key has.
+  -- A compute whose closure was called once and returned `operation`. `said held operation` states
+  -- that the closure may return `operation` when it is called with `held`.
   pub record CallsOnce (said : Option (Stored K V) → Operation V T → Type 0) (s : MapState K V S)
       (answer : Result (Computed (Stored K V) T) Refused) (s' : MapState K V S) : Type 0 where
     pub held : Option (Stored K V)
@@ -71,7 +73,8 @@ module _ {K V S T : Type 0} (eq : K → K → Bool) (k : K) where
     pub update : IsUpdate eq k held next (map_in eq s.store) (map_in eq s'.store)
     pub keeps : KeepsAndGrows s s'
 
-  -- one that was refused before its closure was called, which may be while pairs are being moved
+  -- a compute that was refused before it called its closure, which happens only while pairs are
+  -- being moved
   abbrev pub IsRefusedFirst : MapState K V S → Result (Computed (Stored K V) T) Refused
       → MapState K V S → Type 0
   IsRefusedFirst s answer s' = IsResizing s × ((refused : Refused) × (answer ≡ Err refused)
@@ -81,20 +84,20 @@ module _ {K V S T : Type 0} (eq : K → K → Bool) (k : K) where
       → Result (Computed (Stored K V) T) Refused → MapState K V S → Type 0
   Computes said s answer s' = CallsOnce said s answer s' ⊎ IsRefusedFirst s answer s'
 
--- what was done, with something of each pair in its place
+-- what a compute did, with `shows p` in place of each pair p
 abbrev pub computed_map : {P R T : Type 0} → (P → R) → Computed P T → Computed R T
 computed_map shows (Inserted q) = Inserted (shows q)
 computed_map shows (Updated p q) = Updated (shows p) (shows q)
 computed_map shows (Removed p) = Removed (shows p)
 computed_map shows (Aborted t) = Aborted t
 
--- the same where it was done or refused
+-- the same for a result, which may be a refusal
 abbrev pub answer_map : {P R T : Type 0} → (P → R) → Result (Computed P T) Refused
     → Result (Computed R T) Refused
 answer_map shows (Ok done) = Ok (computed_map shows done)
 answer_map shows (Err refused) = Err refused
 
--- a compute that answers something of each pair, as its number
+-- a compute whose result has `shows p` in place of each pair p, such as the number of p
 abbrev pub ComputesBy : {K V S T R : Type 0} → (K → K → Bool) → K → (Stored K V → R)
     → (Option (Stored K V) → Operation V T → Type 0) → MapState K V S
     → Result (Computed R T) Refused → MapState K V S → Type 0
@@ -103,8 +106,9 @@ ComputesBy {K = K} {V = V} {T = T} eq k shows said s answer s' =
     × Computes eq k said s done s'
 
 module _ {K V S : Type 0} (eq : K → K → Bool) (k : K) where
-  -- What an update answers: the value that it computed of the key's, or that the key is absent, or
-  -- a refusal. `computes` says what the closure may answer of a value.
+  -- The result of an update: the value that was computed from the key's value; None if the key is
+  -- absent; or a refusal. `computes old v` states that the closure may return v for the value
+  -- `old`.
   abbrev pub IsUpdated : (V → V → Type 0) → MapState K V S → Result (Option V) Refused
       → MapState K V S → Type 0
   IsUpdated computes s (Ok None) s' = (map_in eq s.store k ≡ None) × Unchanged eq s.store s'.store
@@ -115,8 +119,8 @@ module _ {K V S : Type 0} (eq : K → K → Bool) (k : K) where
       (((p : Stored K V) × (map_in eq s.store k ≡ Some p)) ⊎ IsResizing s)
       × IsComputeRefusal eq s refused s'
 
-  -- What an update answers that stores a value where the key is absent: the value that the key has
-  -- then, or a refusal. `makes` says which value is stored.
+  -- The result of an update that inserts a value if the key is absent: the value that the key has
+  -- after the call, or a refusal. `makes v` states that v may be the inserted value.
   abbrev pub IsUpdatedOrInserted : (V → V → Type 0) → (V → Type 0) → MapState K V S
       → Result V Refused → MapState K V S → Type 0
   IsUpdatedOrInserted computes makes s (Ok v) s' =
@@ -124,8 +128,9 @@ module _ {K V S : Type 0} (eq : K → K → Bool) (k : K) where
       ⊎ (makes v × Inserts eq k v s.store None s'.store)) × KeepsAndGrows s s'
   IsUpdatedOrInserted computes makes s (Err refused) s' = IsComputeRefusal eq s refused s'
 
-  -- What an insertion of an absent key answers whose value a closure makes: the value that was
-  -- stored, or the one that is there, or a refusal. `makes` says what the closure may answer.
+  -- The result of an insertion of an absent key whose value a closure makes: the value that was
+  -- inserted, the value that was already there, or a refusal. `makes v` states that the closure may
+  -- return v.
   abbrev pub IsTriedWith : (V → Type 0) → MapState K V S → Result (Result V V) Refused
       → MapState K V S → Type 0
   IsTriedWith makes s (Ok (Ok v)) s' = makes v × Inserts eq k v s.store None s'.store
@@ -135,20 +140,21 @@ module _ {K V S : Type 0} (eq : K → K → Bool) (k : K) where
   IsTriedWith makes s (Err refused) s' = ((map_in eq s.store k ≡ None) ⊎ IsResizing s)
       × IsComputeRefusal eq s refused s'
 
-  -- the same where it is not told which of the two it is
+  -- the same for a result that does not say whether the value was inserted or was already there
   abbrev pub HasValueOf : (V → Type 0) → MapState K V S → Result V Refused → MapState K V S → Type 0
   HasValueOf makes s (Ok v) s' = IsTriedWith makes s (Ok (Ok v)) s'
       ⊎ IsTriedWith makes s (Ok (Err v)) s'
   HasValueOf makes s (Err refused) s' = IsTriedWith makes s (Err refused) s'
 
--- the value that was stored, or the one that is there, or a refusal
+-- a result with the values in place of the references: the value that was inserted, the value that
+-- was already there, or a refusal
 abbrev pub tried_answered : {V : Type 0} → Result (Result (Bor V) (Bor V)) Refused
     → Result (Result V V) Refused
 tried_answered (Ok (Ok stored)) = Ok (Ok stored.now)
 tried_answered (Ok (Err current)) = Ok (Err current.now)
 tried_answered (Err refused) = Err refused
 
--- what a compute did, with entries in the place of references to them, or a refusal
+-- the result of a compute with entries in place of the references to them, or a refusal
 abbrev pub compute_answered : {K V T : Type 0} → Result (Compute K V T) Refused
     → Result (Computed (K × V) T) Refused
 compute_answered (Ok (shown.Inserted key value)) = Ok (Inserted (key.now, value.now))

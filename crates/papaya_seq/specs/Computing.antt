@@ -1,4 +1,4 @@
--- How a compute goes: what is kept of its closure's answer, and what is answered of its
+-- How a compute is made: what is kept of its closure's result, and what the call returns for its
 -- machine's reply.
 use Rattle.std.specs.Prelude.{◌≡◌, ℕ, Option, Some, Result, Ok, Err}
 use Rattle.papaya_words.specs.declared.refused.Refused.{Refused}
@@ -14,8 +14,8 @@ use Rattle.papaya_core_store.specs.declared.pairs.Part.TheVariants.{Own}
 use Rattle.papaya_words_keys.specs.declared.results.Computed.{Computed}
 use Rattle.papaya_words_keys.specs.declared.results.Computed.TheVariants.{Inserted, Updated, Removed, Aborted}
 
--- a closure's answer is told without what it owns, and that is kept: the value of an insertion, and
--- what the call is ended with
+-- the machine is given only the kind of the operation that the closure returned; the value to
+-- insert, or the value to abort with, is kept by the call
 abbrev pub IsKept : {V T : Type 0} → Operation V T → Answer → Option (Part V) → Option (Part V)
     → Option T → Option T → Type 0
 IsKept (Insert v) answer value value' aborted aborted' = (answer ≡ Op kinds.Insert)
@@ -25,7 +25,8 @@ IsKept Remove answer value value' aborted aborted' = (answer ≡ Op kinds.Remove
 IsKept (Abort t) answer value value' aborted aborted' = (answer ≡ Op (kinds.Abort 0))
     × (value' ≡ value) × (aborted' ≡ Some t)
 
--- a compute replies so: where its closure ended it, what it ended it with was kept
+-- this is a reply of a compute; if the closure aborted the compute, the value that it aborted with
+-- was kept
 abbrev pub Replies : {T : Type 0} → Reply → Option T → Type 0
 Replies (replies.Inserted n) aborted = Unit {0}
 Replies (replies.Replaced m n) aborted = Unit {0}
@@ -38,7 +39,7 @@ Replies (replies.Occupied n) aborted = ⊥
 Replies (replies.Kept n) aborted = ⊥
 Replies replies.Done aborted = ⊥
 
--- and this is answered of it
+-- `answer` is what the compute returns for this reply
 abbrev pub IsComputed : {T : Type 0} → Reply → Option T → Result (Computed ℕ T) Refused → Type 0
 IsComputed (replies.Inserted n) aborted answer = answer ≡ Ok (Inserted n)
 IsComputed (replies.Replaced m n) aborted answer = answer ≡ Ok (Updated m n)
@@ -52,7 +53,7 @@ IsComputed (replies.Occupied n) aborted answer = ⊥
 IsComputed (replies.Kept n) aborted answer = ⊥
 IsComputed replies.Done aborted answer = ⊥
 
--- the reply that says what a compute did
+-- the reply that corresponds to the result of a compute
 abbrev pub reply_of : Result (Computed ℕ ℕ) Refused → Reply
 reply_of (Ok (Inserted n)) = replies.Inserted n
 reply_of (Ok (Updated m n)) = replies.Replaced m n

@@ -1,5 +1,5 @@
--- The copy of the root by a loop over the slots of a chunk: where its turns lead the machine of a
--- copy, that nothing runs.
+-- The copy of the root by a loop over the slots of a chunk: the state to which each of its turns
+-- would bring the machine of a copy, which is never run.
 use Rattle.std.specs.Prelude.{◌≡◌, ℕ, Bool, false, List, [], ◌∷◌, Option, Some, None, length}
 use Rattle.papaya_words.specs.Table.{TableWords}
 use Rattle.papaya_words.specs.declared.resize_mode.ResizeMode.{ResizeMode}
@@ -29,12 +29,12 @@ use Rattle.papaya_core_store.specs.CopyAsks.{PerformsCopy}
 use Rattle.papaya_core_store.specs.Store.{StoreState}
 use Rattle.papaya_core_store.specs.Tables.{table_of}
 
--- each table has the size of a table
+-- each table has a size that tables may have
 abbrev pub IsSized : {K V S : Type 0} → StoreState K V S → Type 0
 IsSized store = (n : ℕ) (t : TableWords) → table_of store.words.tables n ≡ Some t
     → IsSize (length t.slots) t.limit
 
--- what a call asks that is set aside
+-- what a call that is set aside asks for its copy
 abbrev pub copy_in : Ask → Option CopyAsk
 copy_in (asks.Call ask) = None
 copy_in (asks.Copy ask) = Some ask
@@ -42,7 +42,7 @@ copy_in (asks.Copy ask) = Some ask
 abbrev pub copy_of : Machine → Option CopyAsk
 copy_of m = copy_in (ask_of m)
 
--- what a copy of the root asks while it goes on, and where an answer leads it
+-- what a copy of the root asks while it goes on; `led_on` is the copy after an answer
 abbrev pub asked_in : Copied → Option CopyAsk
 asked_in (On copying) = Some (copying_ask copying)
 asked_in _ = None
@@ -51,14 +51,14 @@ abbrev pub led_on : ResizeMode → (initial number : ℕ) → Copied → Answer 
 led_on mode initial number (On copying) answer = copying_after copying mode initial number answer
 led_on mode initial number copied answer = copied
 
--- a slot is settled, or its copy stands here
+-- None says that a slot is settled, and otherwise its copy is in the state `settle`
 abbrev pub settled_as : Option Settle → Settled
 settled_as None = settled_to.Settled
 settled_as (Some settle) = settled_to.On settle
 
 module _ {K V S : Type 0} (eq : K → K → Bool) (hash : S → K → ℕ) where
-  -- A machine that asks so, and whom answers lead on so, comes to another one when the store
-  -- answers each of its asks.
+  -- A machine becomes m' when these answers are given to its asks, each by the store. `asks m` is
+  -- what it asks, and `leads_on m answer` the machine after an answer.
   abbrev pub Copies : {M : Type 0} → (M → Option CopyAsk) → (M → Answer → M) → List Answer
       → StoreState K V S → M → StoreState K V S → M → Type 0
   Copies asks leads_on [] s m s' m' = (s' ≡ s) × (m' ≡ m)
@@ -66,7 +66,7 @@ module _ {K V S : Type 0} (eq : K → K → Bool) (hash : S → K → ℕ) where
       × (middle : StoreState K V S) × PerformsCopy eq hash false ask s answer middle
       × Copies asks leads_on rest middle (leads_on m answer) s' m'
 
-  -- a call that is set aside does so, and a call that resizes
+  -- the same for a call that is set aside; `CopiesResizer` is the same for a call that resizes
   abbrev pub CopiesCall : StoreState K V S → Machine → StoreState K V S → Machine → Type 0
   CopiesCall s m s' m' = (answers : List Answer) × Copies copy_of after answers s m s' m'
 
@@ -75,16 +75,16 @@ module _ {K V S : Type 0} (eq : K → K → Bool) (hash : S → K → ℕ) where
       × Copies resizers.ask_of resizers.after answers s z s' z'
 
   module _ (mode : ResizeMode) where
-    -- a copy of the root does so
+    -- the same for a copy of the root
     abbrev pub Comes : StoreState K V S → Copied → StoreState K V S → Copied → Type 0
     Comes s from s' to = (initial number : ℕ) → (answers : List Answer)
         × Copies asked_in (led_on mode initial number) answers s from s' to
 
-    -- so does the copy of a chunk, whatever it is for
+    -- the same for the copy of a chunk, whatever its aim is
     abbrev pub Steps : StoreState K V S → Step → StoreState K V S → Step → Type 0
     Steps s from s' to = (aim : Aim) → Comes s (On (Stepping aim from)) s' (On (Stepping aim to))
 
-    -- and the copy of a slot, in whichever chunk
+    -- the same for the copy of a slot, whatever its aim and its chunk are
     abbrev pub Settles : SlotToCopy → StoreState K V S → Settled → StoreState K V S → Settled → Type 0
     Settles slot s from s' to = (aim : Aim) (chunk : Chunk) → slot_of chunk ≡ slot
         → Comes s (leads aim mode (steps.settled_to chunk from)) s'

@@ -1,4 +1,4 @@
--- A lookup by the words that stand in the tables.
+-- A lookup whose asks are answered by the words of the tables.
 use Rattle.std.specs.Prelude.{◌≡◌, Bool, false, Option, Some, None, List, [], ◌∷◌}
 use Rattle.papaya_call.specs.declared.ask.Ask.{Ask}
 use Rattle.papaya_call.specs.declared.ask.Ask.TheVariants.{Load, LoadHint, SameKey, SizeOf, Done}
@@ -14,12 +14,12 @@ use Rattle.papaya_core_store.specs.Store.{StoreState, Stored, pair_of}
 use Rattle.papaya_core_store.specs.Tables.{hint_at, table_of, word_at}
 use Rattle.papaya_seq.specs.Map.{HasNone, Holds}
 
--- does the key that is looked for match the pair's, where there is one
+-- whether there is a pair and its key matches
 abbrev pub matches_in : {K V : Type 0} → (K → Bool) → Option (Stored K V) → Bool
 matches_in matches None = false
 matches_in matches (Some p) = matches p.key
 
--- what the search of a table asks, and the load of the root
+-- an ask of the search of a table, or the load of the root
 abbrev pub IsSearchAsk : Ask → Type 0
 IsSearchAsk (Load Root) = Unit {0}
 IsSearchAsk (Load (Slot t i)) = Unit {0}
@@ -29,8 +29,8 @@ IsSearchAsk (SizeOf t) = Unit {0}
 IsSearchAsk _ = ⊥
 
 module _ {K V S : Type 0} (matches : K → Bool) (store : StoreState K V S) where
-  -- a load is answered by the word or the hint that stands there, a size by the table, a comparison
-  -- by the pair
+  -- `answer` is true of the store: a load is answered by the word or the hint that is there, a size
+  -- by the table, and a comparison by whether the pair's key matches
   abbrev pub IsToldBy : Ask → Answer → Type 0
   IsToldBy (Load at) answer = answer ≡ Word (word_at store.words at)
   IsToldBy (LoadHint t i) answer = answer ≡ Word (hint_at store.words t i)
@@ -38,30 +38,32 @@ module _ {K V S : Type 0} (matches : K → Bool) (store : StoreState K V S) wher
   IsToldBy (SizeOf t) answer = answer ≡ size_of (table_of store.words.tables t)
   IsToldBy _ answer = ⊥
 
-  -- the machine replies this when each of its asks is answered so
+  -- the machine replies `reply` when these answers are given to its asks, and each is true of the
+  -- store
   abbrev pub Replies : Machine → List Answer → Reply → Type 0
   Replies m [] reply = ask_of m ≡ Done reply
   Replies m (answer ∷ rest) reply = IsToldBy (ask_of m) answer × Replies (after m answer) rest reply
 
-  -- the machine searches the root, and comes to another one when each of its asks is answered so
+  -- the machine m becomes m' when these answers are given to its asks, which are asks of a search,
+  -- and each is true of the store
   abbrev pub Comes : Machine → List Answer → Machine → Type 0
   Comes m [] m' = m' ≡ m
   Comes m (answer ∷ rest) m' = IsSearchAsk (ask_of m) × IsToldBy (ask_of m) answer
       × Comes (after m answer) rest m'
 
--- the reply that names the pair that was found
+-- the reply to a lookup that found this: the number of the pair, or `Absent`
 abbrev pub reply_of : {K V : Type 0} → Option (Stored K V) → Reply
 reply_of None = Absent
 reply_of (Some p) = Found p.number
 
 module _ {K V S : Type 0} (eq : K → K → Bool) (matches : K → Bool) (store : StoreState K V S) where
-  -- the pair that was found is the map's, or there is none
+  -- the pair is the map's pair whose key matches, or no pair of the map matches
   abbrev pub IsFound : Option (Stored K V) → Type 0
   IsFound None = HasNone eq matches store
   IsFound (Some p) = Holds eq matches store p × (pair_of store p.number ≡ Some p)
 
-  -- A lookup by this machine finds the map's pair, or that there is none, and this is what the
-  -- machine replies when each of its asks is answered by what stands in the tables.
+  -- A lookup by the machine m finds `found`, the map's pair or None, and the machine gives that
+  -- reply when its asks are answered by what is in the tables.
   abbrev pub LooksUp : Machine → Option (Stored K V) → Type 0
   LooksUp m found = IsFound found × ((answers : List Answer)
       × Replies matches store m answers (reply_of found))

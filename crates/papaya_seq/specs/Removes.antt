@@ -20,20 +20,20 @@ use Rattle.papaya_seq.specs.Looks.{matches_in}
 use Rattle.papaya_seq.specs.Map.{HasNone, Holds, KeepsRemoving, MapState, Removes, Unchanged, entry_of}
 use Rattle.papaya_seq.specs.Resizes.{IsCopyCause}
 
--- the closure, as it is, may answer this of the pair that it is shown
+-- called with the pair p, the closure in state f may return `agrees`
 abbrev pub Judges : {F K V : Type 0} → Mut F (Bor K × (Bor V × Unit {0})) Bool → F → Stored K V
     → Bool → Type 0
 Judges {F = F} {K = K} {V = V} g f p agrees = (key : Bor K) × (value : Bor V) × (f' : F)
     × (key.now ≡ p.key) × (value.now ≡ p.value) × Called g f (key, (value, tt)) agrees f'
 
--- it answers this, and is f' then
+-- the same, and the call leaves the closure in state f'
 abbrev pub JudgesTo : {F K V : Type 0} → Mut F (Bor K × (Bor V × Unit {0})) Bool → F → F
     → Stored K V → Bool → Type 0
 JudgesTo {K = K} {V = V} g f f' p agrees = (key : Bor K) × (value : Bor V) × (key.now ≡ p.key)
     × (value.now ≡ p.value) × Called g f (key, (value, tt)) agrees f'
 
--- A removal's closure is f' when the call has replied so: it was called once, with the pair of this
--- number, or not at all.
+-- When a removal has replied, its closure is in state f': it was called once, with the pair of the
+-- number in the reply, or not at all.
 abbrev pub IsCalledFor : {F K V S : Type 0} → Mut F (Bor K × (Bor V × Unit {0})) Bool
     → StoreState K V S → Reply → F → F → Type 0
 IsCalledFor {K = K} {V = V} g s (Removed n) f f' = (p : Stored K V) × (pair_of s n ≡ Some p)
@@ -42,7 +42,8 @@ IsCalledFor {K = K} {V = V} g s (Kept n) f f' = (p : Stored K V) × (pair_of s n
     × JudgesTo g f f' p false
 IsCalledFor g s _ f f' = f' ≡ f
 
--- the closure is called once, at the pair where there is one, and what it answers is passed on
+-- if there is a pair, the closure is called with it once and `answer` is what it returned;
+-- otherwise it is not called
 abbrev pub IsShown : {F K V : Type 0} → Mut F (Bor K × (Bor V × Unit {0})) Bool
     → Option (Stored K V) → F → Answer → F → Type 0
 IsShown g None f answer f' = (answer ≡ Ok_done) × (f' ≡ f)
@@ -50,7 +51,8 @@ IsShown {K = K} {V = V} g (Some p) f answer f' = (key : Bor K) × (value : Bor V
     × (key.now ≡ p.key) × (value.now ≡ p.value) × (answer ≡ Yes agrees)
     × Called g f (key, (value, tt)) agrees f'
 
--- a removal shows only a pair, makes nothing and writes no hint
+-- an ask of a removal: it calls its closure only with a pair, makes nothing, writes no hint and is
+-- no reply
 abbrev pub IsRemovalAsk : Ask → Type 0
 IsRemovalAsk (WriteHint t i hint) = ⊥
 IsRemovalAsk ShowNone = ⊥
@@ -63,7 +65,7 @@ IsRemovalAsk (Ask_done reply) = ⊥
 IsRemovalAsk _ = Unit {0}
 
 module _ {K V S F : Type 0} (g : Mut F (Bor K × (Bor V × Unit {0})) Bool) (matches : K → Bool) where
-  -- an ask of a removal is answered by the store, and a showing by the closure
+  -- an ask of a removal is answered by the store, and a call of the closure by the closure
   abbrev pub IsRemovalAnswer : Ask → StoreState K V S → F → Answer → StoreState K V S → F → Type 0
   IsRemovalAnswer (Load at) s f answer s' f' = (answer ≡ Word_read (word_at s.words at)) × (s' ≡ s)
       × (f' ≡ f)
@@ -81,13 +83,14 @@ module _ {K V S F : Type 0} (g : Mut F (Bor K × (Bor V × Unit {0})) Bool) (mat
   IsRemovalAnswer ask s f answer s' f' = ⊥
 
 module _ {K V S : Type 0} (eq : K → K → Bool) (matches : K → Bool) where
-  -- the pair of this number is the map's pair whose key matches
+  -- p is the map's pair whose key matches, and n is its number
   pub record IsHeld (n : ℕ) (s : StoreState K V S) (p : Stored K V) : Type 0 where
     pub held : Holds eq matches s p
     pub logged : pair_of s n ≡ Some p
 
-  -- A removal by this key: the pair that the closure agreed to went, or the map is as it was.
-  -- `said` is what the closure answered of a pair.
+  -- What a removal did that replied `reply`: it removed the pair for which the closure returned
+  -- `true`, or left the finite map as it was. `said p agrees` states that the closure returned
+  -- `agrees` for the pair p.
   abbrev pub IsRemoval : (Stored K V → Bool → Type 0) → StoreState K V S → Reply → StoreState K V S
       → Type 0
   IsRemoval said s Absent s' = HasNone eq matches s × Unchanged eq s s'
@@ -97,14 +100,14 @@ module _ {K V S : Type 0} (eq : K → K → Bool) (matches : K → Bool) where
   IsRemoval said s (Refused refused) s' = Unchanged eq s s'
   IsRemoval said s _ s' = ⊥
 
--- the same as one fact, of which a proof can read what the closure may answer
+-- the same as a record, so that a proof can read `said` off its type
 pub record IsRemovalBy {K V S : Type 0} (eq : K → K → Bool) (matches : K → Bool)
     (said : Stored K V → Bool → Type 0) (s : StoreState K V S) (reply : Reply)
     (s' : StoreState K V S) : Type 0 where
   pub removal : IsRemoval eq matches said s reply s'
 
--- What a removal answers: what it shows of the pair that went, or that there is none, or a refusal,
--- which has the cause of a resize that could not be ended.
+-- The result of a removal: `shows p` for the removed pair p, None if no key matches, or a refusal,
+-- whose cause is a resize that could not be completed.
 abbrev pub IsRemoved : {K V S R : Type 0} → (K → K → Bool) → (K → Bool) → (Stored K V → R)
     → MapState K V S → Result (Option R) words.Refused → MapState K V S → Type 0
 IsRemoved eq matches shows s (Ok None) s' = HasNone eq matches s.store
@@ -116,9 +119,9 @@ IsRemoved eq matches shows s (Err refused) s' = IsCopyCause s refused s'
 
 module _ {K V S : Type 0} (eq : K → K → Bool) (matches : K → Bool)
     (said : Stored K V → Bool → Type 0) where
-  -- What a removal answers whose closure judges: the entry that it agreed to and that went, or
-  -- that there is none, or the entry that stays, or a refusal. `said` is what the closure answered
-  -- of a pair.
+  -- The result of a removal with a closure: the removed entry, for which the closure returned
+  -- `true`; None if no key matches; the entry that stays, for which it returned `false`; or a
+  -- refusal. `said p agrees` states that the closure returned `agrees` for the pair p.
   abbrev pub IsJudged : MapState K V S → Result (Result (Option (K × V)) (K × V)) words.Refused
       → MapState K V S → Type 0
   IsJudged s (Ok (Ok None)) s' = HasNone eq matches s.store × Unchanged eq s.store s'.store

@@ -1,4 +1,5 @@
--- The search of one table: where its turns lead the machine of a call, that nothing runs.
+-- The search of one table by plain code: the state to which each of its steps would bring the
+-- machine of a call, which is never run.
 use Rattle.std.specs.Prelude.{◌≡◌, ℕ, zero, suc, ◌+◌, ◌*◌, ◌-◌, ◌≤◌, Bool, true, List, Some, length}
 use Rattle.papaya_words.specs.Table.{TableWords}
 use Rattle.papaya_words.specs.Word.{kind_of, pair_of as number_of}
@@ -21,7 +22,7 @@ use Rattle.papaya_seq.specs.Looks.{Comes, matches_in}
 use Rattle.papaya_seq.specs.declared.search.ProbeHit.{ProbeHit}
 use Rattle.papaya_seq.specs.declared.search.ProbeHit.TheVariants as turns
 
--- the search loads no word and compares no key next, and asks for no size
+-- after this step the search has no word to load, no key to compare and no size to ask for
 abbrev pub IsTurned : ProbeStep → Type 0
 IsTurned (On (Sizing t)) = ⊥
 IsTurned (On (Looking at)) = Unit {0}
@@ -31,37 +32,37 @@ IsTurned (Empty at) = Unit {0}
 IsTurned (Here at word) = Unit {0}
 IsTurned (Over t) = Unit {0}
 
--- what a turn has seen
+-- the outcome of one place, as a step of the machine's search
 abbrev pub seen_by : ProbeHit → ProbeStep
 seen_by (turns.Next at) = On (Looking at)
 seen_by (turns.Empty at) = Empty at
 seen_by (turns.Here at word) = Here at word
 seen_by (turns.Over t) = Over t
 
--- How many answers a search at this place has before it, at most: for each place its hint, its word
--- and a comparison.
+-- How many answers a search at this place needs at most before it ends: three for each place that
+-- is left, for its hint, its word and a comparison.
 abbrev pub left_at : Place → ℕ
 left_at at = 3 * (at.limit + 1 - at.probe.len) + 1
 
--- what is left after a turn
+-- the same bound after the outcome of a place, 0 if the search is over
 abbrev pub left_to : ProbeHit → ℕ
 left_to (turns.Next at) = left_at at
 left_to _ = 0
 
--- Where nothing was seen, the word at the place is of an empty slot, and where a pair was found, or
--- is to be compared, it names the pair.
+-- If the search stopped at an empty place, the word of that place is that of an empty slot. If it
+-- found a pair or is to compare one, the word of the place is the one that it loaded.
 abbrev pub StandsBy : (At → ℕ) → ProbeStep → Type 0
 StandsBy words (Empty at) = kind_of (words (Slot at.table at.probe.i)) ≡ Is_empty
 StandsBy words (Here at word) = words (Slot at.table at.probe.i) ≡ word
 StandsBy words (On (Comparing at word)) = words (Slot at.table at.probe.i) ≡ word
 StandsBy words _ = Unit {0}
 
--- a table of this number is there, and has so many slots
+-- there is a table of this number, and it has `slots` slots
 abbrev pub IsThere : {K V S : Type 0} → StoreState K V S → (number slots : ℕ) → Type 0
 IsThere store number slots =
     (t : TableWords) × (table_of store.words.tables number ≡ Some t) × (length t.slots ≡ slots)
 
--- a search that goes on stands in a table of which this is so
+-- a search that goes on at a place is in a table whose number and length satisfy `so`
 abbrev pub GoesOnIn : ((number slots : ℕ) → Type 0) → ProbeStep → Type 0
 GoesOnIn so (On (Sizing t)) = Unit {0}
 GoesOnIn so (On (Looking at)) = so at.table at.len
@@ -77,18 +78,19 @@ module _ {K V S : Type 0} (matches : K → Bool) (store : StoreState K V S) (has
   IsMatchedBy (Here at word) = matches_in matches (pair_of store (number_of word)) ≡ true
   IsMatchedBy _ = Unit {0}
 
-  -- Any call of this hash that stands here comes to where what was seen leads it, when each of its
-  -- asks is answered by what stands in the tables.
+  -- Any call with this hash that is in `state` comes to the state that follows from `seen`, if its
+  -- asks are answered by what is in the tables.
   abbrev pub SeesFrom : State → ProbeStep → Type 0
   SeesFrom state seen = (m : Machine) → (answers : List Answer)
       × Comes matches store (record m { hash = hash; state = state }) answers
       (record m { hash = hash; state = goes m seen })
 
-  -- so it does from this place
+  -- the same for a call that is about to load the hint of this place
   abbrev pub Sees : Place → ProbeStep → Type 0
   Sees at seen = SeesFrom (Searching (Looking at)) seen
 
-  -- A turn leads on from this state so.
+  -- One step of the search brings a call in `state` to the outcome `turn`, and what the outcome
+  -- names is in the tables.
   pub record IsTurnFrom (state : State) (turn : ProbeHit) : Type 0 where
     pub sees : SeesFrom state (seen_by turn)
     pub within : IsProbed (seen_by turn)
@@ -96,43 +98,44 @@ module _ {K V S : Type 0} (matches : K → Bool) (store : StoreState K V S) (has
     pub stands : StandsBy (λ at. word_at store.words at) (seen_by turn)
     pub matched : IsMatchedBy (seen_by turn)
 
-  -- A turn leads on so from a place, by its hint, and where that says nothing or is the key's, by
-  -- its word.
+  -- One step from the place `at`: `IsTurn` begins with its hint, and loads its word if the hint
+  -- says nothing or is the key's; `IsReadTurn` begins with its word.
   abbrev pub IsTurn : Place → ProbeHit → Type 0
   IsTurn at turn = IsTurnFrom (Searching (Looking at)) turn
 
   abbrev pub IsReadTurn : Place → ProbeHit → Type 0
   IsReadTurn at turn = IsTurnFrom (Searching (Reading at)) turn
 
-  -- The search of the root led so from the call's begin.
+  -- The search of the root brings a call that begins to the outcome `turn`.
   pub record IsRootTurn (turn : ProbeHit) : Type 0 where
     pub sees : SeesFrom AtRoot (seen_by turn)
     pub stands : StandsBy (λ at. word_at store.words at) (seen_by turn)
     pub matched : IsMatchedBy (seen_by turn)
 
--- A search passed by the places of other keys, from the first one on: it loads the word of a place
--- that is no further from its end, or the table is passed.
+-- A search skipped the places of other keys, from `first` on: it is about to load the word of a
+-- place that is no further from the end than `first`, or it has passed the whole table.
 abbrev pub IsPassedTo : Place → ProbeStep → Type 0
 IsPassedTo first (On (Reading at)) = left_at at ≤ left_at first
 IsPassedTo first (Over n) = Unit {0}
 IsPassedTo first _ = ⊥
 
--- where a search goes on, that looks at a place next
+-- the search continued by `rest` if it looks at another place next; any other step stays as it is
 abbrev pub passed_on : (Place → ProbeStep) → ProbeStep → ProbeStep
 passed_on rest (On (Looking next)) = rest next
 passed_on rest seen = seen
 
 module _ {K V S : Type 0} (store : StoreState K V S) (hash : ℕ) where
-  -- what the hint of a place tells
+  -- the step to which the hint of a place leads
   abbrev pub seen_at : Place → ProbeStep
   seen_at at = hinted at hash (hint_at store.words at.table at.probe.i)
 
-  -- and those of so many places behind it, while each leads on
+  -- the step to which the hints of this place and of up to n places after it lead, while each leads
+  -- to the next place
   abbrev pub passed_by : ℕ → Place → ProbeStep
   passed_by zero at = seen_at at
   passed_by (suc n) at = passed_on (λ next. passed_by n next) (seen_at at)
 
-  -- A search passed by places, from this one on, by their hints alone.
+  -- A search skipped places from `at` on by their hints alone, and came to the step `seen`.
   pub record IsPassed (at : Place) (seen : ProbeStep) : Type 0 where
     pub hints : (n : ℕ) × (seen ≡ passed_by n at)
     pub within : IsProbed seen

@@ -1,4 +1,4 @@
--- A walk of the map: which pairs are left to it.
+-- An iteration over the map, and the pairs that it has yet to return.
 use Rattle.std.specs.Prelude.{◌≡◌, ◌⊎◌, ℕ, zero, suc, ◌+◌, ◌<◌, ◌≤◌, ◌||◌, Bool, false, List, [], ◌∷◌, ◌++◌, Option, Some, None, drop, is_some, length, map}
 use denote.Bor.{Bor}
 use Rattle.papaya_words.specs.Probe.{place}
@@ -24,20 +24,20 @@ module _ {K V S : Type 0} (store : StoreState K V S) where
   abbrev pub pairs_at : ℕ → List (Stored K V)
   pairs_at t = pairs_in_table (table_of store.words.tables t)
 
-  -- the table so many links after this one
+  -- the number of the table that comes n links after table t
   abbrev pub table_after : ℕ → ℕ → ℕ
   table_after zero t = t
   table_after (suc n) t = table_after n (word_at store.words (Next t))
 
-  -- a word of the table says that the pair of this number is being copied
+  -- some slot of table t is Marked and names the pair of number n
   pub record HasMark (t n : ℕ) : Type 0 where
     pub slot : ℕ
     pub within : slot < slots_in (table_of store.words.tables t)
     pub marked : kind_of (word_at store.words (Slot t slot)) ≡ Marked
     pub names : number_of (word_at store.words (Slot t slot)) ≡ n
 
-  -- No place of this hash has such a word before the search ends: there is no further place, or an
-  -- empty one.
+  -- No place of this hash before `stop` has such a word, and the search ends at `stop`: there is no
+  -- further place, or that place is empty.
   pub record HasNoMarkAt (hash t n : ℕ) (table : TableWords) : Type 0 where
     pub stop : ℕ
     pub none : (j : ℕ) → j < stop
@@ -54,22 +54,22 @@ module _ {K V S : Type 0} (store : StoreState K V S) where
   HasNoMark hash t n = HasNoMarkIn hash t n (table_of store.words.tables t)
 
 module _ {K V S : Type 0} (eq : K → K → Bool) (store : StoreState K V S) where
-  -- one of so many tables, from this one on, has a pair of the key
+  -- one of `many` tables, from table t on, has a pair of the key
   abbrev pub has_in : (many t : ℕ) → K → Bool
   has_in zero t k = false
   has_in (suc many) t k = is_some (lookup eq (λ p. p.key) (pairs_at store t) k)
       || has_in many (word_at store.words (Next t)) k
 
-  -- The pairs of a table from this slot on, and those of the tables behind it, over n tables at
-  -- most, of whose keys the table has none.
+  -- The pairs of a table from slot `slot` on, and then the pairs of the tables after it, at most n,
+  -- whose keys the table does not have.
   abbrev pub rest_of : (slot n : ℕ) → Option TableWords → List (Stored K V)
   rest_of slot n None = []
   rest_of slot n (Some t) = pairs_of_slots store (drop slot t.slots)
       ++ missing_in eq (λ p. p.key) (pairs_of_slots store t.slots)
       (pairs_from eq store n (table_of store.words.tables t.next))
 
-  -- The same where so many tables were passed, from table t on, over n tables: none is left of
-  -- whose key a passed one has a pair.
+  -- The same after `passed` tables, from table t on, were passed, over at most n tables. The pairs
+  -- whose keys a passed table has are left out.
   abbrev pub left_from : (passed slot n t : ℕ) → List (Stored K V)
   left_from zero slot zero t = []
   left_from zero slot (suc n) t = rest_of slot n (table_of store.words.tables t)
@@ -77,54 +77,55 @@ module _ {K V S : Type 0} (eq : K → K → Bool) (store : StoreState K V S) whe
   left_from (suc passed) slot (suc n) t = missing_in eq (λ p. p.key) (pairs_at store t)
       (left_from passed slot n (word_at store.words (Next t)))
 
-  -- what is left to a walk that stands here
+  -- the pairs that an iteration at this position has yet to return
   abbrev pub left_to : Stand → List (Stored K V)
   left_to at = left_from at.passed at.slot (length store.words.tables) store.words.root
 
   abbrev pub entries_left : Stand → List (K × V)
   entries_left at = map entry_of (left_to at)
 
-  -- A step over a slot gives nothing, or the first of what is left.
+  -- A step over a slot returns None if the same pairs are left after it, and otherwise the first
+  -- pair that was left.
   abbrev pub IsStepped : Stand → Option ℕ → Type 0
   IsStepped at None = left_to at ≡ left_to (record at { slot = at.slot + 1 })
   IsStepped at (Some n) = (p : Stored K V) × (pair_of store n ≡ Some p)
       × (left_to at ≡ p ∷ left_to (record at { slot = at.slot + 1 }))
 
-  -- Where a walk stands after it was asked for the next pair of its table: behind that pair, or
-  -- behind the table's slots.
+  -- The position of an iteration after it was asked for the next pair of its table: after that
+  -- pair, or, if it returned None, after the last slot of the table.
   abbrev pub IsNextHere : Stand → Option ℕ → Stand → Type 0
   IsNextHere at None at' = (left_to at ≡ left_to at')
       × (slots_in (table_of store.words.tables at'.table) ≤ at'.slot)
   IsNextHere at (Some n) at' = (p : Stored K V) × (pair_of store n ≡ Some p)
       × (left_to at ≡ p ∷ left_to at')
 
-  -- and of the map
+  -- the same for the next pair of the map; None means that no pair is left
   abbrev pub IsNext : Stand → Option ℕ → Stand → Type 0
   IsNext at None at' = (left_to at ≡ []) × (left_to at' ≡ [])
   IsNext at (Some n) at' = (p : Stored K V) × (pair_of store n ≡ Some p)
       × (left_to at ≡ p ∷ left_to at')
 
--- the word at this stand has the pair of this number
+-- the word at this position is Live or Marked and names the pair of number n
 pub record IsWord {K V S : Type 0} (store : StoreState K V S) (at : Stand) (n : ℕ) : Type 0 where
   pub within : at.slot < slots_in (table_of store.words.tables at.table)
   pub kind : (kind_of (word_at store.words (Slot at.table at.slot)) ≡ Live)
       ⊎ (kind_of (word_at store.words (Slot at.table at.slot)) ≡ Marked)
   pub names : number_of (word_at store.words (Slot at.table at.slot)) ≡ n
 
--- the walk stands in the root, which has so many slots
+-- the iteration is in the root, to which `root` refers and which has `slots` slots
 abbrev pub IsInRoot : {K V S : Type 0} → StoreState K V S → Stand → Option (Bor TableWords) → ℕ
     → Type 0
 IsInRoot store at None slots = ⊥
 IsInRoot store at (Some root) slots = (table_of store.words.tables at.table ≡ Some root.now)
     × (at.passed ≡ 0) × (slots ≡ length root.now.slots)
 
--- so it does, or it holds none
+-- the same, or the iteration has no slots to read
 abbrev pub IsHeld : {K V S : Type 0} → StoreState K V S → Stand → Option (Bor TableWords) → ℕ
     → Type 0
 IsHeld store at root slots = (slots ≡ 0) ⊎ IsInRoot store at root slots
 
--- a walk may stand here
+-- an iteration may be at this position: its table comes `passed` links after the root
 pub record IsStand {K V S : Type 0} (s : MapState K V S) (at : Stand) : Type 0 where
   pub on : table_after s.store at.passed s.store.words.root ≡ at.table
-  -- with blocking the root has all
+  -- with blocking the root has all pairs
   pub alone : s.mode.resize ≡ Blocking → at.passed ≡ 0

@@ -1,5 +1,4 @@
--- What is done at one place of a table: a pair is stored there, or the one that stands there is
--- taken out.
+-- Writes at one place of a table: a pair is stored there, or the pair that is there is removed.
 use Rattle.std.specs.Prelude.{◌≡◌, ◌≢◌, ◌<◌, ◌==◌, MatchBool, ℕ, pos, negsuc, [], ◌∷◌, ◌++◌, length, slice_get, Option, Some, None}
 use Rattle.papaya_words.specs.Counter.{added}
 use Rattle.papaya_words.specs.Word.{hint_of, live_word, pair_of as number_of}
@@ -27,42 +26,44 @@ abbrev pub slot_of : Place → At
 slot_of place = Slot place.table place.probe.i
 
 module _ {K V S : Type 0} (s : StoreState K V S) where
-  -- a pair was logged, and its word stands at the place
+  -- the store after the pair p was added to the arena and its word written to the place
   abbrev pub storing : Place → Pair K V → StoreState K V S
   storing place p = record s {
     pairs = s.pairs ++ p ∷ [];
     words = put s.words (slot_of place) (live_word (length s.pairs));
   }
 
-  -- the same of a place that was empty: the pair is counted, and its hint stands there
+  -- the same for an empty place: the pair is also counted, and its hint is written
   abbrev pub claiming : (hashed : ℕ) → Place → Pair K V → StoreState K V S
   claiming hashed place p = record (storing place p) {
     words = note (storing place p).words place.table place.probe.i (hint_of hashed);
     count = added s.count 0 (pos 1);
   }
 
-  -- a pair was deleted, and is counted no more
+  -- the store after a removal wrote its tombstone and took 1 from the count
   abbrev pub burying : Removal → StoreState K V S
   burying removal = record s {
     words = put s.words (slot_of removal.place) (grave_word removal.word);
     count = added s.count 0 (negsuc 0);
   }
 
-  -- a pair has this number, and nothing is left of its value
+  -- n is the next number of the arena, which is not full, and nothing is left of the pair's value
   pub record IsStored (n : ℕ) (left : Option V) : Type 0 where
     pub number : n ≡ length s.pairs
     pub few : length s.pairs < MAX_LOG_LEN
     pub left_is : left ≡ None
 
-  -- The key that a pair is logged with for a place where this word stands: where the place is empty
-  -- the one that was handed in, and else by the number of the pair that brought that of the word's.
+  -- The key part of a pair that is stored at a place with the word `old`: the key that was passed
+  -- in if the place is empty, and otherwise the number of the pair that owns the key of the pair
+  -- which `old` names.
   abbrev pub IsKeyFor : (old : ℕ) → K → Part K → Type 0
   IsKeyFor old key part = MatchBool (old == 0) (part ≡ Own_part key) ((first : ℕ)
       × (key_from (number_of old) (slice_get s.pairs (number_of old)) ≡ Some first)
       × (part ≡ Logged first))
 
-  -- What was done with a key and a value for a place, where a pair was wanted: it has the key where
-  -- the place was empty, and else that of the pair that stood there; or the log refused it.
+  -- The effect of storing a key and a value at a place. At an empty place the pair gets the key
+  -- that was passed in; otherwise it replaces the pair that is there and has its key. If the arena
+  -- refuses the pair, nothing changes.
   abbrev pub IsWritten : (hashed : ℕ) → Write → K → V → Reply → Option V → StoreState K V S → Type 0
   IsWritten hashed write key value (Inserted n) left s' = (write.old ≡ 0) × IsStored n left
       × (s' ≡ claiming hashed write.place (Own key value))

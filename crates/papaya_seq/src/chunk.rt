@@ -40,7 +40,7 @@ fn find_place<K: Hash + Eq, V, S: BuildHasher>(
 ) -> Carry
     requires within { IsWithin place }
     requires there { IsThere store.now place.table place.len }
-    ensures finds { (mode : modes.ResizeMode) (slot : slots.Slot) (marked : ℕ) → Settles K.eq
+    ensures finds { (mode : modes.ResizeMode) (slot : slots.SlotToCopy) (marked : ℕ) → Settles K.eq
         (hash_of K.hash_input S.build_hasher S.Hasher.write S.Hasher.finish) mode slot store.now
         (On (settles.Carrying marked (carries.Looking hash place))) store.now
         (On (settles.Carrying marked result)) }
@@ -62,7 +62,7 @@ fn find_place<K: Hash + Eq, V, S: BuildHasher>(
 #[inline(always)]
 fn carry<K: Hash + Eq, V, S: BuildHasher>(store: &Store<K, V, S>, table: u64, marked: u64) -> Carry
     requires { IsSized store.now }
-    ensures carries { (mode : modes.ResizeMode) (slot : slots.Slot) → Settles K.eq
+    ensures carries { (mode : modes.ResizeMode) (slot : slots.SlotToCopy) → Settles K.eq
         (hash_of K.hash_input S.build_hasher S.Hasher.write S.Hasher.finish) mode slot store.now
         (On (settles.Carrying marked (carries.Hashing table))) store.now
         (On (settles.Carrying marked result)) }

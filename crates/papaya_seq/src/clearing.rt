@@ -14,7 +14,8 @@ impl<K: Hash + Eq + Drop, V: Drop, S: BuildHasher> HashMap<K, V, S> {
     ///
     /// # Errors
     ///
-    /// Fails as [`HashMap::copy_all`] does, and then has removed no entry.
+    /// Fails with `Refused::Memory` or `Refused::Capacity`, as [`HashMap::copy_all`] does, and then
+    /// has removed no entry.
     pub fn clear(&mut self) -> Result<(), Refused>
         ensures ok { OnOk result (content K.eq self.new.store ≡ []) }
         ensures last { OnOk result (next_of self.new.store ≡ 0) }

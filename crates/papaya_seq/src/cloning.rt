@@ -183,8 +183,8 @@ impl<K: Hash + Eq + Clone + Drop, V: Clone + Drop, S: BuildHasher + Clone + Drop
     ///
     /// # Errors
     ///
-    /// Fails as [`HashMap::try_clone`] does, never for the limit, and then leaves the map as it
-    /// was.
+    /// Fails with `Refused::Memory` or `Refused::Capacity`, as [`HashMap::try_clone`] does, never
+    /// for the limit, and then leaves the map as it was.
     pub fn reclaim(&mut self) -> Result<(), Refused>
         requires { (k l : K) → K.is_clone k l → K.eq k l ≡ true }
         ensures clones { OnOk result (IsRebuilt K.eq K.is_clone V.is_clone S.is_clone self.old

@@ -23,7 +23,8 @@ impl<K: Hash + Eq + Drop, V: Drop, S: BuildHasher> HashMap<K, V, S> {
     ///
     /// # Errors
     ///
-    /// Fails as [`HashMap::insert`] does.
+    /// Fails with `Refused::Memory`, `Refused::Capacity` or `Refused::Limit`, as
+    /// [`HashMap::insert`] does.
     pub fn put(&mut self, key: K, value: V) -> Result<bool, Refused>
         ensures puts { IsPut K.eq key value self.old result self.new }
         ensures alone { IsDoneAlone K.eq
@@ -45,8 +46,9 @@ impl<K: Hash + Eq + Drop, V: Drop, S: BuildHasher> HashMap<K, V, S> {
     ///
     /// # Errors
     ///
-    /// Fails as [`HashMap::insert`] does for an entry. The entries before it are then in the map,
-    /// and the iterator is not asked for those after it.
+    /// Fails with `Refused::Memory`, `Refused::Capacity` or `Refused::Limit`, as
+    /// [`HashMap::insert`] does for one of the entries. The entries before that one are then in the
+    /// map, and those after it are not taken from the iterator.
     pub fn extend<U: IntoIterator<Item = (K, V)>>(&mut self, iter: U) -> Result<(), Refused>
     where
         U::IntoIter: Drop,
@@ -74,7 +76,8 @@ impl<K: Hash + Eq + Copy + Drop, V: Copy + Drop, S: BuildHasher> HashMap<K, V, S
     ///
     /// # Errors
     ///
-    /// Fails as [`HashMap::extend`] does.
+    /// Fails with `Refused::Memory`, `Refused::Capacity` or `Refused::Limit`, as
+    /// [`HashMap::extend`] does.
     pub fn extend_ref<'a, U: IntoIterator<Item = (&'a K, &'a V)>>(
         &mut self,
         iter: U,

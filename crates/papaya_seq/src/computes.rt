@@ -28,7 +28,8 @@ impl<K: Hash + Eq + Drop, V: Drop, S: BuildHasher> HashMap<K, V, S> {
     ///
     /// # Errors
     ///
-    /// Fails as [`HashMap::compute`] does.
+    /// Fails with `Refused::Memory`, `Refused::Capacity`, `Refused::Limit` or
+    /// `Refused::RemoveNothing`, as [`HashMap::compute`] does.
     pub fn compute_numbered<T: Drop, F: FnMut(Option<(&K, &V)>) -> Operation<V, T>>(
         &mut self,
         key: K,
@@ -54,7 +55,8 @@ impl<K: Hash + Eq + Drop, V: Drop, S: BuildHasher> HashMap<K, V, S> {
     ///
     /// # Errors
     ///
-    /// Fails as [`HashMap::insert`] does, and with `Refused::RemoveNothing` if the closure returns
+    /// Fails with `Refused::Memory`, `Refused::Capacity` or `Refused::Limit`, as
+    /// [`HashMap::insert`] does, and with `Refused::RemoveNothing` if the closure returns
     /// [`Operation::Remove`] without an entry. During a resize it may fail before the closure is
     /// called.
     pub fn compute<T: Drop, F: FnMut(Option<(&K, &V)>) -> Operation<V, T>>(
@@ -87,7 +89,8 @@ impl<K: Hash + Eq + Drop, V: Drop, S: BuildHasher> HashMap<K, V, S> {
     ///
     /// # Errors
     ///
-    /// Fails as [`HashMap::compute`] does.
+    /// Fails with `Refused::Memory`, `Refused::Capacity`, `Refused::Limit` or
+    /// `Refused::RemoveNothing`, as [`HashMap::compute`] does.
     pub fn compute_into<T: Drop, F: FnMut(Option<(&K, &V)>) -> Operation<V, T>>(
         &mut self,
         key: K,
@@ -138,8 +141,8 @@ impl<K: Hash + Eq + Drop, V: Drop, S: BuildHasher> HashMap<K, V, S> {
     ///
     /// # Errors
     ///
-    /// Fails as [`HashMap::insert`] does, but only if the key is in the map or a resize is under
-    /// way.
+    /// Fails with `Refused::Memory`, `Refused::Capacity` or `Refused::Limit`, as
+    /// [`HashMap::insert`] does, but only if the key is in the map or a resize is under way.
     pub fn update<F: Fn(&V) -> V>(&mut self, key: K, f: F) -> Result<Option<&V>, Refused>
         requires { F.IsAlwaysCallable f }
         ensures* updates { sem 𝓛 (ends_so K.row V.row S.row S.Hasher.row K.Hash S.BuildHasher
@@ -178,7 +181,8 @@ impl<K: Hash + Eq + Drop, V: Drop, S: BuildHasher> HashMap<K, V, S> {
     ///
     /// # Errors
     ///
-    /// Fails as [`HashMap::insert`] does.
+    /// Fails with `Refused::Memory`, `Refused::Capacity` or `Refused::Limit`, as
+    /// [`HashMap::insert`] does.
     pub fn update_or_insert<U: Fn(&V) -> V>(
         &mut self,
         key: K,
@@ -205,7 +209,8 @@ impl<K: Hash + Eq + Drop, V: Drop, S: BuildHasher> HashMap<K, V, S> {
     ///
     /// # Errors
     ///
-    /// Fails as [`HashMap::insert`] does.
+    /// Fails with `Refused::Memory`, `Refused::Capacity` or `Refused::Limit`, as
+    /// [`HashMap::insert`] does.
     pub fn update_or_insert_with<U: Fn(&V) -> V, F: FnOnce() -> V>(
         &mut self,
         key: K,
@@ -254,7 +259,8 @@ impl<K: Hash + Eq + Drop, V: Drop, S: BuildHasher> HashMap<K, V, S> {
     ///
     /// # Errors
     ///
-    /// Fails as [`HashMap::insert`] does, but only if the key is absent or a resize is under way.
+    /// Fails with `Refused::Memory`, `Refused::Capacity` or `Refused::Limit`, as
+    /// [`HashMap::insert`] does, but only if the key is absent or a resize is under way.
     pub fn try_insert_with<F: FnOnce() -> V>(
         &mut self,
         key: K,
@@ -299,7 +305,8 @@ impl<K: Hash + Eq + Drop, V: Drop, S: BuildHasher> HashMap<K, V, S> {
     ///
     /// # Errors
     ///
-    /// Fails as [`HashMap::insert`] does, but only if the key is absent or a resize is under way.
+    /// Fails with `Refused::Memory`, `Refused::Capacity` or `Refused::Limit`, as
+    /// [`HashMap::insert`] does, but only if the key is absent or a resize is under way.
     pub fn get_or_insert_with<F: FnOnce() -> V>(&mut self, key: K, f: F) -> Result<&V, Refused>
         requires { map_in K.eq self.old.store key ≡ None → F.pre f }
         ensures* stores { sem 𝓛 (ends_so K.row V.row S.row S.Hasher.row K.Hash S.BuildHasher

@@ -8,8 +8,8 @@ ghost use Rattle.papaya_seq.specs.Map.{Inserts, Removes, value_of};
 
 use std::hash::Hash;
 
-/// A key that was inserted has its value, and a key whose entry was removed has none. Keys that are
-/// not equal to it have what they had.
+/// States that an inserted key has its value, and a key whose entry was removed has none. Keys that
+/// are not equal to it have what they had.
 ///
 /// [`crate::seq::HashMap::get`] returns what the finite map has. So a lookup after an insertion of
 /// its key finds the inserted value.
@@ -26,7 +26,7 @@ pub fn changes_are_found<K: Hash + Eq, V, S>()
         → map_in K.eq s' j ≡ map_in K.eq s j }
 {}
 
-/// A map of clones is equal to its original if clones of values are equal to them.
+/// States that a map of clones is equal to its original if clones of values are equal to them.
 ///
 /// So [`crate::seq::HashMap::eq`] finds a map equal to what it was before
 /// [`crate::seq::HashMap::reclaim`], and to what [`crate::seq::HashMap::try_clone`] makes of it.

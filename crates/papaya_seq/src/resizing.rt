@@ -56,9 +56,9 @@ impl<K: Hash + Eq + Drop, V: Drop, S: BuildHasher> HashMap<K, V, S> {
     /// # Errors
     ///
     /// Fails with `Refused::Capacity` if no table of at most
-    /// [`papaya_words::limits::MAX_TABLE_LEN`] slots has room for the entries; the map is then as
-    /// it was. Otherwise fails as an [`HashMap::insert`] that needs a next table does; moved
-    /// entries then stay moved.
+    /// [`papaya_words::limits::MAX_TABLE_LEN`] slots has room for the entries. The map is then as
+    /// it was. Otherwise fails with `Refused::Memory` or `Refused::Capacity`, as an
+    /// [`HashMap::insert`] that needs a next table does. Moved entries then stay moved.
     pub fn reserve(&mut self, additional: usize) -> Result<(), Refused>
         ensures ok { OnOk result (HasRoomFor K.eq self.old.store additional self.new.store) }
         ensures err { IfErr result (λ e. IsReserveCause K.eq self.old additional e self.new) }
@@ -81,7 +81,8 @@ impl<K: Hash + Eq + Drop, V: Drop, S: BuildHasher> HashMap<K, V, S> {
     ///
     /// # Errors
     ///
-    /// Fails as an [`HashMap::insert`] that needs a next table does. Moved entries then stay moved.
+    /// Fails with `Refused::Memory` or `Refused::Capacity`, as an [`HashMap::insert`] that needs a
+    /// next table does. Moved entries then stay moved.
     pub fn copy_all(&mut self) -> Result<(), Refused>
         ensures ok { OnOk result (next_of self.new.store ≡ 0) }
         ensures err { IfErr result (λ e. IsCopyCause self.old e self.new) }

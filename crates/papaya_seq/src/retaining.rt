@@ -45,8 +45,8 @@ impl<K: Hash + Eq + Drop, V: Drop, S: BuildHasher> HashMap<K, V, S> {
     ///
     /// # Errors
     ///
-    /// Fails as [`HashMap::copy_all`] does, and then has not called the closure and has removed no
-    /// entry.
+    /// Fails with `Refused::Memory` or `Refused::Capacity`, as [`HashMap::copy_all`] does. Then it
+    /// has not called the closure and has removed no entry.
     pub fn retain<F: FnMut(&K, &V) -> bool>(&mut self, mut agrees: F) -> Result<(), Refused>
         requires { F.IsAlwaysCallable agrees }
         ensures ok { OnOk result (IsRetained F.FnMut K.eq agrees self.old.store self.new.store) }
@@ -65,7 +65,7 @@ impl<K: Hash + Eq + Drop, V: Drop, S: BuildHasher> HashMap<K, V, S> {
     ///
     /// # Errors
     ///
-    /// Fails as [`HashMap::retain`] does.
+    /// Fails with `Refused::Memory` or `Refused::Capacity`, as [`HashMap::retain`] does.
     pub fn retain_by<F: FnMut(&K, &V) -> bool>(&mut self, agrees: &mut F) -> Result<(), Refused>
         requires { F.IsAlwaysCallable agrees.old }
         ensures ok { OnOk result (IsRetainedTo F.FnMut K.eq agrees.old self.old.store self.new.store

@@ -62,14 +62,16 @@ fn resized(done: Result<(), Refused>) -> Reply
     }
 }
 
-/// A hash map for one caller: the machines of the shared map, on plain words.
+/// A hash map for one caller: changes take `&mut self`. It ports `papaya::HashMap` to code that has
+/// a `&mut` map, and runs the machines of the shared map on plain words. It needs no guard and no
+/// atomics, and results borrow the map.
 ///
-/// It ports `papaya::HashMap` to code that has a `&mut` map. It needs no guard and no atomics, and
-/// results borrow the map. Contracts see its words and its arena, which represent the finite map
-/// that `map_in` computes.
+/// A replaced or removed entry stays in the arena until [`HashMap::reclaim`], or until the map is
+/// dropped: 24 bytes for two `u64`s.
 ///
-/// Entries that were replaced or removed stay in the arena until [`HashMap::reclaim`], or until the
-/// map is dropped.
+/// In the examples of its calls, `map` is an empty `HashMap<u64, u64>`.
+///
+/// Contracts see its words and its arena, which represent the finite map that `map_in` computes.
 #[derive(Drop)]
 pub struct HashMap<K: Hash + Eq, V, S: BuildHasher = BuildHasherDefault<FoldHasher>> {
     pub(crate) alloc: Global,
@@ -125,7 +127,8 @@ impl<K: Hash + Eq + Drop, V: Drop, S: BuildHasher + Drop> HashMap<K, V, S> {
         })
     }
 
-    /// Creates a map for this many entries, with this hasher: `with_capacity_and_hasher` of 0.2.5.
+    /// Creates an empty map with this hasher, whose first table has room for `capacity` entries:
+    /// `with_capacity_and_hasher` of 0.2.5.
     ///
     /// # Errors
     ///
@@ -147,8 +150,8 @@ impl<K: Hash + Eq + Drop, V: Drop, S: BuildHasher + Drop> HashMap<K, V, S> {
         HashMap::with_parts(alloc, ResizeMode::default(), capacity, 1, hasher, None)
     }
 
-    /// Creates a map with this hasher: `with_hasher` of 0.2.5. The first change makes its first
-    /// table.
+    /// Creates an empty map with this hasher: `with_hasher` of 0.2.5. Its first change allocates
+    /// the first table, of 32 slots.
     ///
     /// # Errors
     ///
@@ -164,8 +167,9 @@ impl<K: Hash + Eq + Drop, V: Drop, S: BuildHasher + Drop> HashMap<K, V, S> {
 }
 
 impl<K: Hash + Eq + Drop, V: Drop> HashMap<K, V, BuildHasherDefault<FoldHasher>> {
-    /// Creates a map that makes its first table at its first change: `new` of 0.2.5. Only the
-    /// hasher differs, which is the same in each run.
+    /// Creates an empty map: `new` of 0.2.5. Its first change allocates the first table, of 32
+    /// slots. The hasher has a fixed seed, where that of 0.2.5 has a random one. If attackers pick
+    /// the keys, pass a `RandomState` to [`HashMap::with_hasher`].
     ///
     /// # Errors
     ///
@@ -180,11 +184,14 @@ impl<K: Hash + Eq + Drop, V: Drop> HashMap<K, V, BuildHasherDefault<FoldHasher>>
         HashMap::with_hasher(alloc, BuildHasherDefault::new())
     }
 
-    /// Creates a map for this many entries: `with_capacity` of 0.2.5.
+    /// Creates an empty map whose first table has room for `capacity` entries: `with_capacity` of
+    /// 0.2.5. The hasher has a fixed seed, where that of 0.2.5 has a random one. If attackers pick
+    /// the keys, pass a `RandomState` to [`HashMap::with_capacity_and_hasher`].
     ///
     /// # Errors
     ///
-    /// Fails as [`HashMap::with_capacity_and_hasher`] does.
+    /// Fails with `Refused::Memory` or `Refused::Capacity`, as
+    /// [`HashMap::with_capacity_and_hasher`] does.
     pub fn with_capacity(
         alloc: Global,
         capacity: usize,
@@ -203,7 +210,7 @@ impl<K: Hash + Eq + Drop, V: Drop> HashMap<K, V, BuildHasherDefault<FoldHasher>>
     ///
     /// # Errors
     ///
-    /// Fails as [`HashMap::new`] does.
+    /// Fails with `Refused::Memory` if memory runs out.
     pub fn default(alloc: Global) -> Result<HashMap<K, V, BuildHasherDefault<FoldHasher>>, Refused>
         ensures new { IfOk result (λ map. IsNew {A = Unit {0}}
             (ResizeMode.Incremental DEFAULT_CHUNK) 0 1 map.store.hasher (core_of map)) }
@@ -216,7 +223,7 @@ impl<K: Hash + Eq + Drop, V: Drop> HashMap<K, V, BuildHasherDefault<FoldHasher>>
 }
 
 impl<K: Hash + Eq, V, S: BuildHasher> HashMap<K, V, S> {
-    /// Returns the number of entries.
+    /// Returns the number of entries: `len` of 0.2.5.
     ///
     /// The contract also states that the arena of a map with a limit has no more entries than the
     /// limit.
@@ -229,7 +236,7 @@ impl<K: Hash + Eq, V, S: BuildHasher> HashMap<K, V, S> {
         self.store.count()
     }
 
-    /// Returns whether the map has no entries.
+    /// Returns whether the map has no entries: `is_empty` of 0.2.5.
     pub fn is_empty(&self) -> bool
         ensures { MatchBool result (content K.eq self.now.store ≡ [])
             (content K.eq self.now.store ≢ []) }
@@ -273,10 +280,19 @@ impl<K: Hash + Eq, V, S: BuildHasher> HashMap<K, V, S> {
         self.store.pair(n)
     }
 
-    /// Returns the value of a key: `get` of 0.2.5. It allocates nothing and never fails.
+    /// Returns the key's value, or `None` if the map has no entry of the key: `get` of 0.2.5. It
+    /// allocates nothing and never fails.
     ///
-    /// The result is what the machine of a lookup replies if each of its loads is answered with the
-    /// word that is in the tables.
+    /// The contract also states that the result is what the machine of a lookup replies if each of
+    /// its loads is answered with the word that is in the tables.
+    ///
+    /// # Examples
+    ///
+    /// ```
+    /// map.insert(1, 10)?;
+    /// let value = map.get(&1); // Some(&10)
+    /// let absent = map.get(&2); // None
+    /// ```
     #[inline(always)]
     pub fn get<Q: Equivalent<K>>(&self, key: &Q) -> Option<&V>
         ensures map { (k : _) → Q.matches key.now k ≡ true
@@ -295,7 +311,8 @@ impl<K: Hash + Eq, V, S: BuildHasher> HashMap<K, V, S> {
         }
     }
 
-    /// Returns the stored key and the value of a key: `get_key_value` of 0.2.5.
+    /// Returns the stored key and its value, or `None` if the map has no entry of the key:
+    /// `get_key_value` of 0.2.5. It allocates nothing and never fails.
     #[inline(always)]
     pub fn get_key_value<Q: Equivalent<K>>(&self, key: &Q) -> Option<(&K, &V)>
         ensures map { (k : _) → Q.matches key.now k ≡ true
@@ -315,7 +332,8 @@ impl<K: Hash + Eq, V, S: BuildHasher> HashMap<K, V, S> {
         }
     }
 
-    /// Returns whether the key is in the map: `contains_key` of 0.2.5.
+    /// Returns whether the map has an entry of the key: `contains_key` of 0.2.5. It allocates
+    /// nothing and never fails.
     #[inline(always)]
     pub fn contains_key<Q: Equivalent<K>>(&self, key: &Q) -> bool
         ensures map { (k : _) → Q.matches key.now k ≡ true
@@ -357,8 +375,8 @@ impl<K: Hash + Eq, V, S: BuildHasher> HashMap<K, V, S> {
 impl<K: Hash + Eq + Drop, V: Drop, S: BuildHasher> HashMap<K, V, S> {
     ghost use Rattle.papaya_seq.specs.Ends.{ends_so};
 
-    /// Inserts an entry, and returns the value that its key had: `insert` of 0.2.5. If the key was
-    /// in the map, the stored key stays, and the new one is dropped.
+    /// Inserts a key-value pair, and returns the key's old value, or `None` if the key was absent:
+    /// `insert` of 0.2.5. As there, a stored key stays, and the key that was passed in is dropped.
     ///
     /// When the places of a table are filled, a next table follows. While entries are being moved
     /// to it, each call that may change the map moves a chunk of them, or with `Blocking` all.
@@ -371,6 +389,13 @@ impl<K: Hash + Eq + Drop, V: Drop, S: BuildHasher> HashMap<K, V, S> {
     /// - `Refused::Capacity` if the arena is full, or if a next table is needed and would be one
     ///   too many or longer than [`papaya_words::limits::MAX_TABLE_LEN`] slots.
     /// - `Refused::Limit` if the map has a limit and that many numbers were taken for entries.
+    ///
+    /// # Examples
+    ///
+    /// ```
+    /// let first = map.insert(1, 10)?.copied(); // None
+    /// let second = map.insert(1, 11)?.copied(); // Some(10)
+    /// ```
     pub fn insert(&mut self, key: K, value: V) -> Result<Option<&V>, Refused>
         ensures* inserts { sem 𝓛 (ends_so K.row V.row S.row S.Hasher.row K.Hash S.BuildHasher
             S.Hasher.Hasher self.entry (λ after.
@@ -397,7 +422,8 @@ impl<K: Hash + Eq + Drop, V: Drop, S: BuildHasher> HashMap<K, V, S> {
     ///
     /// # Errors
     ///
-    /// Fails as [`HashMap::insert`] does, but only if the key is absent or a resize is under way.
+    /// Fails with `Refused::Memory`, `Refused::Capacity` or `Refused::Limit`, as
+    /// [`HashMap::insert`] does, but only if the key is absent or a resize is under way.
     pub fn insert_absent(&mut self, key: K, value: V) -> Result<(u64, Option<V>), Refused>
         ensures tried { IsTried K.eq key value self.old result self.new }
         ensures alone { IsDoneAlone K.eq
@@ -419,7 +445,8 @@ impl<K: Hash + Eq + Drop, V: Drop, S: BuildHasher> HashMap<K, V, S> {
     ///
     /// # Errors
     ///
-    /// Fails as [`HashMap::try_insert`] does.
+    /// Fails with `Refused::Memory`, `Refused::Capacity` or `Refused::Limit`, as
+    /// [`HashMap::try_insert`] does.
     pub fn try_insert_into(
         &mut self,
         key: K,
@@ -460,8 +487,9 @@ impl<K: Hash + Eq + Drop, V: Drop, S: BuildHasher> HashMap<K, V, S> {
     ///
     /// # Errors
     ///
-    /// Fails as [`HashMap::insert`] does, but only if the key is absent or a resize is under way.
-    /// `err` states this by a run of the call on the map before.
+    /// Fails with `Refused::Memory`, `Refused::Capacity` or `Refused::Limit`, as
+    /// [`HashMap::insert`] does, but only if the key is absent or a resize is under way. `err`
+    /// states this by a run of the call on the map before.
     pub fn try_insert(
         &mut self,
         key: K,
@@ -495,7 +523,8 @@ impl<K: Hash + Eq + Drop, V: Drop, S: BuildHasher> HashMap<K, V, S> {
     ///
     /// # Errors
     ///
-    /// Fails as [`HashMap::insert`] does, but only if the key is absent or a resize is under way.
+    /// Fails with `Refused::Memory`, `Refused::Capacity` or `Refused::Limit`, as
+    /// [`HashMap::insert`] does, but only if the key is absent or a resize is under way.
     pub fn get_or_insert(&mut self, key: K, value: V) -> Result<&V, Refused>
         ensures* inserts { sem 𝓛 (ends_so K.row V.row S.row S.Hasher.row K.Hash S.BuildHasher
             S.Hasher.Hasher self.entry (λ after.
@@ -517,7 +546,8 @@ impl<K: Hash + Eq + Drop, V: Drop, S: BuildHasher> HashMap<K, V, S> {
     ///
     /// # Errors
     ///
-    /// Fails only during a resize, as an [`HashMap::insert`] that needs a next table does.
+    /// Fails only during a resize: with `Refused::Memory` or `Refused::Capacity`, as an
+    /// [`HashMap::insert`] that needs a next table does.
     pub fn remove<Q: Equivalent<K>>(&mut self, key: &Q) -> Result<Option<&V>, Refused>
         ensures* removes { sem 𝓛 (ends_so K.row V.row S.row S.Hasher.row K.Hash S.BuildHasher
             S.Hasher.Hasher self.entry (λ after. IsRemoved K.eq (Q.matches key.now) (λ p. p.value)
@@ -541,7 +571,7 @@ impl<K: Hash + Eq + Drop, V: Drop, S: BuildHasher> HashMap<K, V, S> {
     ///
     /// # Errors
     ///
-    /// Fails as [`HashMap::remove`] does.
+    /// Fails with `Refused::Memory` or `Refused::Capacity`, as [`HashMap::remove`] does.
     pub fn remove_entry<Q: Equivalent<K>>(&mut self, key: &Q) -> Result<Option<(&K, &V)>, Refused>
         ensures* removes { sem 𝓛 (ends_so K.row V.row S.row S.Hasher.row K.Hash S.BuildHasher
             S.Hasher.Hasher self.entry (λ after. IsRemoved K.eq (Q.matches key.now) entry_of self.old
@@ -572,7 +602,7 @@ impl<K: Hash + Eq + Drop, V: Drop, S: BuildHasher> HashMap<K, V, S> {
     ///
     /// # Errors
     ///
-    /// Fails as [`HashMap::remove`] does.
+    /// Fails with `Refused::Memory` or `Refused::Capacity`, as [`HashMap::remove`] does.
     pub fn remove_if<Q: Equivalent<K>, F: FnMut(&K, &V) -> bool>(
         &mut self,
         key: &Q,

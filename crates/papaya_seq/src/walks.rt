@@ -219,7 +219,8 @@ impl<K: Hash + Eq, V, S: BuildHasher> HashMap<K, V, S> {
         Ok(list)
     }
 
-    /// Returns an iterator over the entries, each once. It allocates nothing and never fails.
+    /// Returns an iterator over the entries, each once: `iter` of 0.2.5. It allocates nothing and
+    /// never fails.
     pub fn iter(&self) -> Iter<'_, K, V, S>
         ensures { result ≡ map entry_of (content K.eq self.now.store) }
     {
@@ -232,14 +233,14 @@ impl<K: Hash + Eq, V, S: BuildHasher> HashMap<K, V, S> {
         }
     }
 
-    /// Returns an iterator over the keys, in the order of [`HashMap::iter`].
+    /// Returns an iterator over the keys, in the order of [`HashMap::iter`]: `keys` of 0.2.5.
     pub fn keys(&self) -> Keys<'_, K, V, S>
         ensures { result ≡ map (λ p. p.key) (content K.eq self.now.store) }
     {
         Keys { pairs: self.iter() }
     }
 
-    /// Returns an iterator over the values, in the order of [`HashMap::iter`].
+    /// Returns an iterator over the values, in the order of [`HashMap::iter`]: `values` of 0.2.5.
     pub fn values(&self) -> Values<'_, K, V, S>
         ensures { result ≡ map (λ p. p.value) (content K.eq self.now.store) }
     {

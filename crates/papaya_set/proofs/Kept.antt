@@ -1,4 +1,4 @@
--- What a retain of a map leaves whose closure asks one of keys.
+-- The result of `retain` on a map whose closure passes keys on to another closure.
 use Rattle.std.proofs.Common.{◌≡◌, Bool, true, false, cond, List, [], ◌∷◌, Result, Ok, Err, OnOk, refl, ap, ◌∙◌}
 use Prim.Native.Nat.{suc}
 use denote.Ref.{Bor}

@@ -1,4 +1,4 @@
--- What a retain of the map that threads share leaves whose closure asks one of keys.
+-- The result of `retain` on the shared map whose closure passes keys on to another closure.
 use Rattle.std.proofs.Common.{◌≡◌, Bool, List, [], ◌∷◌, Result, ap, subst}
 use denote.Ref.{Bor}
 use Rattle.std.specs.Fn.{Called, Mut}

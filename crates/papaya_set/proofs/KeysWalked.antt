@@ -1,4 +1,4 @@
--- What an iteration over a set gives are the keys of what one over its map gives.
+-- An iteration over a set returns the keys of what an iteration over its map returns.
 use Rattle.std.proofs.Common.{◌≡◌, Bool, Some, None, List, [], ◌∷◌, map, refl, ap, subst}
 use Rattle.std.specs.Iterator.{Yields}
 use denote.Bor.{Bor}

@@ -1,4 +1,4 @@
--- A removal that answers by a reference, as one that tells whether the key was there.
+-- A removal that returns a reference, as one that returns whether the key was there.
 use Rattle.std.proofs.Common.{◌≡◌, Bool, Option, Some, None, Result, Ok, Err, option_map, refl, sym, ◌∙◌, subst}
 use Rattle.std.specs.Prelude.{is_some}
 use Rattle.std.specs.Borrow.{Bor}

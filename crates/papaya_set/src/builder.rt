@@ -74,7 +74,7 @@ impl<K: Hash + Eq> HashSet<K, BuildHasherDefault<FoldHasher>> {
 }
 
 impl<K, S: Drop> HashSetBuilder<K, S> {
-    /// Sets the hasher: `hasher` of 0.2.5.
+    /// Sets the hasher, by default a `FoldHasher` with a fixed seed: `hasher` of 0.2.5.
     pub fn hasher<T>(self, hasher: T) -> HashSetBuilder<K, T>
         ensures { result ≡ record {
           hasher = hasher;
@@ -138,7 +138,8 @@ impl<K, S> HashSetBuilder<K, S> {
         self.collector(Collector::new(number))
     }
 
-    /// Sets the number of keys that the first table has room for: `capacity` of 0.2.5.
+    /// Sets the number of keys that the first table has room for, by default 0: `capacity` of
+    /// 0.2.5. With 0 the first change allocates a table of 32 slots.
     pub fn capacity(self, capacity: usize) -> HashSetBuilder<K, S>
         ensures { result ≡ record {
           hasher = self.hasher;
@@ -152,7 +153,7 @@ impl<K, S> HashSetBuilder<K, S> {
         HashSetBuilder { capacity, ..self }
     }
 
-    /// Sets how the set resizes: `resize_mode` of 0.2.5.
+    /// Sets how the set resizes, by default `Incremental(64)`: `resize_mode` of 0.2.5.
     pub fn resize_mode(self, mode: ResizeMode) -> HashSetBuilder<K, S>
         ensures { result ≡ record {
           hasher = self.hasher;
@@ -166,8 +167,8 @@ impl<K, S> HashSetBuilder<K, S> {
         HashSetBuilder { mode, ..self }
     }
 
-    /// Sets the number of shards of the count, which is rounded up to a power of two. 0.2.5 derives
-    /// it from the number of processors.
+    /// Sets the number of shards of the count, by default 16. It is rounded up to a power of two.
+    /// 0.2.5 derives it from the number of processors.
     pub fn shards(self, shards: usize) -> HashSetBuilder<K, S>
         ensures { result ≡ record {
           hasher = self.hasher;
@@ -223,7 +224,9 @@ impl<K: Hash + Eq + Drop, S: BuildHasher + Drop> HashSetBuilder<K, S> {
     /// Builds the set: `build` of 0.2.5.
     ///
     /// # Errors
-    /// As [`HashSet::with_parts`].
+    ///
+    /// Fails with `Refused::ZeroChunk`, `Refused::Capacity` or `Refused::Memory`, as
+    /// [`HashSet::with_parts`] does.
     pub fn build<R: Wait>(self, rt: &R, alloc: Global) -> Result<HashSet<K, S>, Refused>
         ensures ok { IfOk result (λ set. IsAllowed self.mode self.capacity self.shards) }
         ensures made { IfOk result (IsFor self.mode self.capacity self.shards self.limit) }
@@ -254,7 +257,9 @@ impl<K: Hash + Eq + Drop, S: BuildHasher + Drop> HashSetBuilder<K, S> {
     /// set.
     ///
     /// # Errors
-    /// As [`seq::HashSet::with_parts`].
+    ///
+    /// Fails with `Refused::ZeroChunk`, `Refused::Capacity` or `Refused::Memory`, as
+    /// [`seq::HashSet::with_parts`] does.
     pub fn build_seq(self, alloc: Global) -> Result<seq::HashSet<K, S>, Refused>
         ensures ok { IfOk result (λ set. IsAllowed self.mode self.capacity self.shards
             × IsNewLimited {A = Unit {0}} self.mode self.capacity self.shards self.hasher self.limit

@@ -23,7 +23,9 @@ impl<K: Hash + Eq + Clone + Drop, S: BuildHasher + Clone + Drop> seq::HashSet<K,
     /// works as [`papaya_seq::seq::HashMap::try_clone`] does for a map.
     ///
     /// # Errors
-    /// As [`papaya_seq::seq::HashMap::try_clone`].
+    ///
+    /// Fails with `Refused::Memory` or `Refused::Capacity`, as
+    /// [`papaya_seq::seq::HashMap::try_clone`] does.
     pub fn try_clone(&self, alloc: Global) -> Result<seq::HashSet<K, S>, Refused>
         requires { (k l : K) → K.is_clone k l → K.eq k l ≡ true }
         ensures clones { IfOk result (λ made. IsRebuilt K.eq K.is_clone (λ v w. w ≡ v) S.is_clone
@@ -47,7 +49,9 @@ impl<K: Hash + Eq + Clone + Drop, S: BuildHasher + Clone + Drop> seq::HashSet<K,
     /// Only the set's keys count against a limit then, so the call does not reach it.
     ///
     /// # Errors
-    /// As that `reclaim`; the set is as it was then.
+    ///
+    /// Fails with `Refused::Memory` or `Refused::Capacity`, as that `reclaim` does, and then leaves
+    /// the set as it was.
     pub fn reclaim(&mut self) -> Result<(), Refused>
         requires { (k l : K) → K.is_clone k l → K.eq k l ≡ true }
         ensures clones { OnOk result (IsRebuilt K.eq K.is_clone (λ v w. w ≡ v) S.is_clone self.old
@@ -68,7 +72,9 @@ impl<K: Hash + Eq, S: BuildHasher> HashSet<K, S> {
     /// changes one of the sets meanwhile, the result may be either.
     ///
     /// # Errors
-    /// As [`HashSetRef::iter`](crate::set::HashSetRef::iter).
+    ///
+    /// Fails with `Refused::Memory` or `Refused::Capacity`, as
+    /// [`HashSetRef::iter`](crate::set::HashSetRef::iter) does.
     pub fn eq<R: Wait>(&self, rt: &R, other: &HashSet<K, S>) -> Result<bool, Refused>
         ensures { IfErr result IsMemoryOrCapacity }
     {
@@ -82,7 +88,9 @@ impl<K: Hash + Eq + Clone + Drop, S: BuildHasher + Clone + Drop> HashSet<K, S> {
     /// [`papaya_map::map::HashMap::try_clone`] does for a map.
     ///
     /// # Errors
-    /// As [`papaya_map::map::HashMap::try_clone`].
+    ///
+    /// Fails with `Refused::Memory` or `Refused::Capacity`, as
+    /// [`papaya_map::map::HashMap::try_clone`] does.
     pub fn try_clone<R: Wait>(&self, rt: &R, alloc: Global) -> Result<HashSet<K, S>, Refused>
         ensures made { IfOk result (λ set. (keys : ℕ)
             × IsFor (ResizeMode.Incremental DEFAULT_CHUNK) keys DEFAULT_SHARDS None set) }
@@ -102,7 +110,9 @@ impl<K: Hash + Eq + Clone + Drop, S: BuildHasher + Clone + Drop> HashSet<K, S> {
     /// use afterwards.
     ///
     /// # Errors
-    /// As that `reclaim`; the set is as it was then, and passes and sessions continue.
+    ///
+    /// Fails with `Refused::Memory` or `Refused::Capacity`, as that `reclaim` does. The set is then
+    /// as it was, and passes and sessions continue.
     pub fn reclaim<R: Wait>(&mut self, rt: &R) -> Result<(), Refused>
         ensures ok { IfOk result (λ _. HasSettingsOf self.old self.new) }
         ensures hasher { IfOk result (λ _. S.is_clone self.old.begun.hasher

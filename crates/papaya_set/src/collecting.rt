@@ -18,8 +18,10 @@ impl<K: Hash + Eq + Drop, S: BuildHasher> HashSet<K, S> {
     /// all.
     ///
     /// # Errors
-    /// As [`HashSet::insert`] for a key. The keys before it are in the set then, and those after it
-    /// are not taken from the iterator.
+    ///
+    /// Fails with `Refused::Memory`, `Refused::Capacity` or `Refused::Limit`, as
+    /// [`HashSet::insert`] does for one of the keys. The keys before that one are then in the set,
+    /// and those after it are not taken from the iterator.
     pub fn extend<U: IntoIterator<Item = K>>(&mut self, iter: U) -> Result<(), Refused>
     where
         U::IntoIter: Drop,
@@ -42,7 +44,9 @@ impl<K: Hash + Eq + Copy + Drop, S: BuildHasher> HashSet<K, S> {
     /// Inserts keys that are passed by reference and copied: `Extend<&K>` of 0.2.5.
     ///
     /// # Errors
-    /// As [`HashSet::extend`].
+    ///
+    /// Fails with `Refused::Memory`, `Refused::Capacity` or `Refused::Limit`, as
+    /// [`HashSet::extend`] does.
     pub fn extend_ref<'a, U: IntoIterator<Item = &'a K>>(&mut self, iter: U) -> Result<(), Refused>
     where
         K: 'a,
@@ -67,7 +71,9 @@ impl<K: Hash + Eq + Drop, S: BuildHasher + Default + Drop> HashSet<K, S> {
     /// one of two equal keys, and no table if there are no keys.
     ///
     /// # Errors
-    /// `Refused::Memory` if the set is not made; otherwise as [`HashSet::extend`].
+    ///
+    /// Fails with `Refused::Memory` if the set cannot be allocated, and otherwise as
+    /// [`HashSet::extend`] does.
     pub fn from_iter<U: IntoIterator<Item = K>>(
         alloc: Global,
         iter: U,
@@ -97,8 +103,9 @@ impl<K: Hash + Eq + Drop> HashSet<K, BuildHasherDefault<FoldHasher>> {
     /// equal keys.
     ///
     /// # Errors
-    /// `Refused::Memory` if there is no memory for the set or for the array; otherwise as
-    /// [`HashSet::extend`].
+    ///
+    /// Fails with `Refused::Memory` if there is no memory for the set or for the array, and
+    /// otherwise as [`HashSet::extend`] does.
     pub fn from_array<const N: usize>(
         alloc: Global,
         keys: [K; N],

@@ -24,8 +24,10 @@ impl<K: Hash + Eq + Drop, S: BuildHasher> HashSet<K, S> {
     /// all.
     ///
     /// # Errors
-    /// As [`HashSetRef::insert`](crate::set::HashSetRef::insert) for a key. The keys before it are
-    /// in the set then, and those after it are not taken from the iterator.
+    ///
+    /// Fails with `Refused::Memory`, `Refused::Capacity` or `Refused::Limit`, as
+    /// [`HashSetRef::insert`](crate::set::HashSetRef::insert) does for one of the keys. The keys
+    /// before that one are then in the set, and those after it are not taken from the iterator.
     pub fn extend<R: Wait, U: IntoIterator<Item = K>>(&self, rt: &R, iter: U) -> Result<(), Refused>
     where
         U::IntoIter: Drop,
@@ -72,7 +74,9 @@ impl<K: Hash + Eq + Copy + Drop, S: BuildHasher> HashSet<K, S> {
     /// Inserts keys that are passed by reference and copied: `Extend<&K>` of 0.2.5.
     ///
     /// # Errors
-    /// As [`HashSet::extend`].
+    ///
+    /// Fails with `Refused::Memory`, `Refused::Capacity` or `Refused::Limit`, as
+    /// [`HashSet::extend`] does.
     pub fn extend_ref<'a, R: Wait, U: IntoIterator<Item = &'a K>>(
         &self,
         rt: &R,
@@ -126,7 +130,8 @@ impl<K: Hash + Eq + Drop, S: BuildHasher + Default + Drop> HashSet<K, S> {
     /// one of two equal keys, and no table if there are no keys.
     ///
     /// # Errors
-    /// As [`HashSet::extend`].
+    ///
+    /// Fails with `Refused::Memory` or `Refused::Capacity`, as [`HashSet::extend`] does.
     pub fn from_iter<R: Wait, U: IntoIterator<Item = K>>(
         rt: &R,
         alloc: Global,
@@ -156,7 +161,9 @@ impl<K: Hash + Eq + Drop> HashSet<K, BuildHasherDefault<FoldHasher>> {
     /// equal keys.
     ///
     /// # Errors
-    /// `Refused::Memory` if there is no memory for the array, and as [`HashSet::extend`].
+    ///
+    /// Fails with `Refused::Memory` if there is no memory for the array, and otherwise as
+    /// [`HashSet::extend`] does.
     pub fn from_array<R: Wait, const N: usize>(
         rt: &R,
         alloc: Global,

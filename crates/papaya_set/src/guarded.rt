@@ -44,7 +44,8 @@ impl<K: Hash + Eq, S: BuildHasher> HashSet<K, S> {
     /// Checks that the guard is of the set's collector. In 0.2.5 a call with another guard panics.
     ///
     /// # Errors
-    /// `Refused::WrongGuard` if it is not.
+    ///
+    /// Fails with `Refused::WrongGuard` if the guard is of another collector.
     #[inline]
     pub fn verify<G: Guard>(&self, guard: &G) -> Result<(), Refused>
         ensures right { G.collector_number guard.now ≡ self.now.collector → result ≡ Ok tt }
@@ -97,7 +98,8 @@ impl<K: Hash + Eq, S: BuildHasher> HashSet<K, S> {
     /// allocates.
     ///
     /// # Errors
-    /// `Refused::WrongGuard` if the guard is of another collector.
+    ///
+    /// Fails with `Refused::WrongGuard` if the guard is of another collector.
     #[inline]
     pub fn contains<Q: Equivalent<K>, G: Guard>(&self, key: &Q, guard: &G) -> Result<bool, Refused>
         ensures* own { sem 𝓛 (of_its_history (EventOf K.row unit-field.row S.row).coded.code
@@ -147,7 +149,8 @@ impl<K: Hash + Eq, S: BuildHasher> HashSet<K, S> {
     /// it never waits.
     ///
     /// # Errors
-    /// `Refused::WrongGuard` if the guard is of another collector.
+    ///
+    /// Fails with `Refused::WrongGuard` if the guard is of another collector.
     #[inline]
     pub fn get<'g, Q: Equivalent<K>, G: Guard>(
         &'g self,
@@ -202,7 +205,10 @@ impl<K: Hash + Eq, S: BuildHasher> HashSet<K, S> {
     /// Removes a key, and returns whether it was present: `remove` of 0.2.5.
     ///
     /// # Errors
-    /// `Refused::WrongGuard`, and as [`HashSetRef::remove`](crate::set::HashSetRef::remove).
+    ///
+    /// Fails with `Refused::WrongGuard` if the guard is of another collector, and with
+    /// `Refused::Memory` or `Refused::Capacity` as
+    /// [`HashSetRef::remove`](crate::set::HashSetRef::remove) does.
     pub fn remove<R: Wait, Q: Equivalent<K>, G: Guard>(
         &self,
         rt: &R,
@@ -227,7 +233,10 @@ impl<K: Hash + Eq, S: BuildHasher> HashSet<K, S> {
     /// Reserves room for `additional` more keys than the set counts: `reserve` of 0.2.5.
     ///
     /// # Errors
-    /// `Refused::WrongGuard`, and as [`HashSetRef::reserve`](crate::set::HashSetRef::reserve).
+    ///
+    /// Fails with `Refused::WrongGuard` if the guard is of another collector, and with
+    /// `Refused::Memory` or `Refused::Capacity` as
+    /// [`HashSetRef::reserve`](crate::set::HashSetRef::reserve) does.
     pub fn reserve<R: Wait, G: Guard>(
         &self,
         rt: &R,
@@ -271,10 +280,13 @@ impl<K: Hash + Eq, S: BuildHasher> HashSet<K, S> {
         session.tell(answer)
     }
 
-    /// Removes all keys that the set has: `clear` of 0.2.5.
+    /// Removes all keys that are in the set as the call begins: `clear` of 0.2.5.
     ///
     /// # Errors
-    /// `Refused::WrongGuard`, and as [`HashSetRef::clear`](crate::set::HashSetRef::clear).
+    ///
+    /// Fails with `Refused::WrongGuard` if the guard is of another collector, and with
+    /// `Refused::Memory` or `Refused::Capacity` as
+    /// [`HashSetRef::clear`](crate::set::HashSetRef::clear) does.
     pub fn clear<R: Wait, G: Guard>(&self, rt: &R, guard: &G) -> Result<(), Refused>
         ensures* own { sem 𝓛 (of_its_history (EventOf K.row unit-field.row S.row).coded.code
             (rule_of ⟦<Law<K, (), S> as Rule<Event<K, (), S>, Named<K, ()>>>⟧) (unpinned self.now)
@@ -323,7 +335,10 @@ impl<K: Hash + Eq, S: BuildHasher> HashSet<K, S> {
     /// Removes the keys for which the closure returns `false`: `retain` of 0.2.5.
     ///
     /// # Errors
-    /// `Refused::WrongGuard`, and as [`HashSetRef::retain`](crate::set::HashSetRef::retain).
+    ///
+    /// Fails with `Refused::WrongGuard` if the guard is of another collector, and with
+    /// `Refused::Memory` or `Refused::Capacity` as
+    /// [`HashSetRef::retain`](crate::set::HashSetRef::retain) does.
     pub fn retain<R: Wait, F: FnMut(&K) -> bool, G: Guard>(
         &self,
         rt: &R,
@@ -350,7 +365,10 @@ impl<K: Hash + Eq, S: BuildHasher> HashSet<K, S> {
     /// Returns an iterator over the keys: `iter` of 0.2.5.
     ///
     /// # Errors
-    /// `Refused::WrongGuard`, and as [`HashSetRef::iter`](crate::set::HashSetRef::iter).
+    ///
+    /// Fails with `Refused::WrongGuard` if the guard is of another collector, and with
+    /// `Refused::Memory` or `Refused::Capacity` as
+    /// [`HashSetRef::iter`](crate::set::HashSetRef::iter) does.
     pub fn iter<'g, R: Wait, G: Guard>(
         &'g self,
         rt: &R,
@@ -402,7 +420,10 @@ impl<K: Hash + Eq + Drop, S: BuildHasher> HashSet<K, S> {
     /// that is stored stays.
     ///
     /// # Errors
-    /// `Refused::WrongGuard`, and as [`HashSetRef::insert`](crate::set::HashSetRef::insert).
+    ///
+    /// Fails with `Refused::WrongGuard` if the guard is of another collector, and with
+    /// `Refused::Memory`, `Refused::Capacity` or `Refused::Limit` as
+    /// [`HashSetRef::insert`](crate::set::HashSetRef::insert) does.
     pub fn insert<R: Wait, G: Guard>(&self, rt: &R, key: K, guard: &G) -> Result<bool, Refused>
         ensures* own { sem 𝓛 (of_its_history (EventOf K.row unit-field.row S.row).coded.code
             (rule_of ⟦<Law<K, (), S> as Rule<Event<K, (), S>, Named<K, ()>>>⟧) (unpinned self.now)

@@ -1,6 +1,6 @@
 //! Sets: maps of keys to unit values, both the one that threads share and the one for one caller.
 //! It uses `papaya_map` and `papaya_seq`.
-//! `papaya_json` and `papaya_reclaiming` build on it.
+//! `papaya_json` and `papaya_reclaiming` build on it, and `papaya` re-exports it.
 //!
 //! [`set`] has the set that threads share, [`pinned`] its calls, and [`guarded`] those with a
 //! guard; [`builder`] has its builder. [`seq`] is the set for one caller. Each call passes on to

@@ -33,12 +33,13 @@ impl<'a, K: Hash + Eq, S: BuildHasher> HashSetRef<'a, K, S> {
         self.set
     }
 
-    /// Returns the number of keys counted. A change is counted one step after it is made.
+    /// Returns the number of keys: `len` of 0.2.5. Each change is counted one step after it is
+    /// made, so a change that another thread is making may be counted or not.
     pub fn len(&self) -> usize {
         self.set.len()
     }
 
-    /// Returns whether no keys are counted.
+    /// Returns whether [`HashSetRef::len`] is 0: `is_empty` of 0.2.5.
     pub fn is_empty(&self) -> bool {
         self.set.is_empty()
     }
@@ -75,6 +76,14 @@ impl<'a, K: Hash + Eq, S: BuildHasher> HashSetRef<'a, K, S> {
 
     /// Returns whether the key is in the set: `contains` of 0.2.5. It never waits, locks or
     /// allocates.
+    ///
+    /// # Examples
+    ///
+    /// ```
+    /// set.pin().insert(rt, 1)?;
+    /// let present = set.pin().contains(&1); // true
+    /// let absent = set.pin().contains(&2); // false
+    /// ```
     #[inline]
     pub fn contains<Q: Equivalent<K>>(&self, key: &Q) -> bool
         ensures* own { sem 𝓛 (of_its_history (EventOf K.row unit-field.row S.row).coded.code
@@ -104,8 +113,8 @@ impl<'a, K: Hash + Eq, S: BuildHasher> HashSetRef<'a, K, S> {
         }
     }
 
-    /// Returns the stored key that is equal to this one: `get` of 0.2.5. It never waits, as
-    /// [`HashSetRef::contains`].
+    /// Returns the stored key that is equal to this one, or `None` if there is none: `get` of
+    /// 0.2.5. It never waits, locks or allocates.
     #[inline]
     pub fn get<Q: Equivalent<K>>(&self, key: &Q) -> Option<&'a K>
         ensures* own { sem 𝓛 (of_its_history (EventOf K.row unit-field.row S.row).coded.code
@@ -144,8 +153,9 @@ impl<'a, K: Hash + Eq, S: BuildHasher> HashSetRef<'a, K, S> {
     /// Removes a key, and returns whether it was present: `remove` of 0.2.5.
     ///
     /// # Errors
+    ///
     /// A removal allocates nothing for itself. If it helps to copy the table, it may fail with
-    /// `Refused::Memory` or `Capacity`, and then changes nothing.
+    /// `Refused::Memory` or `Refused::Capacity`, and then changes nothing.
     pub fn remove<R: Wait, Q: Equivalent<K>>(&self, rt: &R, key: &Q) -> Result<bool, Refused>
         ensures* own { sem 𝓛 (of_its_history (EventOf K.row unit-field.row S.row).coded.code
             (rule_of ⟦<Law<K, (), S> as Rule<Event<K, (), S>, Named<K, ()>>>⟧) self.now K.eq
@@ -162,8 +172,9 @@ impl<'a, K: Hash + Eq, S: BuildHasher> HashSetRef<'a, K, S> {
     /// the set changes.
     ///
     /// # Errors
-    /// `Refused::Memory` if an allocation fails, and `Refused::Capacity` if there is no room for
-    /// such a table. 0.2.5 panics or aborts there.
+    ///
+    /// Fails with `Refused::Memory` if an allocation fails, and with `Refused::Capacity` if such a
+    /// table would be too long or one too many. 0.2.5 aborts or panics there.
     pub fn reserve<R: Wait>(&self, rt: &R, additional: usize) -> Result<(), Refused>
         ensures { IfErr result IsMemoryOrCapacity }
     {
@@ -187,11 +198,12 @@ impl<'a, K: Hash + Eq, S: BuildHasher> HashSetRef<'a, K, S> {
         session.tell(answer)
     }
 
-    /// Removes all keys that the set has: `clear` of 0.2.5. A key that is stored meanwhile may
-    /// stay.
+    /// Removes all keys that are in the set as the call begins: `clear` of 0.2.5. A key that
+    /// another thread inserts meanwhile may stay.
     ///
     /// # Errors
-    /// As [`HashSetRef::retain`].
+    ///
+    /// Fails with `Refused::Memory` or `Refused::Capacity`, as [`HashSetRef::retain`] does.
     pub fn clear<R: Wait>(&self, rt: &R) -> Result<(), Refused>
         ensures* own { sem 𝓛 (of_its_history (EventOf K.row unit-field.row S.row).coded.code
             (rule_of ⟦<Law<K, (), S> as Rule<Event<K, (), S>, Named<K, ()>>>⟧) self.now K.eq
@@ -225,10 +237,12 @@ impl<'a, K: Hash + Eq, S: BuildHasher> HashSetRef<'a, K, S> {
     }
 
     /// Removes the keys for which the closure returns `false`: `retain` of 0.2.5. The closure is
-    /// called for each key. It is called for a key again if another call replaced it meanwhile, or
-    /// if everything is copied.
+    /// called with each key. It may be called with a key again if another call replaces that key
+    /// meanwhile, or if this call meets a copy to a next table: then it finishes the copy, and
+    /// begins again.
     ///
     /// # Errors
+    ///
     /// If the call meets a copy under way, it copies what is left to copy, and may need a table.
     /// Then it fails with `Refused::Memory` if an allocation fails, and with `Refused::Capacity` if
     /// there is no room. Removed keys stay removed.
@@ -247,15 +261,17 @@ impl<'a, K: Hash + Eq, S: BuildHasher> HashSetRef<'a, K, S> {
         answer
     }
 
-    /// Returns an iterator over the keys: `iter` of 0.2.5. Each key that the set has is returned,
-    /// if no call removes it meanwhile. A key that is stored or removed meanwhile may be returned
-    /// or not.
+    /// Returns an iterator over the keys: `iter` of 0.2.5. It returns each key that is in the set
+    /// as the call begins, if no call removes it meanwhile. A key that is stored or removed
+    /// meanwhile may be returned or not.
     ///
     /// With `ResizeMode::Blocking` the iterator takes the root as it is. Otherwise the call first
     /// copies what is left to copy.
     ///
     /// # Errors
-    /// `Refused::Memory` or `Capacity`, as [`HashSetRef::retain`], if that copy needs a table.
+    ///
+    /// Fails with `Refused::Memory` or `Refused::Capacity`, as [`HashSetRef::retain`] does, if that
+    /// copy needs a table.
     pub fn iter<R: Wait>(&self, rt: &R) -> Result<Iter<'a, K, S>, Refused>
         ensures walk { IfOk result (λ keys. keys.book ≡ self.now.map.book) }
         ensures began { IfOk result (λ keys. (keys.began ≡ self.now.seen) × (keys.given ≡ [])) }
@@ -286,13 +302,21 @@ impl<'a, K: Hash + Eq + Drop, S: BuildHasher> HashSetRef<'a, K, S> {
     }
 
     /// Inserts a key, and returns whether it was absent: `insert` of 0.2.5. As there, an equal key
-    /// that is stored stays. If several threads insert equal keys at once, only one call returns
-    /// true.
+    /// that is stored stays, and the one that was passed in is dropped. If several threads insert
+    /// equal keys at once, only one call returns `true`.
     ///
     /// # Errors
-    /// `Refused::Memory` if an allocation fails. `Refused::Capacity` if an arena is full or a next
-    /// table would be too long. `Refused::Limit` if the set has a limit on keys, and as many are
-    /// stored or about to be. The call changes nothing then.
+    ///
+    /// Fails with `Refused::Memory` if an allocation fails, with `Refused::Capacity` if an arena is
+    /// full or a next table would be too long, and with `Refused::Limit` if the set has a limit on
+    /// keys, and as many are stored or about to be. The call then changes nothing.
+    ///
+    /// # Examples
+    ///
+    /// ```
+    /// let first = set.pin().insert(rt, 1)?; // true
+    /// let second = set.pin().insert(rt, 1)?; // false
+    /// ```
     pub fn insert<R: Wait>(&self, rt: &R, key: K) -> Result<bool, Refused>
         ensures* own { sem 𝓛 (of_its_history (EventOf K.row unit-field.row S.row).coded.code
             (rule_of ⟦<Law<K, (), S> as Rule<Event<K, (), S>, Named<K, ()>>>⟧) self.now K.eq

@@ -43,7 +43,9 @@ impl<K: Hash + Eq + Drop, S: BuildHasher + Drop> HashSet<K, S> {
     /// Creates a set from all its settings.
     ///
     /// # Errors
-    /// As [`HashMap::with_parts`].
+    ///
+    /// Fails with `Refused::ZeroChunk`, `Refused::Capacity` or `Refused::Memory`, as
+    /// [`HashMap::with_parts`] does.
     pub fn with_parts(
         alloc: Global,
         mode: ResizeMode,
@@ -65,7 +67,10 @@ impl<K: Hash + Eq + Drop, S: BuildHasher + Drop> HashSet<K, S> {
     /// Creates a set for `capacity` keys with this hasher: `with_capacity_and_hasher` of 0.2.5.
     ///
     /// # Errors
-    /// As [`HashSet::with_parts`].
+    ///
+    /// Fails with `Refused::Capacity` if the first table would be longer than
+    /// [`papaya_words::limits::MAX_TABLE_LEN`] slots, and with `Refused::Memory` if an allocation
+    /// fails.
     pub fn with_capacity_and_hasher(
         alloc: Global,
         capacity: usize,
@@ -86,7 +91,8 @@ impl<K: Hash + Eq + Drop, S: BuildHasher + Drop> HashSet<K, S> {
     /// Creates a set with this hasher: `with_hasher` of 0.2.5. The first change makes a table.
     ///
     /// # Errors
-    /// `Refused::Memory` if an allocation fails.
+    ///
+    /// Fails with `Refused::Memory` if an allocation fails.
     pub fn with_hasher(alloc: Global, hasher: S) -> Result<HashSet<K, S>, Refused>
         ensures ok { IfOk result (λ set. IsNew {A = Unit {0}}
             (ResizeMode.Incremental DEFAULT_CHUNK) 0 1 hasher (core_of set)) }
@@ -100,11 +106,13 @@ impl<K: Hash + Eq + Drop, S: BuildHasher + Drop> HashSet<K, S> {
 }
 
 impl<K: Hash + Eq + Drop> HashSet<K, BuildHasherDefault<FoldHasher>> {
-    /// Creates a set that makes its first table at its first change: `new` of 0.2.5, but with a
-    /// hasher that is the same in each run.
+    /// Creates an empty set: `new` of 0.2.5. Its first change allocates the first table, of 32
+    /// slots. The hasher has a fixed seed, where that of 0.2.5 has a random one. If attackers pick
+    /// the keys, pass a `RandomState` to [`HashSet::with_hasher`].
     ///
     /// # Errors
-    /// `Refused::Memory` if an allocation fails.
+    ///
+    /// Fails with `Refused::Memory` if an allocation fails.
     pub fn new(alloc: Global) -> Result<HashSet<K, BuildHasherDefault<FoldHasher>>, Refused>
         ensures new { IfOk result (λ set. IsNew {A = Unit {0}}
             (ResizeMode.Incremental DEFAULT_CHUNK) 0 1 set.store.hasher (core_of set)) }
@@ -120,7 +128,10 @@ impl<K: Hash + Eq + Drop> HashSet<K, BuildHasherDefault<FoldHasher>> {
     /// Creates a set for `capacity` keys: `with_capacity` of 0.2.5.
     ///
     /// # Errors
-    /// As [`HashSet::with_parts`].
+    ///
+    /// Fails with `Refused::Capacity` if the first table would be longer than
+    /// [`papaya_words::limits::MAX_TABLE_LEN`] slots, and with `Refused::Memory` if an allocation
+    /// fails.
     pub fn with_capacity(
         alloc: Global,
         capacity: usize,
@@ -140,7 +151,8 @@ impl<K: Hash + Eq + Drop> HashSet<K, BuildHasherDefault<FoldHasher>> {
     /// Creates a set as [`HashSet::new`] does: the trait `Default` of 0.2.5.
     ///
     /// # Errors
-    /// `Refused::Memory` if an allocation fails.
+    ///
+    /// Fails with `Refused::Memory` if an allocation fails.
     pub fn default(alloc: Global) -> Result<HashSet<K, BuildHasherDefault<FoldHasher>>, Refused>
         ensures new { IfOk result (λ set. IsNew {A = Unit {0}}
             (ResizeMode.Incremental DEFAULT_CHUNK) 0 1 set.store.hasher (core_of set)) }
@@ -217,7 +229,9 @@ impl<K: Hash + Eq + Drop, S: BuildHasher> HashSet<K, S> {
     /// that is stored stays.
     ///
     /// # Errors
-    /// As [`HashMap::insert`]. The set is as it was then, and the key is dropped, at once or with
+    ///
+    /// Fails with `Refused::Memory`, `Refused::Capacity` or `Refused::Limit`, as
+    /// [`HashMap::insert`] does. The set is then as it was, and the key is dropped, at once or with
     /// the set.
     pub fn insert(&mut self, key: K) -> Result<bool, Refused>
         ensures { IsPut K.eq key tt self.old result self.new }
@@ -228,7 +242,9 @@ impl<K: Hash + Eq + Drop, S: BuildHasher> HashSet<K, S> {
     /// Removes a key, and returns whether it was present: `remove` of 0.2.5.
     ///
     /// # Errors
-    /// As [`HashMap::remove`], so only while keys are being moved to a next table.
+    ///
+    /// Fails with `Refused::Memory` or `Refused::Capacity`, as [`HashMap::remove`] does: only while
+    /// keys are being moved to a next table.
     pub fn remove<Q: Equivalent<K>>(&mut self, key: &Q) -> Result<bool, Refused>
         ensures taken { IsTaken K.eq (Q.matches key.now) self.old result self.new }
         ensures never { next_of self.old.store ≡ 0 → IsOk result }
@@ -243,7 +259,8 @@ impl<K: Hash + Eq + Drop, S: BuildHasher> HashSet<K, S> {
     /// Reserves room for `additional` more keys: `reserve` of 0.2.5. No key of the set changes.
     ///
     /// # Errors
-    /// As [`HashMap::reserve`].
+    ///
+    /// Fails with `Refused::Memory` or `Refused::Capacity`, as [`HashMap::reserve`] does.
     pub fn reserve(&mut self, additional: usize) -> Result<(), Refused>
         ensures ok { OnOk result (HasRoomFor K.eq self.old.store additional self.new.store) }
         ensures err { IfErr result (λ e. IsReserveCause K.eq self.old additional e self.new) }
@@ -258,7 +275,9 @@ impl<K: Hash + Eq + Drop, S: BuildHasher> HashSet<K, S> {
     /// Removes all keys: `clear` of 0.2.5. The root keeps its slots.
     ///
     /// # Errors
-    /// As [`HashMap::clear`]; no key was removed then.
+    ///
+    /// Fails with `Refused::Memory` or `Refused::Capacity`, as [`HashMap::clear`] does, and then
+    /// has removed no key.
     pub fn clear(&mut self) -> Result<(), Refused>
         ensures ok { OnOk result (content K.eq self.new.store ≡ []) }
         ensures last { OnOk result (next_of self.new.store ≡ 0) }
@@ -275,7 +294,9 @@ impl<K: Hash + Eq + Drop, S: BuildHasher> HashSet<K, S> {
     /// called once for each key.
     ///
     /// # Errors
-    /// As [`HashMap::retain`]; the closure was not called and no key was removed then.
+    ///
+    /// Fails with `Refused::Memory` or `Refused::Capacity`, as [`HashMap::retain`] does. Then it
+    /// has not called the closure and has removed no key.
     pub fn retain<F: FnMut(&K) -> bool>(&mut self, mut agrees: F) -> Result<(), Refused>
         requires { F.IsAlwaysCallable agrees }
         ensures ok { OnOk result (AreKept F.FnMut K.eq agrees self.old.store self.new.store) }

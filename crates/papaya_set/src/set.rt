@@ -14,11 +14,15 @@ use std::hash::{BuildHasher, BuildHasherDefault, FoldHasher, Hash};
 use std::marker::Model;
 use std::sync::Wait;
 
-/// A set that threads share: `HashSet` of 0.2.5.
+/// A hash set that threads share: `HashSet` of 0.2.5. Threads call it through a pinned set
+/// ([`HashSet::pin`]), with a guard ([`HashSet::guard`]), or through a session of [`HashSet::map`].
 ///
-/// Contracts see it as the map of its keys to unit values, and of that what is fixed when it is
-/// made, so its clauses are the map's. The arena keeps removed keys, and keys inserted while an
-/// equal one was stored, until [`HashSet::reclaim`] or until the set is dropped.
+/// A removed key stays in memory until [`HashSet::reclaim`], or until the set is dropped. So does a
+/// key that was inserted while an equal one was stored. In the examples of its calls, `set` is an
+/// empty `HashSet<u64>` that no other thread changes, and `rt` is the runtime.
+///
+/// Contracts see the set as the map of its keys to unit values, and of that map what is fixed when
+/// it is made. So its clauses are those of the map.
 #[derive(Drop)]
 pub struct HashSet<K: Hash + Eq, S: BuildHasher = BuildHasherDefault<FoldHasher>> {
     pub(crate) map: HashMap<K, (), S>,
@@ -55,7 +59,9 @@ impl<K: Hash + Eq + Drop, S: BuildHasher + Drop> HashSet<K, S> {
     /// [`HashMap::with_parts`] does for a map.
     ///
     /// # Errors
-    /// As [`HashMap::with_parts`].
+    ///
+    /// Fails with `Refused::ZeroChunk`, `Refused::Capacity` or `Refused::Memory`, as
+    /// [`HashMap::with_parts`] does.
     pub fn with_parts<R: Wait>(
         rt: &R,
         alloc: Global,
@@ -81,7 +87,10 @@ impl<K: Hash + Eq + Drop, S: BuildHasher + Drop> HashSet<K, S> {
     /// shards.
     ///
     /// # Errors
-    /// As [`HashSet::with_parts`].
+    ///
+    /// Fails with `Refused::Capacity` if the first table would be longer than
+    /// [`papaya_words::limits::MAX_TABLE_LEN`] slots, and with `Refused::Memory` if an allocation
+    /// fails.
     pub fn with_capacity_and_hasher<R: Wait>(
         rt: &R,
         alloc: Global,
@@ -102,10 +111,12 @@ impl<K: Hash + Eq + Drop, S: BuildHasher + Drop> HashSet<K, S> {
         })
     }
 
-    /// Creates a set with this hasher: `with_hasher` of 0.2.5. The first change makes a table.
+    /// Creates an empty set with this hasher: `with_hasher` of 0.2.5. Its first change allocates
+    /// the first table, of 32 slots.
     ///
     /// # Errors
-    /// `Refused::Memory` if an allocation fails.
+    ///
+    /// Fails with `Refused::Memory` if an allocation fails.
     pub fn with_hasher<R: Wait>(rt: &R, alloc: Global, hasher: S) -> Result<HashSet<K, S>, Refused>
         ensures made { IfOk result (IsFor (ResizeMode.Incremental DEFAULT_CHUNK) 0
             DEFAULT_SHARDS None) }
@@ -119,11 +130,13 @@ impl<K: Hash + Eq + Drop, S: BuildHasher + Drop> HashSet<K, S> {
 }
 
 impl<K: Hash + Eq + Drop> HashSet<K, BuildHasherDefault<FoldHasher>> {
-    /// Creates a set that makes its first table at its first change: `new` of 0.2.5, but with a
-    /// hasher that is the same in each run.
+    /// Creates an empty set: `new` of 0.2.5. Its first change allocates the first table, of 32
+    /// slots. The hasher has a fixed seed, where that of 0.2.5 has a random one. If attackers pick
+    /// the keys, pass a `RandomState` to [`HashSet::with_hasher`].
     ///
     /// # Errors
-    /// `Refused::Memory` if an allocation fails.
+    ///
+    /// Fails with `Refused::Memory` if an allocation fails.
     pub fn new<R: Wait>(
         rt: &R,
         alloc: Global,
@@ -137,10 +150,15 @@ impl<K: Hash + Eq + Drop> HashSet<K, BuildHasherDefault<FoldHasher>> {
         })
     }
 
-    /// Creates a set for `capacity` keys: `with_capacity` of 0.2.5.
+    /// Creates an empty set whose first table has room for `capacity` keys: `with_capacity` of
+    /// 0.2.5. The hasher has a fixed seed, where that of 0.2.5 has a random one. If attackers pick
+    /// the keys, pass a `RandomState` to [`HashSet::with_capacity_and_hasher`].
     ///
     /// # Errors
-    /// As [`HashSet::with_parts`].
+    ///
+    /// Fails with `Refused::Capacity` if the first table would be longer than
+    /// [`papaya_words::limits::MAX_TABLE_LEN`] slots, and with `Refused::Memory` if an allocation
+    /// fails.
     pub fn with_capacity<R: Wait>(
         rt: &R,
         alloc: Global,
@@ -162,7 +180,8 @@ impl<K: Hash + Eq + Drop> HashSet<K, BuildHasherDefault<FoldHasher>> {
     /// Creates a set as [`HashSet::new`] does: the trait `Default` of 0.2.5.
     ///
     /// # Errors
-    /// `Refused::Memory` if an allocation fails.
+    ///
+    /// Fails with `Refused::Memory` if an allocation fails.
     pub fn default<R: Wait>(
         rt: &R,
         alloc: Global,
@@ -176,11 +195,14 @@ impl<K: Hash + Eq + Drop> HashSet<K, BuildHasherDefault<FoldHasher>> {
 }
 
 impl<K: Hash + Eq, S: BuildHasher> HashSet<K, S> {
-    /// Returns the map of the set's keys to unit values. It has calls that the set lacks: passes
-    /// and the calls by them, computes, and removals whose closure decides.
+    /// Returns the map of the set's keys to unit values. It has calls that the set lacks: sessions,
+    /// passes, computes, and removals whose closure decides. 0.2.5 has no such call.
+    ///
+    /// # Examples
     ///
     /// ```
-    /// let before = set.map().pin().insert_as(rt, key, (), &mut pass)?;
+    /// let mut session = Session::new(set.map());
+    /// let removed = session.remove(rt, &1)?; // Some(&()) if the key was in the set
     /// ```
     pub fn map(&self) -> &HashMap<K, (), S>
         ensures { result.now ≡ self.now }
@@ -219,12 +241,13 @@ impl<K: Hash + Eq, S: BuildHasher> HashSet<K, S> {
         self.pin()
     }
 
-    /// Returns the number of keys counted: `len` of 0.2.5. A change is counted one step after it.
+    /// Returns the number of keys: `len` of 0.2.5. Each change is counted one step after it is
+    /// made, so a change that another thread is making may be counted or not.
     pub fn len(&self) -> usize {
         self.map.len()
     }
 
-    /// Returns whether no keys are counted.
+    /// Returns whether [`HashSet::len`] is 0: `is_empty` of 0.2.5.
     pub fn is_empty(&self) -> bool {
         self.map.is_empty()
     }

@@ -31,7 +31,8 @@ impl<'a, K: Hash + Eq, S: BuildHasher> IntoIterator for &'a HashSet<K, S> {
     }
 }
 
-/// The keys of a set that an iterator has left, which contracts see as a list.
+/// An iterator over the keys of a set for one caller: `set::Iter` of 0.2.5. Contracts see the list
+/// of those that are left.
 #[derive(Drop)]
 pub struct Iter<'a, K: Hash + Eq, S: BuildHasher> {
     keys: Keys<'a, K, (), S>,

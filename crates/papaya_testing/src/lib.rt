@@ -1,6 +1,6 @@
 //! Helpers that tests share: hashers, places where threads meet, and calls that run out of memory.
 //! It uses `papaya_words`.
-//! Crates whose names end in `_tests` build on it.
+//! Crates of tests build on it, except `papaya_run_tests` and `papaya_uses_tests`.
 //!
 //! [`same`] and [`times`] have hashers, [`gate`] and [`crossing`] places where threads wait for
 //! each other, and [`heap`] and [`tries`] calls that run out of memory. `tests/refused.py` puts a

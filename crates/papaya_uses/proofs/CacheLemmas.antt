@@ -1,4 +1,4 @@
--- What the calls of the map leave of the texts that a cache has.
+-- The texts that a cache has after calls of its maps.
 use Rattle.std.proofs.Common.{◌≡◌, ◌≢◌, ◌⊎◌, ◌==◌, ℕ, Bool, true, false, Option, Some, None, Ok, Err, inl, inr, ap, sym, ◌∙◌}
 use Rattle.std.specs.Prelude.{MatchOption, String, option_map, string_bytes}
 use Rattle.std.specs.Borrow.{Bor}

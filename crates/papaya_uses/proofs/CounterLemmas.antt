@@ -1,4 +1,4 @@
--- What a compute answers whose closure adds to a counter.
+-- The result of a compute whose closure adds to a counter.
 use Rattle.std.proofs.Common.{◌≡◌, ◌==◌, ℕ, Option, None, Some, Ok, List, [], ◌∷◌, inl, sym, ◌∙◌, ap, subst, arith, refl}
 use Rattle.std.specs.Prelude.{Result, option_map}
 use Rattle.std.specs.Borrow.{Bor}

@@ -1,4 +1,4 @@
--- What a retain leaves and takes out whose closure keeps the logins that have not ended.
+-- The logins that a `retain` leaves and takes out whose closure keeps those that have not ended.
 use Rattle.std.proofs.Common.{◌≡◌, ◌==◌, ◌<◌, ◌≤◌, ℕ, Bool, true, Ok, Err, List, [], ◌∷◌, inl, inr, ⊎_elim, ltb, ltb→lt, T, sym, ◌∙◌, ap, subst, arith, refl}
 use Rattle.std.proofs.lemmas.Bool.{ltb-false}
 use Rattle.std.proofs.lemmas.List.Elements.{All-push}

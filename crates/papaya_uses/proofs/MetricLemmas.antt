@@ -1,4 +1,4 @@
--- What two calls of a session have seen, one after the other, and what an addition to a counter made.
+-- The histories that a session has observed in two calls, one after the other, and the change that an addition to a counter made.
 use Rattle.std.proofs.Common.{◌≡◌, ◌⊎◌, ℕ, true, false, List, inl, inr, ◌++◌, sym, ap, ◌∙◌, append_assoc, subst}
 use Rattle.std.proofs.lemmas.List.{append-nil}
 use Rattle.std.specs.Prelude.{String, bytes_eq, string_bytes, string_eq}

@@ -1,4 +1,4 @@
--- What a legal change of a map from numbers puts in.
+-- The entries that legal changes of a map from numbers put in.
 use Rattle.std.proofs.Common.{◌≡◌, ◌==◌, ℕ, Bool, true, Option, None, Some, List, [], ◌∷◌, ◌++◌, sym, ◌∙◌, subst}
 use Rattle.std.proofs.lemmas.Bool.{eqb-true}
 use Rattle.papaya.specs.Threads.{AllLegalChanges, Change, IsChangeOf, IsLegalHistory, Stored, changed, key_of}

@@ -1,4 +1,4 @@
--- What holds of each answer of a closure.
+-- Facts that hold of each result of a closure.
 use Rattle.std.proofs.Common.{List, [], ◌∷◌, inl, inr, sym, subst}
 use Rattle.papaya.specs.Threads.{AllShown, HasSaid, Member}
 

@@ -1,4 +1,4 @@
--- Of two changes of one history that put in an item and took out none, the item was taken out in between.
+-- If two changes of one history put in an item and took out none, the item was taken out between them.
 use Rattle.std.proofs.Common.{◌≡◌, ◌==◌, ◌⊎◌, ℕ, Bool, true, false, Option, None, Some, List, [], ◌∷◌, ◌++◌, inl, inr, refl, sym, ap, ◌∙◌, append_assoc, subst}
 use Rattle.std.proofs.lemmas.Bool.{cond-true, eq-eqb, eqb-true}
 use Rattle.std.specs.Prelude.{cond}

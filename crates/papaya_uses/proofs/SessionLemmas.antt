@@ -1,4 +1,4 @@
--- What a removal answers whose closure agrees to one user's session alone.
+-- The result of a removal whose closure returns `true` for one user's session alone.
 use Rattle.std.proofs.Common.{◌≡◌, ◌==◌, ℕ, Bool, true, false, None, Some, Ok, Err, sym, ◌∙◌, ap, subst}
 use Rattle.std.proofs.lemmas.Bool.{eq-eqb, eqb-true, false≢true}
 use Rattle.std.specs.Prelude.{Result, Option}

@@ -1,4 +1,4 @@
--- What a lookup answers where nothing was changed since an insertion.
+-- The result of a lookup if nothing was changed since an insertion.
 use Rattle.std.proofs.Common.{◌≡◌, ◌==◌, ℕ, Bool, Option, None, Some, List, [], ◌∷◌, ◌++◌, refl, sym, ap, ◌∙◌, append_assoc}
 use Rattle.std.proofs.lemmas.Bool.{cond-true, eq-eqb, eqb-true}
 use Rattle.std.proofs.lemmas.List.{append-nil, append_cancel_left}

@@ -1,4 +1,4 @@
--- Counts of words, one word on.
+-- Counts of words, after one more word.
 use Rattle.std.proofs.Common.{◌≡◌, ◌+◌, ◌-◌, ◌^◌, ◌<◌, ◌≤◌, min, cond, ℕ, Bool, true, false, Option}
 use Rattle.std.proofs.Common.{Some, None, Ok, List, [], ◌∷◌, inl, inr, length, get_or, take, refl}
 use Rattle.std.proofs.Common.{ap, sym, ◌∙◌, subst, arith}

@@ -1,22 +1,23 @@
--- What an addition to the counter of a name does to the map of counters, by what a session has seen
--- before and after.
+-- The effect of an addition to the counter of a name on the map of counters, by what a session has
+-- observed before and after.
 use Rattle.std.specs.Prelude.{◌≡◌, ◌⊎◌, ℕ, true, None, Some, List, Result, Ok, Err, String, bytes_eq, string_bytes}
 use Rattle.std.specs.declared.alloc.Global.{Global}
 use Rattle.papaya.specs.Types.{Refused}
 use Rattle.papaya.specs.Threads.{Change, IsChangeOf, Makes, Stored}
 
--- the history of a map from names to counters
+-- The history of a map from names to counters.
 abbrev pub Seen : Type 0 → Type 0
 Seen C = List (Change (String Global) (Stored (String Global) C))
 
--- The one change that was made, the last that was seen, put in a counter of this name where there
--- was none.
+-- The call made one change, the last that was observed. It put in a counter for this name, which
+-- had none.
 abbrev pub BeginsCounter : {C : Type 0} → (name : List ℕ) → (old new made made' : Seen C) → Type 0
 BeginsCounter {C = C} name old new made made' = (q : Stored (String Global) C)
     × IsChangeOf (λ key. bytes_eq name (string_bytes key)) old new None (Some q)
     × Makes true made made' new
 
--- So did an addition, or it made no change; and none where it is refused.
+-- If the addition succeeds, it made no change or put in a counter for this name. If it is refused,
+-- it made no change.
 abbrev pub BeginsOrFinds : {C : Type 0} → (name : List ℕ) → (old new made made' : Seen C)
     → Result ℕ Refused → Type 0
 BeginsOrFinds name old new made made' (Ok before) = (made' ≡ made)

@@ -1,14 +1,15 @@
--- What a thread reads back of a setting that it wrote.
+-- The result of reading back a setting that the same thread wrote.
 use Rattle.std.specs.Prelude.{◌≡◌, ◌==◌, ℕ, true, Option, Some, List, option_map}
 use Rattle.std.specs.Borrow.{Bor}
 use Rattle.papaya.specs.Threads.{Change, IsAnsweredBetween, IsPut, Known, Makes, Stored}
 
--- the history of a map from settings to values
+-- The history of a map from settings to values.
 abbrev pub Seen : Type 0
 Seen = List (Change ℕ (Stored ℕ ℕ))
 
--- The thread made one change, which gave the setting this value. What was read is the map's at a
--- moment after it, and where nobody made a change since then, it is this value.
+-- The thread made one change, which gave the setting this value. The result of the read, a value or
+-- `None`, is what the map had for the setting at some point after this change. If no change was
+-- observed since, it is the value just written.
 pub record IsReadBack {S : Type 0} (setting value : ℕ) (old new : Known ℕ ℕ S) (read : Option ℕ)
     : Type 0 where
   pub own : Seen

@@ -40,6 +40,10 @@ impl Model for Cache {
 
 impl Cache {
     /// Returns a cache in which each of the two generations stores at most `limit` pages.
+    ///
+    /// # Errors
+    ///
+    /// Fails with `Refused::Memory` if an allocation fails.
     pub fn new(alloc: Global, limit: usize) -> Result<Cache, Refused>
         requires { 0 < limit }
         ensures empty { IfOk result (λ cache. (page : _) → text_of cache page ≡ None) }
@@ -68,8 +72,13 @@ impl Cache {
 
     /// Puts the text of a page in. Each other page stays, except those of the elder generation
     /// alone if the young one is full. The cache stores at most twice the limit of pages, including
-    /// those that were replaced. If the call fails, the page itself has the text that it had, or
-    /// was dropped in this way.
+    /// those that were replaced.
+    ///
+    /// # Errors
+    ///
+    /// Fails with `Refused::Memory` or `Refused::Capacity` if the page cannot be stored, or the
+    /// young generation cannot make room for it. The page then has the text that it had, or was
+    /// dropped with its generation.
     pub fn put(&mut self, page: u64, text: String) -> Result<(), Refused>
         ensures there { OnOk result (text_of self.new page ≡ Some (string_bytes text)) }
         ensures others { (other : _) → (other ≢ page) ⊎ IsErr result

@@ -12,8 +12,12 @@ use std::sync::Wait;
 pub type Counters = HashMap<u64, u64, BuildHasherDefault<FoldHasher>>;
 
 /// Adds to a counter, which begins at 0, and returns its new value. The closure may run again if
-/// another thread was first to change the counter; only its last sum is stored. If the call fails,
-/// it changes nothing.
+/// another thread was first to change the counter; only its last sum is stored.
+///
+/// # Errors
+///
+/// Fails with `Refused::Memory`, `Refused::Capacity` or `Refused::Limit`, as [`Session::compute`]
+/// does, and then changes nothing.
 pub fn add<R: Wait>(
     rt: &R,
     counters: &mut Session<'_, u64, u64>,

@@ -38,8 +38,12 @@ pub fn reads(hits: &Hits, page: u64) -> Option<u64>
     hits.pin().get(&page).copied()
 }
 
-/// Removes the pages that were read less often than this. If it fails, it may have removed some of
-/// them.
+/// Removes the pages that were read less often than this.
+///
+/// # Errors
+///
+/// Fails with `Refused::Memory` or `Refused::Capacity`, as `retain` of a pinned map does. It may
+/// then have removed some of the pages.
 pub fn forget_below<R: Wait>(rt: &R, hits: &Hits, least: u64) -> Result<(), Refused>
     ensures { IfErr result IsMemoryOrCapacity }
 {
@@ -48,6 +52,10 @@ pub fn forget_below<R: Wait>(rt: &R, hits: &Hits, least: u64) -> Result<(), Refu
 
 /// Returns the reads of all pages, up to the greatest number of 64 bits. Reads that are counted
 /// meanwhile may be included or not.
+///
+/// # Errors
+///
+/// Fails with `Refused::Memory` or `Refused::Capacity`, as `values` of a pinned map does.
 pub fn total<R: Wait>(rt: &R, hits: &Hits) -> Result<u64, Refused>
     ensures { IfErr result IsMemoryOrCapacity }
 {

@@ -20,6 +20,10 @@ pub struct Interner {
 
 impl Interner {
     /// Returns an interner without texts.
+    ///
+    /// # Errors
+    ///
+    /// Fails with `Refused::Memory` if an allocation fails.
     pub fn new<R: Wait>(rt: &R, alloc: Global) -> Result<Interner, Refused> {
         Ok(Interner {
             numbers: HashMap::new(rt, alloc)?,
@@ -30,6 +34,11 @@ impl Interner {
 
     /// Returns the number of a text, which gets one if it has none. If threads pass in one text at
     /// once, all get the number of the first; a number that another has drawn for it stays unused.
+    ///
+    /// # Errors
+    ///
+    /// Fails with `Refused::Memory` if an allocation fails, and with `Refused::Capacity` if one of
+    /// the two maps has no room.
     #[tactic(auto, using(crate::proofs::LimitLemmas::unlimited))]
     pub fn number<R: Wait>(&self, rt: &R, alloc: Global, text: &str) -> Result<u64, Refused>
         ensures { IfErr result IsMemoryOrCapacity }

@@ -50,6 +50,11 @@ pub fn login_of<R: Wait>(rt: &R, desk: &mut Desk<'_>, token: u64, now: u64) -> O
 }
 
 /// Removes the logins that have ended by now, and no other.
+///
+/// # Errors
+///
+/// Fails with `Refused::Memory` or `Refused::Capacity`, as [`Session::retain`] does. It may then
+/// have removed some of the logins.
 pub fn drop_ended<R: Wait>(
     rt: &R,
     logins: &mut Session<'_, u64, Login>,

@@ -18,6 +18,11 @@ pub type Metrics = HashMap<String, AtomicU64, BuildHasherDefault<FoldHasher>>;
 /// Adds to the counter of a name, which begins at 0, and returns its old value. If the name has a
 /// counter, the name is not copied, and the call never waits. Otherwise it inserts one, unless
 /// another thread is first; it changes nothing else in the map.
+///
+/// # Errors
+///
+/// Fails with `Refused::Memory`, `Refused::Capacity` or `Refused::Limit` if the counter cannot be
+/// inserted, and then adds nothing.
 #[tactic(auto, using(crate::proofs::MetricLemmas::seen_on))]
 pub fn add<R: Wait>(
     rt: &R,

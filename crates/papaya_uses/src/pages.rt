@@ -24,6 +24,10 @@ pub type Reader<'a> = Handle<'a, Table>;
 pub const KEPT: u64 = 600;
 
 /// Returns an empty cache that stores this many pages at a time.
+///
+/// # Errors
+///
+/// Fails with `Refused::Memory` if an allocation fails.
 pub fn pages<R: Wait>(
     rt: &R,
     alloc: Global,
@@ -33,8 +37,11 @@ pub fn pages<R: Wait>(
     Reclaiming::new(alloc, map)
 }
 
-/// Returns a copy of a page's text, if the cache has the page. Fails with `Refused::Memory` if
-/// there is no memory for the copy.
+/// Returns a copy of a page's text, if the cache has the page.
+///
+/// # Errors
+///
+/// Fails with `Refused::Memory` if there is no memory for the copy.
 pub fn text_of<R: Wait>(
     rt: &R,
     reader: &mut Reader<'_>,
@@ -50,6 +57,12 @@ pub fn text_of<R: Wait>(
 }
 
 /// Puts a page in. If the cache is full, it drops old pages first, and all if that is not enough.
+///
+/// # Errors
+///
+/// Fails with `Refused::Memory` or `Refused::Capacity` if the page cannot be stored. Fails with
+/// `Refused::Limit` if other threads fill the cache again before the page is stored, or if its
+/// limit is 0.
 pub fn put<R: Wait>(
     rt: &R,
     reader: &mut Reader<'_>,

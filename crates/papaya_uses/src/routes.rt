@@ -22,6 +22,11 @@ pub fn handler(routes: &mut Session<'_, String, u64>, path: &str) -> Option<u64>
 
 /// Sets the handler of a path, and returns the old one. Threads that look it up meanwhile get
 /// either.
+///
+/// # Errors
+///
+/// Fails with `Refused::Memory`, `Refused::Capacity` or `Refused::Limit`, as [`Session::insert`]
+/// does, and then changes nothing.
 pub fn lead<R: Wait>(
     rt: &R,
     routes: &mut Session<'_, String, u64>,

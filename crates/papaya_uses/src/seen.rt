@@ -44,8 +44,13 @@ impl<'a> Finder<'a> {
         }
     }
 
-    /// Records that an item was met, and returns whether it is new: true for just one of the
-    /// threads that meet it.
+    /// Records that an item was met, and returns whether it is new. As long as no thread forgets
+    /// the item, at most one call returns true for it.
+    ///
+    /// # Errors
+    ///
+    /// Fails with `Refused::Memory`, `Refused::Capacity` or `Refused::Limit`, as
+    /// [`Session::insert`] does, and then records nothing.
     pub fn meet<R: Wait>(&mut self, rt: &R, item: u64) -> Result<bool, Refused>
         ensures map { self.new.map ≡ self.old.map }
         ensures seen { IsPrefix self.old.history self.new.history }
@@ -60,6 +65,11 @@ impl<'a> Finder<'a> {
     }
 
     /// Forgets an item, so that it is new again; returns whether it was there.
+    ///
+    /// # Errors
+    ///
+    /// Fails with `Refused::Memory` or `Refused::Capacity`, as [`Session::remove`] does, and then
+    /// forgets nothing.
     pub fn forget<R: Wait>(&mut self, rt: &R, item: u64) -> Result<bool, Refused>
         ensures map { self.new.map ≡ self.old.map }
         ensures seen { IsPrefix self.old.history self.new.history }

@@ -13,6 +13,11 @@ use std::sync::Wait;
 pub type Users = HashMap<u64, u64, BuildHasherDefault<FoldHasher>>;
 
 /// Gives the token to a user, and returns its previous user.
+///
+/// # Errors
+///
+/// Fails with `Refused::Memory`, `Refused::Capacity` or `Refused::Limit`, as [`Session::insert`]
+/// does, and then changes nothing.
 pub fn sign_in<R: Wait>(
     rt: &R,
     desk: &mut Session<'_, u64, u64>,
@@ -37,6 +42,11 @@ pub fn user_of(desk: &mut Session<'_, u64, u64>, token: u64) -> Option<u64>
 
 /// Removes the token of this user; returns whether it did. It returns `false` if there is no such
 /// token, or if another user has it now; then it changes nothing.
+///
+/// # Errors
+///
+/// Fails with `Refused::Memory` or `Refused::Capacity`, as [`Session::remove_if`] does, and then
+/// changes nothing.
 pub fn sign_out<R: Wait>(
     rt: &R,
     desk: &mut Session<'_, u64, u64>,

@@ -11,7 +11,12 @@ use std::sync::Wait;
 pub type Settings = HashMap<u64, u64, BuildHasherDefault<FoldHasher>>;
 
 /// Gives a setting a value, and reads it back: at some point after this thread's own change, which
-/// is the only one that it makes. If the call fails, it changes nothing.
+/// is the only one that it makes.
+///
+/// # Errors
+///
+/// Fails with `Refused::Memory`, `Refused::Capacity` or `Refused::Limit`, as [`Session::insert`]
+/// does, and then changes nothing.
 pub fn set_and_read<R: Wait>(
     rt: &R,
     settings: &mut Session<'_, u64, u64>,

@@ -16,6 +16,11 @@ pub(crate) fn one_more(count: &u64) -> u64
 }
 
 /// Counts the words. A word that is not in the map is not in the text.
+///
+/// # Errors
+///
+/// Fails with `Refused::Memory` or `Refused::Capacity` if the map cannot be made or has no room for
+/// a word.
 pub fn count_words<W: Hash + Eq + Copy + Drop>(
     alloc: Global,
     words: &[W],

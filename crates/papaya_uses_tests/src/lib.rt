@@ -1,5 +1,5 @@
-//! Tests of the callers in `papaya_uses`, of the names that `papaya` exports, and of public calls
-//! at numbers.
+//! Tests of the callers in `papaya_uses`, of the names that `papaya` exports, of the examples in
+//! the documentation, and of public calls at numbers.
 //! It uses `papaya` and `papaya_uses`.
 //! No crate builds on it.
 #![tactic(auto)]
@@ -8,6 +8,8 @@
 mod caches;
 #[cfg(test)]
 mod collections;
+#[cfg(test)]
+mod examples;
 #[cfg(test)]
 mod expect;
 #[cfg(test)]

@@ -1,4 +1,4 @@
--- The lengths of tables that follow one another, and their limits.
+-- The lengths of tables that follow each other, and their probe limits.
 use Rattle.std.proofs.Common.{◌≡◌, ◌⊎◌, inl, inr, ⊎_elim, ℕ, zero, suc, ◌*◌, ◌/◌, ◌^◌, ◌<◌, ◌≤◌}
 use Rattle.std.proofs.Common.{nat_le, le-leb, Bool, cond, max, ◌||◌, refl, sym, ap, ◌∙◌, subst}
 use Rattle.std.proofs.Common.{arith}

@@ -1,4 +1,4 @@
--- What a word says is what it was made of, and what the steps of a slot keep.
+-- A word has the kind and the pair that it was made of, and what the steps of a slot preserve.
 use Rattle.std.proofs.Common.{◌≡◌, ℕ, ◌%◌, ◌<◌, ◌≢◌, ap, subst, arith}
 use Rattle.std.proofs.lemmas.Grind.{common_steps}
 use Rattle.papaya_words.specs.Word.{kind_of, kind_of_code, pair_of, filled_word, live_word, marked_word, copied_word, buried_word, MayBecome, IsSlotStep}

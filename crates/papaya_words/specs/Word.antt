@@ -1,9 +1,9 @@
--- What the words of slots say, and how they change.
+-- The words of slots: what they mean, and how they change.
 use Rattle.std.specs.Prelude.{◌≡◌, ℕ, ◌+◌, ◌*◌, ◌/◌, ◌%◌, ◌^◌, Bool, ◌==◌, ◌||◌, if◌then◌else◌}
 use Rattle.papaya_words.specs.declared.word.Kind.{Kind}
 use Rattle.papaya_words.specs.declared.word.Kind.TheVariants.{Empty, Live, Marked, Copied, Buried, Closed}
 
--- the kind, from its code; 6 and 7 stand in no table
+-- the kind that has this code; 6 and 7 occur in no table
 abbrev pub kind_of_code : ℕ → Kind
 kind_of_code n =
     if n == 0 then Empty else if n == 1 then Live else if n == 2 then Marked else if n == 3
@@ -46,7 +46,7 @@ top_byte hash = hash / 2 ^ 57
 abbrev pub hint_of : ℕ → ℕ
 hint_of hash = 1 + top_byte hash
 
--- a slot with this hint may hold a pair of a key with this hash
+-- whether a slot with this hint may hold a pair of a key with this hash
 abbrev pub may_hold : (hint hash : ℕ) → Bool
 may_hold hint hash = hint == 0 || hint == hint_of hash
 
@@ -54,11 +54,11 @@ may_hold hint hash = hint == 0 || hint == hint_of hash
 abbrev pub shut_hint : ℕ
 shut_hint = 129
 
--- two words name one pair
+-- two words name the same pair
 abbrev pub NamesSamePair : ℕ → ℕ → Type 0
 NamesSamePair old new = pair_of old ≡ pair_of new
 
--- a word of the first kind may become one of the second: what must hold of the two words
+-- a slot word of the first kind may become one of the second kind: what must hold of the two words
 abbrev pub MayBecome : Kind → Kind → ℕ → ℕ → Type 0
 -- claim, and place
 MayBecome Empty Live old new = old ≡ 0
@@ -68,12 +68,12 @@ MayBecome Empty Closed old new = (old ≡ 0) × (new ≡ 5)
 MayBecome Live Live old new = Unit {0}
 -- mark
 MayBecome Live Marked old new = NamesSamePair old new
--- delete
+-- bury
 MayBecome Live Buried old new = NamesSamePair old new
 -- finish
 MayBecome Marked Copied old new = NamesSamePair old new
 MayBecome _ _ _ _ = ⊥
 
--- one step may put the second word where the first one stands in a slot
+-- one exchange may replace the slot word `old` by `new`
 abbrev pub IsSlotStep : ℕ → ℕ → Type 0
 IsSlotStep old new = MayBecome (kind_of old) (kind_of new) old new

@@ -5,36 +5,37 @@ ghost use Rattle.papaya_words.specs.Refusals.{number_of};
 use std::error::Error;
 use std::fmt;
 
-/// Why a call was refused. A call ends at its first refusal.
+/// Why a call failed: the error of all calls. A call ends at its first refusal. A refused call on a
+/// key has changed no entry, and has dropped what was passed in.
 ///
 /// In 0.2.5 these are panics, or an abort if memory runs out.
 #[derive(Clone, Copy, Debug, PartialEq, Eq)]
 pub enum Refused {
-    /// The allocator returned an error during this call. A map that threads share also fails so
-    /// once it has stored 2^42 pairs since it was made or last reclaimed.
+    /// An allocation failed. A map that threads share also fails with this once it has stored 2^42
+    /// entries since it was made or last reclaimed.
     Memory,
     /// A size would exceed a limit of [`crate::limits`], or does not fit in 64 bits.
     Capacity,
     /// The guard belongs to another collector than the map's.
     WrongGuard,
-    /// A `compute` closure that was called without an entry returned a removal.
+    /// The closure of a `compute` returned `Operation::Remove`, and the key has no entry.
     RemoveNothing,
-    /// A map was to be made with chunks of no slots.
+    /// A map was to be made with chunks of no slots: `ResizeMode::Incremental(0)`.
     ZeroChunk,
     /// The JSON value is not an object where a map is read, or not an array where a set is read.
     Shape,
-    /// Two keys of a map gave the same JSON text.
+    /// Two keys of a map have the same JSON text.
     KeyClash,
-    /// The caller's JSON function returned `None` for an item.
+    /// A function that the caller passed in for JSON returned `None` for an item.
     Item,
-    /// The map has stored as many pairs as it was built for. Call its `reclaim`, which keeps only
-    /// those that are in the map, or build it with a larger limit.
+    /// The map has stored as many entries as its `pair_limit` allows. Call its `reclaim`, which
+    /// keeps only those that are in the map, or build it with a larger limit.
     Limit,
 }
 
 impl Refused {
     /// Returns the number by which programs report the refusal: 1 to 9, in the order above. If
-    /// several apply at one point of a call, the first of 3, 5, 2, 9 and 1 is reported.
+    /// several reasons apply at one point of a call, it fails with the first of 3, 5, 2, 9 and 1.
     pub fn number(&self) -> u8
         ensures { result ≡ number_of self.now }
     {

@@ -2,7 +2,8 @@
 
 use crate::limits::DEFAULT_CHUNK;
 
-/// How pairs move from a full table to the next one.
+/// How entries move from a full table to the next one: `ResizeMode` of 0.2.5. The default is
+/// `Incremental(64)`.
 #[derive(Clone, Copy, Debug, PartialEq, Eq)]
 pub enum ResizeMode {
     /// Each changing call that meets the resize copies this many slots. A map can't be made with a

@@ -263,7 +263,7 @@ pub fn next_limit(len: usize, before: usize, did_not_fit: bool) -> usize
     }
 }
 
-/// A law, with an empty body: each table's length is a power of two if the length before is.
+/// States that each table's length is a power of two if the length before is.
 pub fn lengths_are_powers()
     ensures { (len count initial : ℕ) (did_not_fit : Bool) → IsPowerOfTwo len → IsPowerOfTwo initial
         → IsPowerOfTwo (max (length_after len count initial did_not_fit) 8) }

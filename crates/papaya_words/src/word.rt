@@ -115,8 +115,8 @@ pub fn legal(old: Word, new: Word) -> bool
     }
 }
 
-/// A law, with an empty body: a word gives back the kind and the pair that it was made of, and a
-/// filled word is made of the kind and the pair that it gives.
+/// States that a word gives back the kind and the pair that it was made of, and a filled word is
+/// made of the kind and the pair that it gives.
 pub fn words_read_back()
     ensures kind { (code pair : ℕ) → code < 8
         → kind_of (filled_word code pair) ≡ kind_of_code code }

@@ -1,7 +1,7 @@
--- What a guard says of itself.
+-- The numbers of a guard.
 use Rattle.std.specs.Prelude.{ℕ}
 
--- a guard's numbers: its collector's, and its own
+-- the numbers of a guard: its collector's number, and its own
 pub record GuardNumbers : Type 0 where
   pub collector : ℕ
   pub own : ℕ

@@ -1,6 +1,6 @@
-//! Keys and their lookups, guards, the results of calls, and checks of the sizes of a new map.
-//! It uses `papaya_words`, and the calls of `papaya_call`.
-//! All maps build on it: `papaya_core_store` on plain words, and `papaya_map_book` on atomic ones.
+//! Types in the signatures of calls: keys, guards and results. Checks of the sizes of new maps.
+//! It uses `papaya_words` and `papaya_call`.
+//! `papaya_core_store` and `papaya_map_book`, which store all maps, build on it.
 #![tactic(auto)]
 
 pub mod guard;

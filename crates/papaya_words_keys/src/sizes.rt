@@ -10,6 +10,10 @@ use papaya_words::probe::entries_for;
 use papaya_words::refused::Refused;
 use papaya_words::resize_mode::ResizeMode;
 
+/// Checks that the chunks of a resize mode have slots.
+///
+/// # Errors
+///
 /// Fails with `Refused::ZeroChunk` if `mode` has chunks of no slots.
 pub fn check_chunk(mode: ResizeMode) -> Result<(), Refused>
     ensures ok { OnOk result (IsChunked mode) }
@@ -21,8 +25,12 @@ pub fn check_chunk(mode: ResizeMode) -> Result<(), Refused>
     }
 }
 
-/// Returns the initial capacity, in slots, of a map that is made for `capacity` entries. Fails with
-/// `Refused::Capacity` if eight times `capacity` exceeds 64 bits, or the result [`MAX_TABLE_LEN`].
+/// Returns the initial capacity, in slots, of a map that is made for `capacity` entries.
+///
+/// # Errors
+///
+/// Fails with `Refused::Capacity` if eight times `capacity` exceeds 64 bits, or the result exceeds
+/// [`MAX_TABLE_LEN`].
 pub fn initial_len(capacity: usize) -> Result<usize, Refused>
     ensures ok { IfOk result (λ initial. (capacity * 8 < 2 ^ 64) × IsEntriesFor capacity initial
         × (initial ≤ MAX_TABLE_LEN)) }

@@ -1,4 +1,5 @@
--- Two settings that see pairs alike allow the same exchanges, whatever types their keys have: an exchange asks of keys only what the pairs' keys are to each other and where their places are.
+-- Two settings that treat pairs alike allow the same exchanges, whatever types their keys have: an
+-- exchange depends only on which pairs have equal keys, and on where their places are.
 use Rattle.std.proofs.Common.{MatchOption, true, ◌≡◌, inl, inr, ⊎_elim, ℕ, suc, ◌<◌, Bool, cond, List, [], ◌∷◌, refl, sym, ap, ◌∙◌, subst}
 use Rattle.papaya_words_law.specs.Exchange.{Word, Empty, Closed, Live, Marked, Copied, Buried, Setting}
 use Rattle.papaya_words_law.specs.Exchange.{State, Exchange, Open, Claim, Replace, Bury, Link, Mark}

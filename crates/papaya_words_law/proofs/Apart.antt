@@ -1,4 +1,4 @@
--- An exchange that fills an Empty slot is a claim or a copy, and never may be both.
+-- An exchange that fills an empty slot is a claim or a copy, and the two are never both allowed.
 use Rattle.std.proofs.Common.{◌≡◌, ⊎_elim, ℕ, ◌<◌, true, false, Option, Some, refl, ap, ◌∙◌, subst}
 use Rattle.std.proofs.lemmas.Bool.{cond-true}
 use Rattle.papaya_words_law.specs.Exchange.{Empty, Marked, Copied, Setting, State}

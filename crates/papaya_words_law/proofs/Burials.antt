@@ -1,4 +1,5 @@
--- A word that stood Live and is Buried now was deleted between: after that exchange the map has no pair of its keys.
+-- If a word was Live and is Buried now, its pair was removed in between: after that exchange the
+-- map had no pair of its key.
 use Rattle.std.proofs.Common.{◌≡◌, ⊎_elim, ℕ, true, Option, None, List, [], ◌∷◌, refl, ap, ◌∙◌, sym, subst}
 use Rattle.std.proofs.lemmas.Bool.{cond-true}
 use Rattle.papaya_words_law.specs.Exchange.{Word, Empty, Closed, Live, Marked, Copied, Buried, Setting}

@@ -1,4 +1,5 @@
--- What is kept and seen under one setting is kept and seen under each that agrees with it on the tables of the chain.
+-- The invariant, and what a search finds, under one setting are the same under each setting that
+-- agrees with it on the tables of the chain.
 use Rattle.std.proofs.Common.{true, ◌≡◌, ◌⊎◌, inl, inr, ⊎_elim, ℕ, ◌<◌, Bool, cond, Option, None, Some, refl, sym, ap, ◌∙◌, subst}
 use Rattle.papaya_words_law.specs.Exchange.{Word, Empty, Closed, Live, Marked, Copied, Buried, Setting, State}
 use Rattle.papaya_words_law.specs.View.{View, Foreign, Here, Leaving, Gone, Grave, own, view, look, IsPassed, IsFull, HasWord}

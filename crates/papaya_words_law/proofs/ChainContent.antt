@@ -1,4 +1,5 @@
--- What the tables of the chain have together is the map, as a list in which no key stands twice.
+-- What the tables of the chain have together is the map, as a list in which no two pairs have equal
+-- keys.
 use Rattle.std.proofs.Common.{◌≡◌, ◌⊎◌, ⊎_elim, ℕ, zero, suc, ◌<◌, ◌≤◌, ◌==◌, true, false, Option}
 use Rattle.std.proofs.Common.{None, Some, List, [], refl, sym, ap, ◌∙◌, subst, arith, eqb-true}
 use Rattle.std.proofs.Common.{eq-eqb}

@@ -1,4 +1,5 @@
--- Over how many tables the list of a chain goes, how long it is, when it is the root's own, and what else is equal to it.
+-- The list of a chain: over how many tables it goes, how long it is, when it is that of the root
+-- alone, and what else it equals.
 use Rattle.std.proofs.Common.{◌≡◌, ◌⊎◌, inl, inr, ⊎_elim, ℕ, zero, suc, ◌+◌, ◌*◌, ◌<◌, ◌≤◌, ◌++◌}
 use Rattle.std.proofs.Common.{false, Option, None, Some, List, [], ◌∷◌, length, refl, sym, ap, ◌∙◌}
 use Rattle.std.proofs.Common.{arith}

@@ -1,5 +1,6 @@
--- One class of keys: what its words in the tables are, without blocking.
--- `On` says which tables the chain has, n at how many places a search looks, S the slot of a place and V what stands there.
+-- One class of keys: what its words in the tables are, without blocking. `On` says which tables are
+-- on the chain, n at how many places a search looks, S which slot a place has, and V what a search
+-- finds there.
 use Rattle.std.proofs.Common.{◌≡◌, ◌⊎◌, inl, inr, ⊎_elim, ℕ, ◌<◌, Bool, true, Option, None, Some, refl, sym, ap, ◌∙◌, subst}
 use Rattle.std.proofs.lemmas.Bool.{cases_order}
 use Rattle.papaya_words_law.specs.View.{View, Free, Here, Leaving, Gone, own, active, held, beyond, foreign, IsPassed, IsFull}

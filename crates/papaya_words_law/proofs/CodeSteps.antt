@@ -1,4 +1,4 @@
--- Each exchange of a slot is a legal step of the numbers that stand for its words.
+-- Each exchange of a slot is a legal step of the numbers of its words.
 use Rattle.std.proofs.Common.{◌≡◌, ℕ, Some, refl, sym, ◌∙◌, subst}
 use Rattle.papaya_words.specs.Word.{IsSlotStep, MayBecome, NamesSamePair, kind_of}
 use Rattle.papaya_words_law.specs.Exchange.{Word, Empty, Closed, Live, Marked, Copied, Buried, Setting}

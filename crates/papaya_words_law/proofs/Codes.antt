@@ -1,4 +1,4 @@
--- What a number that stands for a word of the law says: its kind and the pair's number.
+-- What the number of a word says: the kind of the word, and the number of its pair.
 use Rattle.std.proofs.Common.{◌≡◌, ℕ, ◌%◌, ◌^◌, ◌<◌, Some, refl, sym, ap, ◌∙◌, arith}
 use Rattle.papaya_words.specs.Word.{kind_of, kind_of_code, pair_of, filled_word}
 use Rattle.papaya_words_law.specs.Exchange.{Word, Empty, Closed, Live, Marked, Copied, Buried, Setting}

@@ -1,4 +1,5 @@
--- What a copier that has gathered its facts can count on: which tables it names, and that its facts last.
+-- What a copier can rely on once it has gathered its facts: which tables it names, and that its
+-- facts last.
 use Rattle.std.proofs.Common.{◌≡◌, ◌⊎◌, inl, inr, ⊎_elim, ℕ, suc, ◌<◌, ◌≤◌, true, false, Option, Some, sym, ap, ◌∙◌, subst, arith}
 use Rattle.std.proofs.lemmas.Bool.{cases_order, cond-true}
 use Rattle.papaya_words_law.specs.Exchange.{Word, Empty, Closed, Live, Marked, Copied, Buried, Setting, State}

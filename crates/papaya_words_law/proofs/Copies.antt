@@ -1,4 +1,5 @@
--- How a copier comes to what its exchanges ask for: which table takes a pair, and when its places are done. All of it lasts (`Later`).
+-- How a copier gets the conditions of its exchanges: which table takes a pair, and when its places
+-- are done. All of this lasts (`Later`).
 use Rattle.std.proofs.Common.{◌≡◌, ◌⊎◌, inl, inr, ⊎_elim, ℕ, suc, ◌<◌, ◌≤◌, true, false, refl, sym, ap, ◌∙◌, subst, arith}
 use Rattle.std.proofs.lemmas.Bool.{cases_lt}
 use Rattle.papaya_words_law.specs.Exchange.{Empty, Marked, Setting, State, walk}

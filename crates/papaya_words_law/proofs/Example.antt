@@ -1,4 +1,5 @@
--- Two lists of exchanges that are allowed, one in each mode, together of every kind: the conditions can be met.
+-- Two lists of allowed exchanges, one in each mode, which together have every kind: the conditions
+-- can be met.
 use Rattle.std.proofs.Common.{◌≡◌, inl, inr, ℕ, zero, suc, ◌<◌, ◌==◌, Bool, true, false, cond, [], ◌∷◌, refl, sym, ◌∙◌, arith, eqb-true, eq-eqb}
 use Rattle.papaya_words_law.specs.Exchange.{State, Take, Open, Claim, Replace, Link, Mark, Close, Place, Finish, Abort, start, run, walk}
 use Rattle.papaya_words_law.specs.View.{look, beyond, foreign}

@@ -1,4 +1,5 @@
--- Lists in which no key stands twice: those of one map are of one length, which an exchange changes as it changes the map.
+-- Lists in which no two pairs have equal keys: those of one map have the same length, which an
+-- exchange changes as it changes the map.
 use Rattle.std.proofs.Common.{◌≡◌, ⊎_elim, suc, true, false, cond, Option, None, Some, List, [], ◌∷◌, length, refl, sym, ap, ◌∙◌, subst}
 use Rattle.std.proofs.lemmas.Bool.{cases_Bool, cond-true, cond-false}
 use Rattle.papaya_words_law.specs.Exchange.{Setting, State, Exchange, Open, Claim, Replace, Bury, Link, Mark, Close, Place, Finish, Advance, Promote, Abort, Take}

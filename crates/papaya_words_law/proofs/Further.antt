@@ -1,4 +1,4 @@
--- One further key: the setting with it is lawful, and but for it there is nothing new.
+-- One further key: the setting with it is lawful, and nothing else in it is new.
 use Rattle.std.proofs.Common.{◌≡◌, ℕ, ◌+◌, ◌^◌, ◌<◌, Bool, true, Option, None, Some, refl, sym, ap, ◌∙◌}
 use Rattle.std.proofs.Math.Nat.{mod-lt}
 use Rattle.papaya_words.specs.Probe.{place, triangular}

@@ -1,4 +1,5 @@
--- The map in a setting with one further key: the map itself and, for that key, what the map has for those that it matches.
+-- The map in a setting with one further key: the map itself and, for that key, what the map has for
+-- the keys that it matches.
 use Rattle.std.proofs.Common.{◌≡◌, ◌↔◌, ℕ, Bool, true, false, cond, Option, None, Some, List, [], ◌∷◌, ◌++◌, refl, sym, ap, ◌∙◌, subst}
 use Rattle.papaya_words_law.specs.Exchange.{Setting, State, Exchange, Open, Claim, Replace, Bury, Link}
 use Rattle.papaya_words_law.specs.Exchange.{Mark, Close, Place, Finish, Advance, Promote, Abort, Take}

@@ -1,4 +1,5 @@
--- What a caller saw, an exchange or a list of them that is allowed under one setting, is so under each that agrees with it on the tables of the chain.
+-- What a caller has loaded, and which exchanges and lists of them are allowed, is the same under
+-- each setting that agrees with this one on the tables of the chain.
 use Rattle.std.proofs.Common.{MatchOption, ◌≡◌, inl, inr, ⊎_elim, ℕ, suc, ◌<◌, ◌≤◌, ◌==◌, Bool}
 use Rattle.std.proofs.Common.{true, cond, Option, None, Some, List, [], ◌∷◌, refl, sym, ap, ◌∙◌}
 use Rattle.std.proofs.Common.{subst, arith, eqb-true, eq-eqb}

@@ -1,4 +1,4 @@
--- Where equal keys have equal hashes, the plan by hash is lawful.
+-- If equal keys have equal hashes, the plan by hash is lawful.
 use Rattle.std.proofs.Common.{◌≡◌, ℕ, ◌+◌, Bool, true, Option, ap}
 use Rattle.papaya_words.specs.Probe.{place, triangular}
 use Rattle.papaya_words_law.specs.Grows.{IsLawfulPlan}

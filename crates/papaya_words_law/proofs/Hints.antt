@@ -1,4 +1,5 @@
--- What a hint says lasts, and a search that meets another byte, or a shut slot, goes past it.
+-- What a hint says stays true, and a search goes past a hint with another hash byte, or of a closed
+-- slot.
 use Rattle.std.proofs.Common.{◌≡◌, ◌⊎◌, inl, inr, ⊎_elim, ℕ, true, false, refl, sym, ap, ◌∙◌, subst, ◌==◌, eq-eqb}
 use Rattle.std.proofs.lemmas.Bool.{cases_Bool, cond-false, or_parts}
 use Rattle.papaya_words.specs.Word.{hint_of, may_hold}

@@ -1,4 +1,5 @@
--- Two lists of pairs joined, the first of which counts for a key where both have a pair: which pair a key has, and that no key stands twice.
+-- Two lists of pairs joined, of which the first counts if both have a pair of a key: which pair a
+-- key has, and that no two pairs have equal keys.
 use Rattle.std.proofs.Common.{◌≡◌, ⊎_elim, ◌++◌, true, false, Option, None, Some, List, [], ◌∷◌, refl, sym, ap, ◌∙◌, subst}
 use Rattle.std.proofs.lemmas.Bool.{cases_Bool}
 use Rattle.papaya_words_law.specs.Exchange.{Setting}

@@ -1,5 +1,6 @@
--- The proof of the law. An exchange changes one word, and so what each class of equal keys sees of it: the proof goes from one class to all words,
--- and from one exchange to lists. In the order in which it may be read:
+-- The proof of the law. An exchange changes one word, and by that what a search for each class of
+-- equal keys finds. The proof goes from one class to all words, and from one exchange to lists. In
+-- the order in which it may be read:
 
 -- one word, one class of keys, the chain of tables, one slot, and what both modes keep
 pub mod Views

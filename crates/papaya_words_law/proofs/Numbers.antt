@@ -1,4 +1,4 @@
--- Numbers for pairs are taken one by one, and no more than the limit lets.
+-- Numbers for pairs are taken one by one, and no more than the limit allows.
 use Rattle.std.proofs.Common.{◌≡◌, ℕ, ◌<◌, ◌≤◌, Some, MatchOption, List, [], ◌∷◌, subst, arith}
 use Rattle.papaya_words_law.specs.Exchange.{Setting, State, Exchange, Open, Claim, Replace, Bury, Link}
 use Rattle.papaya_words_law.specs.Exchange.{Mark, Close, Place, Finish, Advance, Promote, Abort, Take}

@@ -1,4 +1,5 @@
--- In both modes: the law of one step, the law of lists from the first exchange, and what lasts and is found after more of them.
+-- In both modes: the law of one step, the law of lists from the first exchange on, and what lasts
+-- and is found after more exchanges.
 use Rattle.std.proofs.Common.{◌≡◌, ◌⊎◌, inl, inr, ⊎_elim, ℕ, ◌<◌, true, false, Option, None, Some, List, [], ◌∷◌, ◌++◌, refl, sym, subst, arith}
 use Rattle.std.proofs.lemmas.Bool.{cases_Bool}
 use Rattle.papaya_words_law.specs.Exchange.{Setting, State, Exchange, after, run, start}

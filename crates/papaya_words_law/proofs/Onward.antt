@@ -1,4 +1,5 @@
--- Where a search that met a copier's work has a next table to go on to, and where it has none, the map has no pair.
+-- If a search has met a copier's work, it has a next table to go on to; if there is none, the map
+-- has no pair.
 use Rattle.std.proofs.Common.{◌≡◌, ◌⊎◌, inl, inr, ⊎_elim, ℕ, suc, ◌<◌, ◌≤◌, true, false, Option, None, sym, ap, subst, arith}
 use Rattle.std.proofs.lemmas.Bool.{cases_lt}
 use Rattle.papaya_words_law.specs.Exchange.{Setting, State, walk}

@@ -1,4 +1,5 @@
--- What a reader answers is the map's at a moment since it found the root, with blocking. (Without blocking `IsMeaning` says so of the last load itself.)
+-- With blocking, what a reader returns was in the map at some moment since it loaded the root.
+-- (Without blocking `IsMeaning` says this of the last load itself.)
 use Rattle.std.proofs.Common.{◌≡◌, ◌⊎◌, inl, inr, ⊎_elim, ℕ, ◌<◌, true, Option, None, Some, List, refl, sym, ap, ◌∙◌, subst, arith}
 use Rattle.papaya_words_law.specs.Exchange.{Setting, State, Exchange, run}
 use Rattle.papaya_words_law.specs.View.{Free, Here, Leaving, beyond, look, IsPassed, IsReached}

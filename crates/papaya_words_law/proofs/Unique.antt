@@ -1,4 +1,4 @@
--- A search always ends, so the words alone say what a key's pair is: a map that they mean is one.
+-- A search always ends, so the words alone determine a key's pair: words represent at most one map.
 use Rattle.std.proofs.Common.{◌≡◌, ◌⊎◌, inl, inr, ⊎_elim, ℕ, zero, suc, ◌+◌, ◌<◌, ◌≤◌, ◌==◌, true}
 use Rattle.std.proofs.Common.{false, Option, List, [], ◌∷◌, refl, sym, ◌∙◌, subst, arith, eqb-true}
 use Rattle.std.proofs.lemmas.Bool.{cases_Bool, cases_lt, cond-false}

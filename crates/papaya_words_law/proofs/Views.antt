@@ -1,4 +1,4 @@
--- Facts on what one word tells a search.
+-- Facts about what one word tells a search.
 use Rattle.std.proofs.Common.{◌≡◌, Bool, true, false, refl}
 use Rattle.papaya_words_law.specs.View.{View, Free, Foreign, Here, Leaving, Gone, Grave, own, active, held, beyond, foreign}
 

@@ -1,4 +1,4 @@
--- Words as numbers of 64 bits: what stands in memory for a word of the law.
+-- Words as numbers of 64 bits: the number in memory for each word of the law.
 use Rattle.std.specs.Prelude.{◌≡◌, ℕ, ◌<◌, ◌^◌, true, Some}
 use Rattle.papaya_words.specs.declared.word.Kind.{Kind}
 use Rattle.papaya_words.specs.declared.word.Kind.TheVariants as kinds
@@ -9,7 +9,7 @@ use Rattle.papaya_words_law.specs.Invariant.{named}
 use Rattle.papaya_words_law.specs.Meaning.{IsLawful}
 use Rattle.papaya_words.specs.Probe.{place}
 
--- How pairs are named in words: by a number. Nothing says that a number names one pair.
+-- How words name pairs: by a number. Nothing requires that a number names only one pair.
 pub record Coding (K P : Type 0) : Type 0 where
   pub number : P → ℕ
   pub hash : K → ℕ
@@ -25,7 +25,7 @@ pub record IsHashed {K P : Type 0} (g : Setting K P) (c : Coding K P) : Type 0 w
   pub coding : IsLawfulCoding g c
   pub places : (k : K) (t j : ℕ) → g.place k t j ≡ place (c.hash k) (g.size t) j
 
--- the number that stands in memory for a word
+-- the number in memory for a word
 abbrev pub code : {K P : Type 0} → Setting K P → Coding K P → Word P → ℕ
 code g c Empty = 0
 code g c Closed = 5
@@ -43,7 +43,7 @@ kind (Marked p) = kinds.Marked
 kind (Copied p) = kinds.Copied
 kind (Buried p) = kinds.Buried
 
--- Two words are of one kind, and the pairs that they name have one number.
+-- Two words are of the same kind, and the pairs that they name have the same number.
 pub record AreAlike {K P : Type 0} (g : Setting K P) (c : Coding K P) (v w : Word P) : Type 0 where
   pub kind_is : kind v ≡ kind w
   pub pair_is : (p q : P) → named v ≡ Some p → named w ≡ Some q → c.number p ≡ c.number q
@@ -59,7 +59,7 @@ ChangesSlot (Place n x p) u y = (n ≡ u) × (x ≡ y)
 ChangesSlot (Finish t x p) u y = (t ≡ u) × (x ≡ y)
 ChangesSlot _ u y = ⊥
 
--- what the kind of a number says of the word that it stands for
+-- the word w is of this kind
 abbrev pub IsOfKind : {P : Type 0} → Kind → Word P → Type 0
 IsOfKind kinds.Empty w = w ≡ Empty
 IsOfKind kinds.Closed w = w ≡ Closed

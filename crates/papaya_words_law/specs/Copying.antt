@@ -3,8 +3,8 @@ use Rattle.std.specs.Prelude.{◌≡◌, ◌⊎◌, ℕ, suc, ◌<◌, true, fal
 use Rattle.papaya_words_law.specs.Exchange.{Word, Empty, Live, Marked, Copied, Setting, State, walk}
 use Rattle.papaya_words_law.specs.View.{look, foreign, IsFull, HasWord}
 
--- Copies from t go to n: n comes some links after t, and the tables between are aborted or, without
--- blocking, full for the key.
+-- Copies of the key's pair from t go to n: n comes some links after t, and the tables in between
+-- are aborted or, without blocking, full for the key.
 pub record IsTaker {K P : Type 0} (g : Setting K P) (s : State P) (k : K) (t n : ℕ) : Type 0 where
   pub links : ℕ
   pub is : walk s.next (suc links) t ≡ n
@@ -25,29 +25,30 @@ pub record IsTarget {K P : Type 0} (g : Setting K P) (s : State P) (t n : ℕ) :
 abbrev pub Covers : {K P : Type 0} → Setting K P → ℕ → ℕ → Type 0
 Covers g t n = (x : ℕ) → x < g.size t → g.chunk_of x < g.chunks n
 
--- `from` is copied to the table that is linked to t: t is that table, with blocking one that was
--- the root, or t was given up when `from` was copied to it
+-- The table that is linked behind t gets the copies of `from`. Either t is `from`, which with
+-- blocking was the root; or, with blocking, `from` was the root and was being copied to t until t
+-- was aborted.
 abbrev pub IsLinking : {K P : Type 0} → Setting K P → State P → ℕ → ℕ → Type 0
 IsLinking g s from t = ((from ≡ t) × (g.blocking ≡ true → s.was_root t ≡ true))
     ⊎ ((g.blocking ≡ true) × (s.was_root from ≡ true) × IsTarget g s from t
     × (s.aborted t ≡ true))
 
--- a pair that is or was marked in some table, whose copies go to n
+-- the pair p is or was marked in some table from which its copies go to n
 pub record IsCopied {K P : Type 0} (g : Setting K P) (s : State P) (n : ℕ) (p : P) : Type 0 where
   pub from : ℕ
   pub slot : ℕ
   pub stood : (s.slot from slot ≡ Marked p) ⊎ (s.slot from slot ≡ Copied p)
   pub taker : IsTaker g s (g.key p) from n
 
--- a copier of a table into n is done with the word
+-- a copier that copies a table into n is done with a slot that has this word
 abbrev pub IsSettled : {K P : Type 0} → Setting K P → State P → ℕ → Word P → Type 0
 IsSettled g s n Empty = ⊥
 IsSettled g s n (Live p) = ⊥
 IsSettled g s n (Marked p) = (g.blocking ≡ true) × HasWord g.places (look g s (g.key p)) n
 IsSettled g s n _ = Unit {0}
 
--- p stood marked in slot x of t and goes to n, where the copier has met only other keys' words and
--- Closed at the places before j
+-- p is or was marked in slot x of t, and its copies go to n, where the places before j have only
+-- words of other keys and Closed
 pub record IsPutting {K P : Type 0} (g : Setting K P) (s : State P) (t x : ℕ) (p : P)
     (n j : ℕ) : Type 0 where
   pub stood : (s.slot t x ≡ Marked p) ⊎ (s.slot t x ≡ Copied p)

@@ -1,4 +1,4 @@
--- Two lists of exchanges that are allowed, one in each mode, together of every kind.
+-- Two lists of allowed exchanges, one in each mode, which together have every kind.
 use Rattle.std.specs.Prelude.{ℕ, ◌/◌, ◌==◌, true, false, cond, List, [], ◌∷◌, None, Some}
 use Rattle.papaya_words_law.specs.Exchange.{Setting, Exchange, Open, Claim, Replace, Bury, Link, Mark, Close, Place, Finish, Advance, Promote, Abort, Take}
 

@@ -1,9 +1,9 @@
--- Keys that are looked for by their hash.
+-- Searches that begin at the key's hash.
 use Rattle.std.specs.Prelude.{ℕ, Bool, Option}
 use Rattle.papaya_words.specs.Probe.{place}
 use Rattle.papaya_words_law.specs.Grows.{Plan}
 
--- the plan in which a search begins at the key's hash
+-- the plan in which the probe sequence of a key begins at its hash
 abbrev pub hashed : {K P : Type 0} → Bool → (ℕ → ℕ) → Option ℕ → (P → K) → (K → K → Bool) → (K → ℕ)
     → Plan K P
 hashed blocking chunk_of most key same hash = record {

@@ -1,12 +1,12 @@
--- What no allowed exchange undoes, so that what a caller saw at an earlier moment still serves.
+-- What no allowed exchange undoes, so that a caller can still use what it has loaded earlier.
 use Rattle.std.specs.Prelude.{◌≡◌, ◌⊎◌, ℕ, ◌<◌, ◌≤◌, true, Some}
 use Rattle.papaya_words_law.specs.Exchange.{Word, Empty, Closed, Live, Marked, Copied, Buried, Setting, State}
 use Rattle.papaya_words_law.specs.View.{look, beyond, foreign, IsPassed, IsFull, HasWord, IsNextPlace, IsReached}
 use Rattle.papaya_words_law.specs.Invariant.{named}
 use Rattle.papaya_words_law.specs.Copying.{IsTaker, IsTarget, IsCopied, IsSettled}
 
--- what a word may become: a pair gives way to one of its own key alone, so that the key of a filled
--- slot never changes
+-- what a word may become: only a pair of the same key takes the place of a pair, so the key of a
+-- filled slot never changes
 abbrev pub Becomes : {K P : Type 0} → Setting K P → Word P → Word P → Type 0
 Becomes g Empty w = Unit {0}
 Becomes g Closed w = w ≡ Closed
@@ -20,11 +20,11 @@ Becomes g (Marked p) w = (w ≡ Marked p) ⊎ (w ≡ Copied p)
 Becomes g (Copied p) w = w ≡ Copied p
 Becomes g (Buried p) w = w ≡ Buried p
 
--- the word names a pair of just this key
+-- the word names a pair that has exactly this key
 abbrev pub IsOfKey : {K P : Type 0} → Setting K P → Word P → K → Type 0
 IsOfKey {P = P} g w k = (q : P) × (named w ≡ Some q) × (g.key q ≡ k)
 
--- s' comes after s
+-- the state s' is later than s
 pub record IsLater {K P : Type 0} (g : Setting K P) (s s' : State P) : Type 0 where
   pub was : (t : ℕ) → s.was_root t ≡ true → s'.was_root t ≡ true
   pub next : (t : ℕ) → 0 < s.next t → s'.next t ≡ s.next t
@@ -33,7 +33,7 @@ pub record IsLater {K P : Type 0} (g : Setting K P) (s s' : State P) : Type 0 wh
   pub made : s.made ≤ s'.made
   pub words : (t x : ℕ) → Becomes g (s.slot t x) (s'.slot t x)
 
--- Each fact that a caller may have gathered by its loads, if it was so in s, is so in s'.
+-- Each fact that a caller may have learned from its loads holds in s' if it held in s.
 pub record IsLasting {K P : Type 0} (g : Setting K P) (s s' : State P) : Type 0 where
   pub passed : (k : K) (t : ℕ) → IsPassed g.places (look g s k) t
       → IsPassed g.places (look g s' k) t

@@ -1,10 +1,10 @@
--- The map that a list of exchanges leaves, and what it is for words to mean a map.
+-- The map that a list of exchanges leaves, and what it means for words to represent a map.
 use Rattle.std.specs.Prelude.{◌≡◌, ◌⊎◌, ℕ, ◌<◌, ◌++◌, true, false, cond, Option, None, Some, List, [], ◌∷◌}
 use Rattle.papaya_words_law.specs.Exchange.{Setting, Exchange, Claim, Replace, Bury, State}
 use Rattle.papaya_words_law.specs.View.{Free, Here, Leaving, look, beyond, IsPassed, IsReached}
 
--- Equal keys have equal places, a table has a slot, and a search looks within it, at one place
--- at least.
+-- Equality of keys is an equivalence, equal keys have equal places, a table has at least one slot,
+-- and a search looks at one or more places, all within the table.
 pub record IsLawful {K P : Type 0} (g : Setting K P) : Type 0 where
   pub itself : (k : K) → g.same k k ≡ true
   pub back : (k l : K) → g.same k l ≡ true → g.same l k ≡ true
@@ -30,35 +30,36 @@ map_of g m (e ∷ es) = map_of g (map_after g m e) es
 abbrev pub map_left : {K P : Type 0} → Setting K P → List (Exchange P) → K → Option P
 map_left g es = map_of g (λ k. None) es
 
--- what an exchange takes out of the map is what the map has there
+-- the exchange takes out of the map what the map has: a claim requires an absent key, and a
+-- replacement or a removal that p is the key's pair
 abbrev pub IsLegal : {K P : Type 0} → Setting K P → (K → Option P) → Exchange P → Type 0
 IsLegal g m (Claim t x p) = m (g.key p) ≡ None
 IsLegal g m (Replace t x p q) = m (g.key p) ≡ Some p
 IsLegal g m (Bury t x p) = m (g.key p) ≡ Some p
 IsLegal g m _ = Unit {0}
 
--- each exchange of a list is legal where it comes
+-- each exchange of the list is legal for the map that the earlier ones leave
 abbrev pub AllLegal : {K P : Type 0} → Setting K P → (K → Option P) → List (Exchange P) → Type 0
 AllLegal g m [] = Unit {0}
 AllLegal g m (e ∷ es) = IsLegal g m e × AllLegal g (map_after g m e) es
 
--- Where a search for the key can stand, what it finds is the map's. With blocking a search stands
--- in the root; else in each table that is reached.
+-- The words represent `value` for the key: wherever a search for the key may be, what it finds is
+-- that. With blocking a search is in the root, and otherwise in any table that is reached.
 pub record IsMeaning {K P : Type 0} (g : Setting K P) (s : State P) (k : K)
     (value : Option P) : Type 0 where
   pub no_root : s.root ≡ 0 → value ≡ None
-  -- its pair, Live or Marked
+  -- the key's pair, Live or Marked
   pub found : (t j : ℕ) (p : P) → IsReached g s k t → (g.blocking ≡ true → s.root ≡ t)
       → j < g.places t → (look g s k t j ≡ Here p) ⊎ (look g s k t j ≡ Leaving p) → value ≡ Some p
-  -- an empty place, which the search comes to
+  -- an empty place that the search comes to
   pub empty : (t j : ℕ) → IsReached g s k t → (g.blocking ≡ true → s.root ≡ t) → j < g.places t
       → ((i : ℕ) → i < j → beyond (look g s k t i) ≡ true) → look g s k t j ≡ Free → value ≡ None
-  -- no place left, and no next table
+  -- no place is left, and there is no next table
   pub over : (t : ℕ) → IsReached g s k t → IsPassed g.places (look g s k) t
       → ((g.blocking ≡ true) × (s.root ≡ t)) ⊎ ((g.blocking ≡ false) × (s.next t ≡ 0))
       → value ≡ None
 
--- at some moment of the exchanges fs, which begin where the map is m, the key's pair was `value`
+-- at some moment during the exchanges fs, which begin at the map m, the map had `value` for the key
 pub record IsAtMoment {K P : Type 0} (g : Setting K P) (m : K → Option P) (fs : List (Exchange P))
     (k : K) (value : Option P) : Type 0 where
   pub so_far : List (Exchange P)

@@ -23,7 +23,7 @@ ghost use Rattle.papaya_words.specs.declared.word.Kind.TheVariants as kinds;
 ghost use Rattle.std.specs.Prelude.{◌≡◌, ◌⊎◌, ◌↔◌, ℕ, zero, suc, ◌*◌, ◌<◌, ◌≤◌, ◌^◌, ◌==◌};
 ghost use Rattle.std.specs.Prelude.{◌++◌, Bool, true, false, List, [], ◌∷◌, length, Option, None, Some};
 
-/// The law: after each list of allowed exchanges the tables represent one map. Only claims,
+/// States the law: after each list of allowed exchanges the tables represent one map. Only claims,
 /// replacements and deletions change it, and each takes out exactly the pair that was there.
 pub fn one_map<K, P>()
     ensures meaning { (g : Setting K P) → IsLawful g → (es : List (Exchange P))
@@ -35,7 +35,7 @@ pub fn one_map<K, P>()
         → AllAllowed g start es → AllLegal g (λ k. None) es }
 {}
 
-/// The law of one step, for a backend that keeps a state and no list.
+/// States the law of one step, for a backend that keeps a state and no list.
 pub fn each_step<K, P>()
     ensures first { (g : Setting K P) → IsLawful g → IsKeeping g start (λ k. None) }
     ensures step { (g : Setting K P) → IsLawful g → (s : State P) (m : K → Option P)
@@ -45,13 +45,13 @@ pub fn each_step<K, P>()
         → IsKeeping g s m → (k : K) → IsMeaning g s k (m k) }
 {}
 
-/// An exchange that fills an Empty slot is a claim or a copy; it may never be both.
+/// States that an exchange that fills an Empty slot is a claim or a copy; it may never be both.
 pub fn claim_or_copy<K, P>()
     ensures { (g : Setting K P) → IsLawful g → (s : State P) (m : K → Option P) → IsKeeping g s m
         → (t x : ℕ) (p : P) → MayClaim g s t x p → MayPlace g s t x p → ⊥ }
 {}
 
-/// Tables that are made later do not affect what was kept and allowed before them.
+/// States that later tables do not affect what was kept and allowed before them.
 pub fn tables_come_later<K, P>()
     ensures keeps { (g g' : Setting K P) (s : State P) (m : K → Option P)
         → Agrees (IsOn s.first s.next) g g' → IsKeeping g s m → IsKeeping g' s m }
@@ -71,8 +71,8 @@ pub fn tables_come_later<K, P>()
         → (es : List (Exchange P)) (m : K → Option P) → map_of g' m es ≡ map_of g m es }
 {}
 
-/// A plan and growing lists of tables: which tables a chain has, and the setting that a log gives.
-/// The log's entries say how long the tables are that they open and link.
+/// States which tables a chain has, by a plan and growing lists of tables, and which setting a log
+/// gives. The log's entries say how long the tables are that they open and link.
 pub fn tables_of_a_log<K, P>()
     ensures comes { (s : State P) (t : ℕ) → IsOn s.first s.next t → Comes s t }
     ensures brings { (s : State P) (e : Exchange P) (t : ℕ) → Comes (after s e) t
@@ -91,7 +91,7 @@ pub fn tables_of_a_log<K, P>()
         → AllAllowed (setting_in h (es ++ e ∷ [])) start (exchanges (es ++ e ∷ [])) }
 {}
 
-/// Facts that a caller observed at an earlier point in time still serve.
+/// States that a caller may still use facts that it observed at an earlier point in time.
 pub fn facts_last<K, P>()
     ensures later { (g : Setting K P) → IsLawful g → (fs : List (Exchange P)) (s : State P)
         → AllAllowed g s fs → IsLater g s (run fs s) }
@@ -103,20 +103,20 @@ pub fn facts_last<K, P>()
         → IsKeeping g s m → (k : K) → 0 < s.root → IsReached g s k s.root }
 {}
 
-/// The key of a filled slot never changes.
+/// States that the key of a filled slot never changes.
 pub fn keys_stay<K, P>()
     ensures { (g : Setting K P) (s s' : State P) → IsLater g s s' → (t x : ℕ) (k : K)
         → IsOfKey g (s.slot t x) k → IsOfKey g (s'.slot t x) k }
 {}
 
-/// Numbers for pairs are taken one after another, and no more than the limit allows.
+/// States that numbers for pairs are taken one after another, and no more than the limit allows.
 pub fn numbers<K, P>()
     ensures { (g : Setting K P) (n : ℕ) → g.most ≡ Some n → (s : State P) (es : List (Exchange P))
         → AllAllowed g s es → s.made ≤ n → (run es s).made ≤ n }
 {}
 
-/// With blocking, a reader that took t for the root may be slow. The value that it finds there
-/// after the exchanges fs was the map's at some point during them.
+/// States that with blocking, a reader that took t for the root may be slow. The value that it
+/// finds there after the exchanges fs was the map's at some point during them.
 pub fn slow_readers<K, P>()
     ensures found { (g : Setting K P) → IsLawful g → g.blocking ≡ true
         → (s : State P) (m : K → Option P) → IsKeeping g s m → (t : ℕ) → s.root ≡ t → 0 < t
@@ -134,8 +134,8 @@ pub fn slow_readers<K, P>()
         → IsPassed g.places (look g (run fs s) k) t → IsAtMoment g m fs k None }
 {}
 
-/// If a search met a copier's work, there is a next table. Without blocking, if there is no next
-/// table, the map has no pair of the key.
+/// States that if a search met a copier's work, there is a next table. Without blocking, if there
+/// is no next table, the map has no pair of the key.
 pub fn goes_on<K, P>()
     ensures shut { (g : Setting K P) (s : State P) (m : K → Option P) → IsKeeping g s m → (t x : ℕ)
         → shut (s.slot t x) ≡ true → 0 < s.next t }
@@ -172,7 +172,7 @@ pub fn walks_of_a_root<K, P>()
         → IsAtMoment g m fs k None }
 {}
 
-/// How a copier meets the conditions of its exchanges.
+/// States how a copier meets the conditions of its exchanges.
 pub fn copiers<K, P>()
     ensures first { (g : Setting K P) (s : State P) (t : ℕ) → 0 < s.next t
         → IsTarget g s t (s.next t) }
@@ -197,14 +197,14 @@ pub fn copiers<K, P>()
         → s.slot t x ≡ Marked p → MayFinish g s t x p }
 {}
 
-/// A table to which a former root is copied has a word for each chunk of that root.
+/// States that a table to which a former root is copied has a word for each chunk of that root.
 pub fn chunk_words<K, P>()
     ensures { (g : Setting K P) (s : State P) (m : K → Option P) → IsKeeping g s m → (t n : ℕ)
         → s.was_root t ≡ true → IsTarget g s t n → Covers g t n }
 {}
 
-/// A former root without a next table is the root. A search that met its key's pair leaving may go
-/// on to a later table once the slot is settled.
+/// States that a former root without a next table is the root. A search that met its key's pair
+/// leaving may go on to a later table once the slot is settled.
 pub fn after_copies<K, P>()
     ensures last_root { (g : Setting K P) (s : State P) (m : K → Option P) → IsKeeping g s m
         → (t : ℕ) → s.was_root t ≡ true → s.next t ≡ 0 → s.root ≡ t }
@@ -214,7 +214,7 @@ pub fn after_copies<K, P>()
         → IsSettled g s n (s.slot t (g.place k t j)) → IsPassed g.places (look g s k) t }
 {}
 
-/// Codes: what the numbers in memory say about the words. Each exchange is a legal step of a
+/// States what the numbers in memory say about the words. Each exchange is a legal step of a
 /// number. A number does not identify a pair by itself: two words with one number are only alike.
 pub fn codes<K, P>()
     ensures kind { (g : Setting K P) (c : Coding K P) (w : Word P) → kind_of (code g c w) ≡ kind w }
@@ -232,7 +232,7 @@ pub fn codes<K, P>()
         → (after s e).slot t x ≡ s.slot t x }
 {}
 
-/// Searches: what a search for a key learns from the number that it loads, and from comparing keys.
+/// States what a search for a key learns from the number that it loads, and from comparing keys.
 pub fn words_in_a_search<K, P>()
     ensures kind { (g : Setting K P) (c : Coding K P) (w : Word P)
         → IsOfKind (kind_of (code g c w)) w }
@@ -244,8 +244,8 @@ pub fn words_in_a_search<K, P>()
         → g.same k (g.key p) ≡ false → view g k w ≡ Foreign }
 {}
 
-/// Hints. A hint lasts. A search that reads the byte of another key or of a sealed slot may pass
-/// the slot without its word. A caller that fills or seals a slot may write its hint.
+/// States that a hint lasts. A search that reads the byte of another key or of a sealed slot may
+/// pass the slot without its word. A caller that fills or seals a slot may write its hint.
 pub fn hints<K, P>()
     ensures none { (g : Setting K P) (c : Coding K P) (w : Word P) → IsHintOf g c w 0 }
     ensures lasts { (g : Setting K P) (c : Coding K P) → IsLawfulCoding g c → (s s' : State P)
@@ -259,7 +259,7 @@ pub fn hints<K, P>()
         → IsHintOf g c w shut_hint }
 {}
 
-/// Keys that are searched by their hash have a lawful plan, and a lawful plan gives lawful
+/// States that searching keys by their hash is a lawful plan, and a lawful plan gives lawful
 /// settings.
 pub fn plans_by_hash<K, P>()
     ensures plan { (blocking : Bool) (chunk_of : ℕ → ℕ) (most : Option ℕ) (key : P → K)
@@ -273,11 +273,11 @@ pub fn plans_by_hash<K, P>()
         → IsLawful (planned h size places chunks) }
 {}
 
-/// Lookups by a borrowed form of a key, on every backend: by a `&str` if the keys are `String`s.
-/// Such a form is not a key of the map's type: it matches the keys of one class, or none. The laws
-/// speak of a setting's keys. They serve such a lookup in the setting that has the form as one
-/// further key, over the same exchanges of the same pairs. The map's own keys are forms of
-/// themselves.
+/// States what holds of lookups by a borrowed form of a key, on every backend: by a `&str` if the
+/// keys are `String`s. Such a form is not a key of the map's type: it matches the keys of one
+/// class, or none. The laws speak of a setting's keys. They serve such a lookup in the setting that
+/// has the form as one further key, over the same exchanges of the same pairs. The map's own keys
+/// are forms of themselves.
 pub fn further_keys<K, P>()
     ensures itself { (g : Setting K P) (c : Coding K P) → IsHashed g c → (k : K)
         → IsLawfulKey g c (g.same k) (c.hash k) }
@@ -320,9 +320,9 @@ pub fn further_keys<K, P>()
         value → IsMatchedAtMoment g matches (map_left g begun) since value }
 {}
 
-/// The root's table as a list of pairs. With blocking, or while the root has no next table, it is
-/// the map. While there is one table, each exchange adds, takes out or keeps as many pairs as its
-/// kind says.
+/// States that the root's table, as a list of pairs, is the map with blocking, or while the root
+/// has no next table. While there is one table, each exchange adds, takes out or keeps as many
+/// pairs as its kind says.
 pub fn content_of_a_table<K, P>()
     ensures holds { (g : Setting K P) → IsLawful g → (s : State P) (m : K → Option P)
         → IsKeeping g s m → (g.blocking ≡ false → s.next s.root ≡ 0) → (k : K)
@@ -336,8 +336,8 @@ pub fn content_of_a_table<K, P>()
         → IsCountAfter e (length (content g s)) (length (content g (after s e))) }
 {}
 
-/// The tables of a chain together as a list of pairs, in both modes and in any state of a resize.
-/// The list is the map, and each exchange adds, takes out or keeps as many pairs as its kind says.
+/// States that the tables of a chain together, as a list of pairs, are the map, in both modes and
+/// in any state of a resize. Each exchange adds, takes out or keeps as many pairs as its kind says.
 /// `n` is the number of tables that the list covers, large enough that the chain ends within them.
 pub fn content_of_a_chain<K, P>()
     ensures holds { (g : Setting K P) → IsLawful g → (s : State P) (m : K → Option P)
@@ -380,9 +380,9 @@ pub fn lists_of_a_chain<K, P>()
         → chain_content g' s n ≡ chain_content g s n }
 {}
 
-/// The map as a list in which no key occurs twice, whatever tables there are. After each exchange
-/// there is still such a list, all such lists have the same length, and that length follows the
-/// claims and deletions.
+/// States that the map is a list in which no key occurs twice, whatever tables there are. After
+/// each exchange there is still such a list, all such lists have the same length, and that length
+/// follows the claims and deletions.
 pub fn finite_maps<K, P>()
     ensures list { (g : Setting K P) → IsLawful g → (s : State P) (m : K → Option P)
         → IsKeeping g s m → (e : Exchange P) → Allows g s e → (a : List P) → AreApart g.same g.key a
@@ -399,8 +399,8 @@ pub fn finite_maps<K, P>()
         → IsCountAfter e (length a) (length b) }
 {}
 
-/// The conditions can be met: two lists in lawful settings, one in each mode. Together they have
-/// exchanges of every kind.
+/// States that the conditions can be met: two lists in lawful settings, one in each mode. Together
+/// they have exchanges of every kind.
 pub fn examples()
     ensures incremental { IsLawful by_two × AllAllowed by_two start two_tables }
     ensures blocking { IsLawful of_one × AllAllowed of_one start three_tables }

@@ -1,6 +1,6 @@
-//! The law of exchanges: any list of allowed exchanges of words keeps one map.
-//! It uses `papaya_words`, no machine and no backend.
-//! `papaya_call_law` applies it to machines, and both maps cite it.
+//! The law of exchanges: after any list of allowed exchanges, all tables represent one finite map.
+//! It uses `papaya_words` alone, and so speaks of no machine and no backend.
+//! `papaya_call_law` applies it to machines, and the proofs of both maps cite it.
 //!
 //! Start with [`exchanges::one_map`].
 #![tactic(auto)]

@@ -52,8 +52,6 @@ mod seen;
 #[cfg(test)]
 mod session_entries;
 #[cfg(test)]
-mod session_sizes;
-#[cfg(test)]
 mod shared;
 #[cfg(test)]
 mod sizes;

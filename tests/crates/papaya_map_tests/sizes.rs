@@ -1,6 +1,7 @@
-// The sizes that a map returns: entries in its arena, and slots of its root table.
+// The sizes that a map, a pinned map and a session return: entries in its arena, and slots of its root table.
 use crate::expect::is;
 use papaya_map::map::HashMap;
+use papaya_map::session::Session;
 use papaya_words::refused::Refused;
 use papaya_words::resize_mode::ResizeMode;
 use std::process::Abort;
@@ -25,6 +26,7 @@ fn holds(rt: &impl Abort, map: &Numbers, stored: usize, slots: usize) {
     is(rt, (map.stored(), map.slots()), (stored, slots));
     is(rt, (map.pin().stored(), map.pin().slots()), (stored, slots));
     is(rt, (map.resizing(), map.pin().resizing()), (false, false));
+    is(rt, Session::new(map).stored(), stored);
 }
 
 #[test]

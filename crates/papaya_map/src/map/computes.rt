@@ -34,9 +34,11 @@ impl<'a, K: Hash + Eq + Drop, V: Drop, S: BuildHasher> HashMapRef<'a, K, V, S> {
     /// most, since its insertion is remembered.
     ///
     /// # Errors
-    /// As [`HashMapRef::insert_as`], and `Refused::RemoveNothing` if the closure returns a removal
-    /// and there is no entry. The pass records one change if the closure's operation changes the
-    /// map, and none if the call fails or aborts.
+    ///
+    /// Fails with `Refused::Memory`, `Refused::Capacity` or `Refused::Limit`, as
+    /// [`HashMapRef::insert_as`] does, and with `Refused::RemoveNothing` if the closure returns a
+    /// removal and there is no entry. The pass records one change if the closure's operation
+    /// changes the map, and none if the call fails or aborts.
     pub fn compute_as<R: Wait, T: Drop, F: FnMut(Option<(&'a K, &'a V)>) -> Operation<V, T>>(
         &self,
         rt: &R,
@@ -80,7 +82,20 @@ impl<'a, K: Hash + Eq + Drop, V: Drop, S: BuildHasher> HashMapRef<'a, K, V, S> {
     /// Returns as [`HashMapRef::compute_as`] does.
     ///
     /// # Errors
-    /// As [`HashMapRef::compute_as`].
+    ///
+    /// Fails with `Refused::Memory`, `Refused::Capacity`, `Refused::Limit` or
+    /// `Refused::RemoveNothing`, as [`HashMapRef::compute_as`] does.
+    ///
+    /// # Examples
+    ///
+    /// ```
+    /// map.pin().insert(rt, 1, 10)?;
+    /// let computed = map.pin().compute(rt, 1, |entry| match entry {
+    ///     Some((_, left)) if *left > 1 => Operation::Insert(left.saturating_sub(1)),
+    ///     Some(_) => Operation::Remove,
+    ///     None => Operation::Abort(()),
+    /// })?; // Compute::Updated { old: (&1, &10), new: (&1, &9) }
+    /// ```
     pub fn compute<R: Wait, T: Drop, F: FnMut(Option<(&'a K, &'a V)>) -> Operation<V, T>>(
         &self,
         rt: &R,
@@ -105,7 +120,10 @@ impl<K: Hash + Eq + Drop, V: Drop, S: BuildHasher> HashMap<K, V, S> {
     /// 0.2.5. Returns as [`HashMapRef::compute_as`].
     ///
     /// # Errors
-    /// `Refused::WrongGuard`, and as [`HashMapRef::compute_as`].
+    ///
+    /// Fails with `Refused::WrongGuard` if the guard is of another collector. Otherwise fails with
+    /// `Refused::Memory`, `Refused::Capacity`, `Refused::Limit` or `Refused::RemoveNothing`, as
+    /// [`HashMapRef::compute_as`] does.
     pub fn compute<
         'g,
         R: Wait,

@@ -13,6 +13,14 @@ use std::hash::{BuildHasher, Hash};
 
 impl<K: Hash + Eq, V, S: BuildHasher> HashMap<K, V, S> {
     /// Returns a guard of the map's collector: `guard` of 0.2.5.
+    ///
+    /// # Examples
+    ///
+    /// ```
+    /// let guard = map.guard();
+    /// let old = map.insert(rt, 1, 10, &guard)?; // None
+    /// let value = map.get(&1, &guard)?; // Some(&10)
+    /// ```
     pub fn guard(&self) -> LocalGuard<'_>
         ensures { result.collector ≡ self.now.collector }
     {
@@ -29,7 +37,8 @@ impl<K: Hash + Eq, V, S: BuildHasher> HashMap<K, V, S> {
     /// Checks that the guard is of the map's collector. In 0.2.5 a call with another guard panics.
     ///
     /// # Errors
-    /// `Refused::WrongGuard` if it is not.
+    ///
+    /// Fails with `Refused::WrongGuard` if the guard is of another collector.
     #[inline]
     pub fn verify<G: Guard>(&self, guard: &G) -> Result<(), Refused>
         ensures right { G.collector_number guard.now ≡ self.now.collector → result ≡ Ok tt }

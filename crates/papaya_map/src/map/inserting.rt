@@ -32,6 +32,7 @@ impl<'a, K: Hash + Eq + Drop, V: Drop, S: BuildHasher> HashMapRef<'a, K, V, S> {
     /// entries are copied. The pass records one change, or none if the call fails.
     ///
     /// # Errors
+    ///
     /// - `Refused::Memory` if an allocation fails.
     /// - `Refused::Capacity` if the arena of entries or that of tables is full: it gave a number
     ///   past its limit. Also if the next table would be too long, by the length of a table that
@@ -74,11 +75,21 @@ impl<'a, K: Hash + Eq + Drop, V: Drop, S: BuildHasher> HashMapRef<'a, K, V, S> {
         before
     }
 
-    /// Inserts a key-value pair, and returns the key's old value, if any: `insert` of 0.2.5. As
-    /// there, a stored key stays, and the key that was passed in is dropped.
+    /// Inserts a key-value pair, and returns the key's old value, or `None` if the key was absent:
+    /// `insert` of 0.2.5. As there, a stored key stays, and the key that was passed in is dropped.
+    /// The old entry stays in memory until [`HashMap::reclaim`].
     ///
     /// # Errors
-    /// `Refused::Memory`, `Capacity` or `Limit`, as [`HashMapRef::insert_as`]; no entry changes.
+    ///
+    /// Fails with `Refused::Memory`, `Refused::Capacity` or `Refused::Limit`, as
+    /// [`HashMapRef::insert_as`] does, and then changes no entry.
+    ///
+    /// # Examples
+    ///
+    /// ```
+    /// let first = map.pin().insert(rt, 1, 10)?; // None
+    /// let second = map.pin().insert(rt, 1, 11)?; // Some(&10)
+    /// ```
     pub fn insert<R: Wait>(&self, rt: &R, key: K, value: V) -> Result<Option<&'a V>, Refused>
         ensures* own { sem 𝓛 (of_its_history (EventOf K.row V.row S.row).coded.code
             (rule_of ⟦<Law<K, V, S> as Rule<Event<K, V, S>, Named<K, V>>>⟧) self.now K.eq
@@ -92,11 +103,24 @@ impl<'a, K: Hash + Eq + Drop, V: Drop, S: BuildHasher> HashMapRef<'a, K, V, S> {
     }
 
     /// Inserts an entry if the key is absent, and returns its value: `try_insert` of 0.2.5. If the
-    /// key is present, its value stays. The error then returns the value that was passed in, or a
-    /// reference to it in the arena.
+    /// key is present, its value stays, and the error has that value and the one that was passed
+    /// in. The latter may be a reference into the arena, where 0.2.5 always returns the value
+    /// itself.
     ///
     /// # Errors
-    /// `Refused::Memory`, `Capacity` or `Limit`, as [`HashMapRef::insert_as`]; no entry changes.
+    ///
+    /// Fails with `Refused::Memory`, `Refused::Capacity` or `Refused::Limit`, as
+    /// [`HashMapRef::insert_as`] does, and then changes no entry.
+    ///
+    /// # Examples
+    ///
+    /// ```
+    /// map.pin().insert(rt, 1, 10)?;
+    /// let value = match map.pin().try_insert(rt, 1, 11)? {
+    ///     Ok(inserted) => inserted,
+    ///     Err(error) => error.current, // &10, which stays in the map
+    /// };
+    /// ```
     pub fn try_insert<R: Wait>(
         &self,
         rt: &R,
@@ -114,11 +138,14 @@ impl<'a, K: Hash + Eq + Drop, V: Drop, S: BuildHasher> HashMapRef<'a, K, V, S> {
         answer
     }
 
-    /// Inserts a value made by a closure if the key is absent: `try_insert_with` of 0.2.5. The
-    /// error is the value that is there. The closure is called once at most.
+    /// Inserts the value that a closure makes if the key is absent, and returns it:
+    /// `try_insert_with` of 0.2.5. If the key is present, the error is its value. The closure is
+    /// called at most once.
     ///
     /// # Errors
-    /// `Refused::Memory`, `Capacity` or `Limit`, as [`HashMapRef::insert_as`]; no entry changes.
+    ///
+    /// Fails with `Refused::Memory`, `Refused::Capacity` or `Refused::Limit`, as
+    /// [`HashMapRef::insert_as`] does, and then changes no entry.
     pub fn try_insert_with<R: Wait, F: FnOnce() -> V + Drop>(
         &self,
         rt: &R,
@@ -137,10 +164,13 @@ impl<'a, K: Hash + Eq + Drop, V: Drop, S: BuildHasher> HashMapRef<'a, K, V, S> {
         answer
     }
 
-    /// Returns the key's value, inserting this one if there is none: `get_or_insert` of 0.2.5.
+    /// Returns the key's value, and first inserts `value` if the key is absent: `get_or_insert` of
+    /// 0.2.5.
     ///
     /// # Errors
-    /// `Refused::Memory`, `Capacity` or `Limit`, as [`HashMapRef::insert_as`]; no entry changes.
+    ///
+    /// Fails with `Refused::Memory`, `Refused::Capacity` or `Refused::Limit`, as
+    /// [`HashMapRef::insert_as`] does, and then changes no entry.
     pub fn get_or_insert<R: Wait>(&self, rt: &R, key: K, value: V) -> Result<&'a V, Refused>
         ensures* own { sem 𝓛 (of_its_history (EventOf K.row V.row S.row).coded.code
             (rule_of ⟦<Law<K, V, S> as Rule<Event<K, V, S>, Named<K, V>>>⟧) self.now K.eq
@@ -153,11 +183,20 @@ impl<'a, K: Hash + Eq + Drop, V: Drop, S: BuildHasher> HashMapRef<'a, K, V, S> {
         answer
     }
 
-    /// Returns the key's value, inserting one that a closure makes if there is none:
-    /// `get_or_insert_with` of 0.2.5. The closure is called once at most.
+    /// Returns the key's value, and first inserts the one that a closure makes if the key is
+    /// absent: `get_or_insert_with` of 0.2.5. The closure is called at most once.
     ///
     /// # Errors
-    /// `Refused::Memory`, `Capacity` or `Limit`, as [`HashMapRef::insert_as`]; no entry changes.
+    ///
+    /// Fails with `Refused::Memory`, `Refused::Capacity` or `Refused::Limit`, as
+    /// [`HashMapRef::insert_as`] does, and then changes no entry.
+    ///
+    /// # Examples
+    ///
+    /// ```
+    /// let first = map.pin().get_or_insert_with(rt, 1, || 10)?; // &10
+    /// let second = map.pin().get_or_insert_with(rt, 1, || 11)?; // &10
+    /// ```
     pub fn get_or_insert_with<R: Wait, F: FnOnce() -> V + Drop>(
         &self,
         rt: &R,
@@ -178,11 +217,14 @@ impl<'a, K: Hash + Eq + Drop, V: Drop, S: BuildHasher> HashMapRef<'a, K, V, S> {
 }
 
 impl<K: Hash + Eq + Drop, V: Drop, S: BuildHasher> HashMap<K, V, S> {
-    /// Inserts a key-value pair, and returns the key's old value, if any: `insert` of 0.2.5. A
-    /// stored key stays.
+    /// Inserts a key-value pair, and returns the key's old value, or `None` if the key was absent:
+    /// `insert` of 0.2.5. As there, a stored key stays, and the key that was passed in is dropped.
     ///
     /// # Errors
-    /// `Refused::WrongGuard`, and as [`HashMapRef::insert_as`].
+    ///
+    /// Fails with `Refused::WrongGuard` if the guard is of another collector, and with
+    /// `Refused::Memory`, `Refused::Capacity` or `Refused::Limit` as [`HashMapRef::insert_as`]
+    /// does.
     pub fn insert<'g, R: Wait, G: Guard>(
         &'g self,
         rt: &R,
@@ -208,7 +250,10 @@ impl<K: Hash + Eq + Drop, V: Drop, S: BuildHasher> HashMap<K, V, S> {
     /// [`HashMapRef::try_insert`].
     ///
     /// # Errors
-    /// `Refused::WrongGuard`, and as [`HashMapRef::try_insert`].
+    ///
+    /// Fails with `Refused::WrongGuard` if the guard is of another collector, and with
+    /// `Refused::Memory`, `Refused::Capacity` or `Refused::Limit` as [`HashMapRef::try_insert`]
+    /// does.
     pub fn try_insert<'g, R: Wait, G: Guard>(
         &'g self,
         rt: &R,
@@ -230,11 +275,13 @@ impl<K: Hash + Eq + Drop, V: Drop, S: BuildHasher> HashMap<K, V, S> {
         answer
     }
 
-    /// Inserts a value made by a closure if the key is absent: `try_insert_with` of 0.2.5. Returns
-    /// as [`HashMapRef::try_insert_with`].
+    /// Inserts the value that a closure makes if the key is absent: `try_insert_with` of 0.2.5.
+    /// Returns as [`HashMapRef::try_insert_with`].
     ///
     /// # Errors
-    /// As [`HashMap::try_insert`].
+    ///
+    /// Fails with `Refused::WrongGuard`, `Refused::Memory`, `Refused::Capacity` or
+    /// `Refused::Limit`, as [`HashMap::try_insert`] does.
     pub fn try_insert_with<'g, R: Wait, F: FnOnce() -> V + Drop, G: Guard>(
         &'g self,
         rt: &R,
@@ -257,10 +304,13 @@ impl<K: Hash + Eq + Drop, V: Drop, S: BuildHasher> HashMap<K, V, S> {
         answer
     }
 
-    /// Returns the key's value, inserting this one if there is none: `get_or_insert` of 0.2.5.
+    /// Returns the key's value, and first inserts `value` if the key is absent: `get_or_insert` of
+    /// 0.2.5.
     ///
     /// # Errors
-    /// As [`HashMap::try_insert`].
+    ///
+    /// Fails with `Refused::WrongGuard`, `Refused::Memory`, `Refused::Capacity` or
+    /// `Refused::Limit`, as [`HashMap::try_insert`] does.
     pub fn get_or_insert<'g, R: Wait, G: Guard>(
         &'g self,
         rt: &R,
@@ -282,11 +332,13 @@ impl<K: Hash + Eq + Drop, V: Drop, S: BuildHasher> HashMap<K, V, S> {
         answer
     }
 
-    /// Returns the key's value, inserting one that a closure makes if there is none:
-    /// `get_or_insert_with` of 0.2.5.
+    /// Returns the key's value, and first inserts the one that a closure makes if the key is
+    /// absent: `get_or_insert_with` of 0.2.5. The closure is called at most once.
     ///
     /// # Errors
-    /// As [`HashMap::try_insert`].
+    ///
+    /// Fails with `Refused::WrongGuard`, `Refused::Memory`, `Refused::Capacity` or
+    /// `Refused::Limit`, as [`HashMap::try_insert`] does.
     pub fn get_or_insert_with<'g, R: Wait, F: FnOnce() -> V + Drop, G: Guard>(
         &'g self,
         rt: &R,

@@ -36,7 +36,16 @@ impl<'a, K: Hash + Eq, V, S: BuildHasher> HashMapRef<'a, K, V, S> {
         found
     }
 
-    /// Returns the key's value, if any: `get` of 0.2.5. It never waits, locks or allocates.
+    /// Returns the key's value, or `None` if the map has no entry of the key: `get` of 0.2.5. It
+    /// only loads words: it waits for no thread, takes no lock and allocates nothing.
+    ///
+    /// # Examples
+    ///
+    /// ```
+    /// map.pin().insert(rt, 1, 10)?;
+    /// let value = map.pin().get(&1); // Some(&10)
+    /// let absent = map.pin().get(&2); // None
+    /// ```
     #[inline(always)]
     pub fn get<Q: Equivalent<K>>(&self, key: &Q) -> Option<&'a V>
         ensures* own { sem 𝓛 (of_its_history (EventOf K.row V.row S.row).coded.code
@@ -49,8 +58,15 @@ impl<'a, K: Hash + Eq, V, S: BuildHasher> HashMapRef<'a, K, V, S> {
         answer
     }
 
-    /// Returns the stored key and its value, if any: `get_key_value` of 0.2.5. As
-    /// [`HashMapRef::get`], it never waits, locks or allocates.
+    /// Returns the stored key and its value, or `None` if the map has no entry of the key:
+    /// `get_key_value` of 0.2.5. As [`HashMapRef::get`], it never waits, locks or allocates.
+    ///
+    /// # Examples
+    ///
+    /// ```
+    /// map.pin().insert(rt, 1, 10)?;
+    /// let entry = map.pin().get_key_value(&1); // Some((&1, &10))
+    /// ```
     #[inline(always)]
     pub fn get_key_value<Q: Equivalent<K>>(&self, key: &Q) -> Option<(&'a K, &'a V)>
         ensures* own { sem 𝓛 (of_its_history (EventOf K.row V.row S.row).coded.code
@@ -63,7 +79,16 @@ impl<'a, K: Hash + Eq, V, S: BuildHasher> HashMapRef<'a, K, V, S> {
         answer
     }
 
-    /// Returns whether the key has a value: `contains_key` of 0.2.5. It never waits.
+    /// Returns whether the map has an entry of the key: `contains_key` of 0.2.5. It never waits,
+    /// locks or allocates.
+    ///
+    /// # Examples
+    ///
+    /// ```
+    /// map.pin().insert(rt, 1, 10)?;
+    /// let present = map.pin().contains_key(&1); // true
+    /// let absent = map.pin().contains_key(&2); // false
+    /// ```
     #[inline(always)]
     pub fn contains_key<Q: Equivalent<K>>(&self, key: &Q) -> bool
         ensures* own { sem 𝓛 (of_its_history (EventOf K.row V.row S.row).coded.code
@@ -78,10 +103,12 @@ impl<'a, K: Hash + Eq, V, S: BuildHasher> HashMapRef<'a, K, V, S> {
 }
 
 impl<K: Hash + Eq, V, S: BuildHasher> HashMap<K, V, S> {
-    /// Returns the key's value, if any: `get` of 0.2.5. It never waits, locks or allocates.
+    /// Returns the key's value, or `None` if the map has no entry of the key: `get` of 0.2.5. It
+    /// only loads words: it waits for no thread, takes no lock and allocates nothing.
     ///
     /// # Errors
-    /// `Refused::WrongGuard` if the guard is of another collector.
+    ///
+    /// Fails with `Refused::WrongGuard` if the guard is of another collector.
     #[inline]
     pub fn get<'g, Q: Equivalent<K>, G: Guard>(
         &'g self,
@@ -102,11 +129,12 @@ impl<K: Hash + Eq, V, S: BuildHasher> HashMap<K, V, S> {
         answer
     }
 
-    /// Returns the stored key and its value, if any: `get_key_value` of 0.2.5. As [`HashMap::get`],
-    /// it never waits, locks or allocates.
+    /// Returns the stored key and its value, or `None` if the map has no entry of the key:
+    /// `get_key_value` of 0.2.5. As [`HashMap::get`], it never waits, locks or allocates.
     ///
     /// # Errors
-    /// `Refused::WrongGuard` if the guard is of another collector.
+    ///
+    /// Fails with `Refused::WrongGuard` if the guard is of another collector.
     #[inline]
     pub fn get_key_value<'g, Q: Equivalent<K>, G: Guard>(
         &'g self,
@@ -127,10 +155,12 @@ impl<K: Hash + Eq, V, S: BuildHasher> HashMap<K, V, S> {
         answer
     }
 
-    /// Returns whether the key has a value: `contains_key` of 0.2.5.
+    /// Returns whether the map has an entry of the key: `contains_key` of 0.2.5. It never waits,
+    /// locks or allocates.
     ///
     /// # Errors
-    /// `Refused::WrongGuard` if the guard is of another collector.
+    ///
+    /// Fails with `Refused::WrongGuard` if the guard is of another collector.
     #[inline]
     pub fn contains_key<Q: Equivalent<K>, G: Guard>(
         &self,

@@ -58,15 +58,17 @@ fn pairs_for(initial: usize, pairs: usize) -> usize
 }
 
 impl<K: Hash + Eq + Drop, V: Drop, S: BuildHasher + Drop> HashMap<K, V, S> {
-    /// Creates a map from all its settings. The first table has room for `capacity` entries; with 0
-    /// the first change creates it. `shards` is rounded up to a power of two. The map may store
-    /// `limit` entries, including those replaced or removed, if there is a limit. Its collector has
-    /// number 0.
+    /// Creates an empty map from all its settings. The first table has room for `capacity` entries;
+    /// if that is 0, the first change creates it. `shards` is rounded up to a power of two. With a
+    /// `limit` the map stores at most that many entries, including those replaced or removed. Its
+    /// collector has number 0.
     ///
     /// # Errors
-    /// `Refused::ZeroChunk` if chunks have no slots. `Refused::Capacity` if there are more shards
-    /// than [`papaya_words::limits::MAX_SHARDS`], or the table is longer than
-    /// [`papaya_words::limits::MAX_TABLE_LEN`]. `Refused::Memory` if an allocation fails.
+    ///
+    /// Fails with `Refused::ZeroChunk` if chunks have no slots. Fails with `Refused::Capacity` if
+    /// there are more shards than [`papaya_words::limits::MAX_SHARDS`], or the first table would be
+    /// longer than [`papaya_words::limits::MAX_TABLE_LEN`] slots. Fails with `Refused::Memory` if
+    /// an allocation fails.
     pub fn with_parts<R: Wait>(
         rt: &R,
         alloc: Global,
@@ -129,11 +131,15 @@ impl<K: Hash + Eq + Drop, V: Drop, S: BuildHasher + Drop> HashMap<K, V, S> {
         })
     }
 
-    /// Creates a map for `capacity` entries with this hasher: `with_capacity_and_hasher` of 0.2.5.
-    /// It resizes by [`ResizeMode::default`], and counts over [`DEFAULT_SHARDS`] shards.
+    /// Creates an empty map with this hasher, whose first table has room for `capacity` entries:
+    /// `with_capacity_and_hasher` of 0.2.5. It resizes by [`ResizeMode::default`], and counts over
+    /// [`DEFAULT_SHARDS`] shards.
     ///
     /// # Errors
-    /// As [`HashMap::with_parts`].
+    ///
+    /// Fails with `Refused::Capacity` if the first table would be longer than
+    /// [`papaya_words::limits::MAX_TABLE_LEN`] slots, and with `Refused::Memory` if an allocation
+    /// fails.
     pub fn with_capacity_and_hasher<R: Wait>(
         rt: &R,
         alloc: Global,
@@ -160,10 +166,12 @@ impl<K: Hash + Eq + Drop, V: Drop, S: BuildHasher + Drop> HashMap<K, V, S> {
         )
     }
 
-    /// Creates a map with this hasher: `with_hasher` of 0.2.5. The first change makes a table.
+    /// Creates an empty map with this hasher: `with_hasher` of 0.2.5. Its first change allocates
+    /// the first table, of 32 slots.
     ///
     /// # Errors
-    /// `Refused::Memory` if an allocation fails.
+    ///
+    /// Fails with `Refused::Memory` if an allocation fails.
     pub fn with_hasher<R: Wait>(
         rt: &R,
         alloc: Global,
@@ -219,11 +227,21 @@ impl<K: Hash + Eq + Drop, V: Drop, S: BuildHasher + Clone + Drop> HashMap<K, V, 
 }
 
 impl<K: Hash + Eq + Drop, V: Drop> HashMap<K, V, BuildHasherDefault<FoldHasher>> {
-    /// Creates a map that makes its first table at its first change: `new` of 0.2.5, but with a
-    /// hasher that is the same in each run.
+    /// Creates an empty map: `new` of 0.2.5. Its first change allocates the first table, of 32
+    /// slots. The hasher has a fixed seed, where that of 0.2.5 has a random one. If attackers pick
+    /// the keys, pass a `RandomState` to [`HashMap::with_hasher`].
     ///
     /// # Errors
-    /// `Refused::Memory` if an allocation fails.
+    ///
+    /// Fails with `Refused::Memory` if an allocation fails.
+    ///
+    /// # Examples
+    ///
+    /// ```
+    /// let map: HashMap<u64, u64> = HashMap::new(rt, alloc)?;
+    /// map.pin().insert(rt, 1, 10)?;
+    /// let len = map.len(); // 1
+    /// ```
     pub fn new<R: Wait>(
         rt: &R,
         alloc: Global,
@@ -235,11 +253,16 @@ impl<K: Hash + Eq + Drop, V: Drop> HashMap<K, V, BuildHasherDefault<FoldHasher>>
         HashMap::with_capacity(rt, alloc, 0)
     }
 
-    /// Creates a map for `capacity` entries: `with_capacity` of 0.2.5. It resizes by
-    /// [`ResizeMode::default`], and counts over [`DEFAULT_SHARDS`] shards.
+    /// Creates an empty map whose first table has room for `capacity` entries: `with_capacity` of
+    /// 0.2.5. It resizes by [`ResizeMode::default`], and counts over [`DEFAULT_SHARDS`] shards. The
+    /// hasher has a fixed seed, where that of 0.2.5 has a random one. If attackers pick the keys,
+    /// pass a `RandomState` to [`HashMap::with_capacity_and_hasher`].
     ///
     /// # Errors
-    /// As [`HashMap::with_parts`].
+    ///
+    /// Fails with `Refused::Capacity` if the first table would be longer than
+    /// [`papaya_words::limits::MAX_TABLE_LEN`] slots, and with `Refused::Memory` if an allocation
+    /// fails.
     pub fn with_capacity<R: Wait>(
         rt: &R,
         alloc: Global,
@@ -267,7 +290,8 @@ impl<K: Hash + Eq + Drop, V: Drop> HashMap<K, V, BuildHasherDefault<FoldHasher>>
     /// Creates a map as [`HashMap::new`] does: the trait `Default` of 0.2.5.
     ///
     /// # Errors
-    /// `Refused::Memory` if an allocation fails.
+    ///
+    /// Fails with `Refused::Memory` if an allocation fails.
     pub fn default<R: Wait>(
         rt: &R,
         alloc: Global,

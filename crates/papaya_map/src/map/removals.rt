@@ -30,10 +30,11 @@ impl<'a, K: Hash + Eq, V, S: BuildHasher> HashMapRef<'a, K, V, S> {
     /// was removed, and otherwise none.
     ///
     /// # Errors
+    ///
     /// A removal allocates nothing for itself, but it may help to copy the table to a next one.
     /// Then it fails with `Refused::Memory` if an allocation fails, and with `Refused::Capacity` if
-    /// the arena of tables is full or the next table would be too long. It has changed nothing
-    /// then.
+    /// the arena of tables is full or the next table would be too long. It then has changed no
+    /// entry.
     pub fn remove_if_as<R: Wait, Q: Equivalent<K>, F: FnMut(&K, &V) -> bool>(
         &self,
         rt: &R,
@@ -74,7 +75,17 @@ impl<'a, K: Hash + Eq, V, S: BuildHasher> HashMapRef<'a, K, V, S> {
     /// Returns as [`HashMapRef::remove_if_as`] does.
     ///
     /// # Errors
-    /// As [`HashMapRef::remove_if_as`].
+    ///
+    /// Fails with `Refused::Memory` or `Refused::Capacity`, as [`HashMapRef::remove_if_as`] does,
+    /// and then changes no entry.
+    ///
+    /// # Examples
+    ///
+    /// ```
+    /// map.pin().insert(rt, 1, 10)?;
+    /// let kept = map.pin().remove_if(rt, &1, |_, value| *value > 10)?; // Err((&1, &10))
+    /// let removed = map.pin().remove_if(rt, &1, |_, value| *value == 10)?; // Ok(Some((&1, &10)))
+    /// ```
     pub fn remove_if<R: Wait, Q: Equivalent<K>, F: FnMut(&K, &V) -> bool>(
         &self,
         rt: &R,
@@ -97,7 +108,8 @@ impl<'a, K: Hash + Eq, V, S: BuildHasher> HashMapRef<'a, K, V, S> {
     /// Removes a key's entry, and returns its value, if any: `remove` of 0.2.5.
     ///
     /// # Errors
-    /// `Refused::Memory` or `Capacity`, as [`HashMapRef::remove_if_as`].
+    ///
+    /// Fails with `Refused::Memory` or `Refused::Capacity`, as [`HashMapRef::remove_if_as`] does.
     pub fn remove_as<R: Wait, Q: Equivalent<K>>(
         &self,
         rt: &R,
@@ -133,7 +145,17 @@ impl<'a, K: Hash + Eq, V, S: BuildHasher> HashMapRef<'a, K, V, S> {
     /// Removes a key's entry, and returns its value, if any: `remove` of 0.2.5.
     ///
     /// # Errors
-    /// `Refused::Memory` or `Capacity`, as [`HashMapRef::remove_if_as`]; no entry changes.
+    ///
+    /// Fails with `Refused::Memory` or `Refused::Capacity`, as [`HashMapRef::remove_if_as`] does,
+    /// and then changes no entry.
+    ///
+    /// # Examples
+    ///
+    /// ```
+    /// map.pin().insert(rt, 1, 10)?;
+    /// let first = map.pin().remove(rt, &1)?; // Some(&10)
+    /// let second = map.pin().remove(rt, &1)?; // None
+    /// ```
     pub fn remove<R: Wait, Q: Equivalent<K>>(
         &self,
         rt: &R,
@@ -152,7 +174,9 @@ impl<'a, K: Hash + Eq, V, S: BuildHasher> HashMapRef<'a, K, V, S> {
     /// Removes a key's entry, and returns it, if any: `remove_entry` of 0.2.5.
     ///
     /// # Errors
-    /// `Refused::Memory` or `Capacity`, as [`HashMapRef::remove_if_as`]; no entry changes.
+    ///
+    /// Fails with `Refused::Memory` or `Refused::Capacity`, as [`HashMapRef::remove_if_as`] does,
+    /// and then changes no entry.
     pub fn remove_entry<R: Wait, Q: Equivalent<K>>(
         &self,
         rt: &R,
@@ -174,7 +198,9 @@ impl<K: Hash + Eq, V, S: BuildHasher> HashMap<K, V, S> {
     /// [`HashMapRef::remove_if_as`].
     ///
     /// # Errors
-    /// As [`HashMap::remove`].
+    ///
+    /// Fails with `Refused::WrongGuard`, `Refused::Memory` or `Refused::Capacity`, as
+    /// [`HashMap::remove`] does.
     pub fn remove_if<'g, R: Wait, Q: Equivalent<K>, F: FnMut(&K, &V) -> bool, G: Guard>(
         &'g self,
         rt: &R,
@@ -202,7 +228,9 @@ impl<K: Hash + Eq, V, S: BuildHasher> HashMap<K, V, S> {
     /// Removes a key's entry, and returns its value, if any: `remove` of 0.2.5.
     ///
     /// # Errors
-    /// `Refused::WrongGuard`, and as [`HashMapRef::remove_if_as`].
+    ///
+    /// Fails with `Refused::WrongGuard` if the guard is of another collector, and with
+    /// `Refused::Memory` or `Refused::Capacity` as [`HashMapRef::remove_if_as`] does.
     pub fn remove<'g, R: Wait, Q: Equivalent<K>, G: Guard>(
         &'g self,
         rt: &R,
@@ -226,7 +254,9 @@ impl<K: Hash + Eq, V, S: BuildHasher> HashMap<K, V, S> {
     /// Removes a key's entry, and returns it, if any: `remove_entry` of 0.2.5.
     ///
     /// # Errors
-    /// As [`HashMap::remove`].
+    ///
+    /// Fails with `Refused::WrongGuard`, `Refused::Memory` or `Refused::Capacity`, as
+    /// [`HashMap::remove`] does.
     pub fn remove_entry<'g, R: Wait, Q: Equivalent<K>, G: Guard>(
         &'g self,
         rt: &R,

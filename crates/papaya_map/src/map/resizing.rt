@@ -12,7 +12,16 @@ impl<'a, K: Hash + Eq, V, S: BuildHasher> HashMapRef<'a, K, V, S> {
     /// Reserves room for `additional` more entries than the map counts: `reserve` of 0.2.5.
     ///
     /// # Errors
-    /// As [`Session::reserve`](crate::session::Session::reserve).
+    ///
+    /// Fails with `Refused::Memory` or `Refused::Capacity`, as
+    /// [`Session::reserve`](crate::session::Session::reserve) does.
+    ///
+    /// # Examples
+    ///
+    /// ```
+    /// map.pin().reserve(rt, 1000)?;
+    /// let slots = map.slots(); // 2048
+    /// ```
     pub fn reserve<R: Wait>(&self, rt: &R, additional: usize) -> Result<(), Refused>
         ensures { IfErr result (λ refused. IsMemoryOrCapacity refused) }
     {
@@ -25,7 +34,9 @@ impl<K: Hash + Eq, V, S: BuildHasher> HashMap<K, V, S> {
     /// Reserves room for `additional` more entries than the map counts: `reserve` of 0.2.5.
     ///
     /// # Errors
-    /// `Refused::WrongGuard`, and as [`HashMapRef::reserve`].
+    ///
+    /// Fails with `Refused::WrongGuard` if the guard is of another collector, and with
+    /// `Refused::Memory` or `Refused::Capacity` as [`HashMapRef::reserve`] does.
     pub fn reserve<R: Wait, G: Guard>(
         &self,
         rt: &R,

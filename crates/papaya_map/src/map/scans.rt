@@ -25,13 +25,24 @@ use std::sync::Wait;
 
 impl<'a, K: Hash + Eq, V, S: BuildHasher> HashMapRef<'a, K, V, S> {
     /// Removes the entries for which the closure returns `false`: `retain` of 0.2.5. The closure is
-    /// called for each entry. It is called for a key's entry again if another call replaced it
-    /// meanwhile, or if everything is copied.
+    /// called with each entry. It may be called with the entry of a key again if another call
+    /// replaces that entry meanwhile, or if this call meets a copy to a next table: then it
+    /// finishes the copy, and begins again.
     ///
     /// # Errors
+    ///
     /// If the call meets a copy under way, it copies what is left to copy, and may need a table.
     /// Then it fails with `Refused::Memory` if an allocation fails, and with `Refused::Capacity` if
     /// there is no room. Removed entries stay removed.
+    ///
+    /// # Examples
+    ///
+    /// ```
+    /// map.pin().insert(rt, 1, 10)?;
+    /// map.pin().insert(rt, 2, 20)?;
+    /// map.pin().retain(rt, |_, value| *value > 10)?;
+    /// let len = map.len(); // 1
+    /// ```
     pub fn retain<R: Wait, F: FnMut(&K, &V) -> bool>(&self, rt: &R, stays: F) -> Result<(), Refused>
         requires { F.IsAlwaysCallable stays }
         ensures* own { sem 𝓛 (of_its_history (EventOf K.row V.row S.row).coded.code
@@ -46,11 +57,20 @@ impl<'a, K: Hash + Eq, V, S: BuildHasher> HashMapRef<'a, K, V, S> {
         answer
     }
 
-    /// Removes all entries that the map has: `clear` of 0.2.5. An entry that is stored meanwhile
-    /// may stay.
+    /// Removes all entries that are in the map as the call begins: `clear` of 0.2.5. An entry that
+    /// another thread stores meanwhile may stay.
     ///
     /// # Errors
-    /// `Refused::Memory` or `Capacity`, as [`HashMapRef::retain`].
+    ///
+    /// Fails with `Refused::Memory` or `Refused::Capacity`, as [`HashMapRef::retain`] does.
+    ///
+    /// # Examples
+    ///
+    /// ```
+    /// map.pin().insert(rt, 1, 10)?;
+    /// map.pin().clear(rt)?;
+    /// let empty = map.is_empty(); // true
+    /// ```
     pub fn clear<R: Wait>(&self, rt: &R) -> Result<(), Refused>
         ensures* own { sem 𝓛 (of_its_history (EventOf K.row V.row S.row).coded.code
             (rule_of ⟦<Law<K, V, S> as Rule<Event<K, V, S>, Named<K, V>>>⟧) self.now K.eq
@@ -74,8 +94,9 @@ impl<'a, K: Hash + Eq, V, S: BuildHasher> HashMapRef<'a, K, V, S> {
     /// copies what is left to copy.
     ///
     /// # Errors
-    /// If that copy needs a table: `Refused::Memory` if an allocation fails, and
-    /// `Refused::Capacity` if there is no room, as at an insertion.
+    ///
+    /// If that copy needs a table, the call fails with `Refused::Memory` if an allocation fails,
+    /// and with `Refused::Capacity` if there is no room, as an insertion does.
     pub fn iter_as<R: Wait>(
         &self,
         rt: &R,
@@ -112,10 +133,26 @@ impl<'a, K: Hash + Eq, V, S: BuildHasher> HashMapRef<'a, K, V, S> {
         }
     }
 
-    /// Returns an iterator over the entries: `iter` of 0.2.5.
+    /// Returns an iterator over the entries: `iter` of 0.2.5. It returns each entry that is in the
+    /// map as the call begins, if no call removes or replaces it meanwhile. An entry that is
+    /// stored, replaced or removed meanwhile may be returned or not. Before it returns, the call
+    /// may copy entries to a next table, as [`HashMapRef::iter_as`] does.
     ///
     /// # Errors
-    /// `Refused::Memory` or `Capacity`, as [`HashMapRef::iter_as`].
+    ///
+    /// Fails with `Refused::Memory` or `Refused::Capacity`, as [`HashMapRef::iter_as`] does.
+    ///
+    /// # Examples
+    ///
+    /// ```
+    /// map.pin().insert(rt, 1, 10)?;
+    /// map.pin().insert(rt, 2, 20)?;
+    /// let mut sum = 0u64;
+    /// for (_, value) in map.pin().iter(rt)? {
+    ///     sum = sum.saturating_add(*value);
+    /// }
+    /// // sum is 30
+    /// ```
     pub fn iter<R: Wait>(&self, rt: &R) -> Result<Iter<'a, K, V, S>, Refused>
         ensures walk { IfOk result (λ pairs. pairs.book ≡ self.now.map.book) }
         ensures began { IfOk result (λ pairs. (pairs.began ≡ self.now.seen)
@@ -129,7 +166,8 @@ impl<'a, K: Hash + Eq, V, S: BuildHasher> HashMapRef<'a, K, V, S> {
     /// Returns an iterator over the keys: `keys` of 0.2.5.
     ///
     /// # Errors
-    /// `Refused::Memory` or `Capacity`, as [`HashMapRef::iter_as`].
+    ///
+    /// Fails with `Refused::Memory` or `Refused::Capacity`, as [`HashMapRef::iter_as`] does.
     pub fn keys<R: Wait>(&self, rt: &R) -> Result<Keys<'a, K, V, S>, Refused>
         ensures walk { IfOk result (λ keys. keys.pairs.book ≡ self.now.map.book) }
         ensures began { IfOk result (λ keys. (keys.pairs.began ≡ self.now.seen)
@@ -142,7 +180,8 @@ impl<'a, K: Hash + Eq, V, S: BuildHasher> HashMapRef<'a, K, V, S> {
     /// Returns an iterator over the values: `values` of 0.2.5.
     ///
     /// # Errors
-    /// `Refused::Memory` or `Capacity`, as [`HashMapRef::iter_as`].
+    ///
+    /// Fails with `Refused::Memory` or `Refused::Capacity`, as [`HashMapRef::iter_as`] does.
     pub fn values<R: Wait>(&self, rt: &R) -> Result<Values<'a, K, V, S>, Refused>
         ensures walk { IfOk result (λ values. values.pairs.book ≡ self.now.map.book) }
         ensures began { IfOk result (λ values. (values.pairs.began ≡ self.now.seen)
@@ -157,7 +196,9 @@ impl<K: Hash + Eq, V, S: BuildHasher> HashMap<K, V, S> {
     /// Removes the entries for which the closure returns `false`: `retain` of 0.2.5.
     ///
     /// # Errors
-    /// `Refused::WrongGuard`, and as [`HashMapRef::retain`].
+    ///
+    /// Fails with `Refused::WrongGuard` if the guard is of another collector, and with
+    /// `Refused::Memory` or `Refused::Capacity` as [`HashMapRef::retain`] does.
     pub fn retain<R: Wait, F: FnMut(&K, &V) -> bool, G: Guard>(
         &self,
         rt: &R,
@@ -181,10 +222,12 @@ impl<K: Hash + Eq, V, S: BuildHasher> HashMap<K, V, S> {
         answer
     }
 
-    /// Removes all entries that the map has: `clear` of 0.2.5.
+    /// Removes all entries that are in the map as the call begins: `clear` of 0.2.5.
     ///
     /// # Errors
-    /// `Refused::WrongGuard`, and as [`HashMapRef::clear`].
+    ///
+    /// Fails with `Refused::WrongGuard` if the guard is of another collector, and with
+    /// `Refused::Memory` or `Refused::Capacity` as [`HashMapRef::clear`] does.
     pub fn clear<R: Wait, G: Guard>(&self, rt: &R, guard: &G) -> Result<(), Refused>
         ensures* own { sem 𝓛 (of_its_history (EventOf K.row V.row S.row).coded.code
             (rule_of ⟦<Law<K, V, S> as Rule<Event<K, V, S>, Named<K, V>>>⟧) (unpinned self.now) K.eq
@@ -203,7 +246,9 @@ impl<K: Hash + Eq, V, S: BuildHasher> HashMap<K, V, S> {
     /// Returns an iterator over the entries: `iter` of 0.2.5.
     ///
     /// # Errors
-    /// `Refused::WrongGuard`, and as [`HashMapRef::iter_as`].
+    ///
+    /// Fails with `Refused::WrongGuard` if the guard is of another collector, and with
+    /// `Refused::Memory` or `Refused::Capacity` as [`HashMapRef::iter_as`] does.
     pub fn iter<'g, R: Wait, G: Guard>(
         &'g self,
         rt: &R,
@@ -225,7 +270,9 @@ impl<K: Hash + Eq, V, S: BuildHasher> HashMap<K, V, S> {
     /// Returns an iterator over the keys: `keys` of 0.2.5.
     ///
     /// # Errors
-    /// As [`HashMap::iter`].
+    ///
+    /// Fails with `Refused::WrongGuard`, `Refused::Memory` or `Refused::Capacity`, as
+    /// [`HashMap::iter`] does.
     pub fn keys<'g, R: Wait, G: Guard>(
         &'g self,
         rt: &R,
@@ -245,7 +292,9 @@ impl<K: Hash + Eq, V, S: BuildHasher> HashMap<K, V, S> {
     /// Returns an iterator over the values: `values` of 0.2.5.
     ///
     /// # Errors
-    /// As [`HashMap::iter`].
+    ///
+    /// Fails with `Refused::WrongGuard`, `Refused::Memory` or `Refused::Capacity`, as
+    /// [`HashMap::iter`] does.
     pub fn values<'g, R: Wait, G: Guard>(
         &'g self,
         rt: &R,

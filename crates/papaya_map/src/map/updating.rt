@@ -19,12 +19,22 @@ use std::hash::{BuildHasher, Hash};
 use std::sync::Wait;
 
 impl<'a, K: Hash + Eq + Drop, V: Drop, S: BuildHasher> HashMapRef<'a, K, V, S> {
-    /// Replaces the key's value by what the closure makes of it, and returns that: `update` of
-    /// 0.2.5. Returns `Ok(None)` if the key has none. The closure may be called again if another
-    /// call was first to replace the value.
+    /// Replaces the key's value by the one that the closure computes from it, and returns the new
+    /// value: `update` of 0.2.5. Returns `Ok(None)` if the key is absent. The closure may be called
+    /// again if another call was first to replace the value.
     ///
     /// # Errors
-    /// `Refused::Memory`, `Capacity` or `Limit`, as [`HashMapRef::insert_as`]; no entry changes.
+    ///
+    /// Fails with `Refused::Memory`, `Refused::Capacity` or `Refused::Limit`, as
+    /// [`HashMapRef::insert_as`] does, and then changes no entry.
+    ///
+    /// # Examples
+    ///
+    /// ```
+    /// map.pin().insert(rt, 1, 10)?;
+    /// let value = map.pin().update(rt, 1, |old| old.saturating_add(1))?; // Some(&11)
+    /// let absent = map.pin().update(rt, 2, |old| old.saturating_add(1))?; // None
+    /// ```
     pub fn update<R: Wait, F: Fn(&V) -> V>(
         &self,
         rt: &R,
@@ -43,10 +53,22 @@ impl<'a, K: Hash + Eq + Drop, V: Drop, S: BuildHasher> HashMapRef<'a, K, V, S> {
         answer
     }
 
-    /// Updates the key's value, or inserts this one if there is none: `update_or_insert` of 0.2.5.
+    /// Replaces the key's value by the one that the closure computes from it, or inserts `value` if
+    /// the key is absent, and returns the key's new value: `update_or_insert` of 0.2.5. The closure
+    /// may be called again if another call was first to replace the value.
     ///
     /// # Errors
-    /// `Refused::Memory`, `Capacity` or `Limit`, as [`HashMapRef::insert_as`]; no entry changes.
+    ///
+    /// Fails with `Refused::Memory`, `Refused::Capacity` or `Refused::Limit`, as
+    /// [`HashMapRef::insert_as`] does, and then changes no entry.
+    ///
+    /// # Examples
+    ///
+    /// ```
+    /// let pinned = map.pin();
+    /// let first = pinned.update_or_insert(rt, 1, |count| count.saturating_add(1), 1)?; // &1
+    /// let second = pinned.update_or_insert(rt, 1, |count| count.saturating_add(1), 1)?; // &2
+    /// ```
     pub fn update_or_insert<R: Wait, F: Fn(&V) -> V>(
         &self,
         rt: &R,
@@ -68,11 +90,13 @@ impl<'a, K: Hash + Eq + Drop, V: Drop, S: BuildHasher> HashMapRef<'a, K, V, S> {
         answer
     }
 
-    /// Updates the key's value, or inserts one that a second closure makes if there is none:
-    /// `update_or_insert_with` of 0.2.5. It is called once at most.
+    /// Updates as [`HashMapRef::update_or_insert`] does, with a value that a second closure makes
+    /// if the key is absent: `update_or_insert_with` of 0.2.5. That closure is called at most once.
     ///
     /// # Errors
-    /// `Refused::Memory`, `Capacity` or `Limit`, as [`HashMapRef::insert_as`]; no entry changes.
+    ///
+    /// Fails with `Refused::Memory`, `Refused::Capacity` or `Refused::Limit`, as
+    /// [`HashMapRef::insert_as`] does, and then changes no entry.
     pub fn update_or_insert_with<R: Wait, U: Fn(&V) -> V, F: FnOnce() -> V + Drop>(
         &self,
         rt: &R,
@@ -97,11 +121,13 @@ impl<'a, K: Hash + Eq + Drop, V: Drop, S: BuildHasher> HashMapRef<'a, K, V, S> {
 }
 
 impl<K: Hash + Eq + Drop, V: Drop, S: BuildHasher> HashMap<K, V, S> {
-    /// Replaces the key's value by what the closure makes of it: `update` of 0.2.5. Returns as
-    /// [`HashMapRef::update`].
+    /// Replaces the key's value by the one that the closure computes from it: `update` of 0.2.5.
+    /// Returns as [`HashMapRef::update`].
     ///
     /// # Errors
-    /// `Refused::WrongGuard`, and as [`HashMapRef::update`].
+    ///
+    /// Fails with `Refused::WrongGuard` if the guard is of another collector, and with
+    /// `Refused::Memory`, `Refused::Capacity` or `Refused::Limit` as [`HashMapRef::update`] does.
     pub fn update<'g, R: Wait, F: Fn(&V) -> V, G: Guard>(
         &'g self,
         rt: &R,
@@ -124,10 +150,13 @@ impl<K: Hash + Eq + Drop, V: Drop, S: BuildHasher> HashMap<K, V, S> {
         answer
     }
 
-    /// Updates the key's value, or inserts this one if there is none: `update_or_insert` of 0.2.5.
+    /// Updates the key's value, or inserts `value` if the key is absent: `update_or_insert` of
+    /// 0.2.5. Returns as [`HashMapRef::update_or_insert`].
     ///
     /// # Errors
-    /// As [`HashMap::update`].
+    ///
+    /// Fails with `Refused::WrongGuard`, `Refused::Memory`, `Refused::Capacity` or
+    /// `Refused::Limit`, as [`HashMap::update`] does.
     pub fn update_or_insert<'g, R: Wait, F: Fn(&V) -> V, G: Guard>(
         &'g self,
         rt: &R,
@@ -153,11 +182,13 @@ impl<K: Hash + Eq + Drop, V: Drop, S: BuildHasher> HashMap<K, V, S> {
         answer
     }
 
-    /// Updates the key's value, or inserts one that a second closure makes if there is none:
-    /// `update_or_insert_with` of 0.2.5.
+    /// Updates as [`HashMap::update_or_insert`] does, with a value that a second closure makes if
+    /// the key is absent: `update_or_insert_with` of 0.2.5. That closure is called at most once.
     ///
     /// # Errors
-    /// As [`HashMap::update`].
+    ///
+    /// Fails with `Refused::WrongGuard`, `Refused::Memory`, `Refused::Capacity` or
+    /// `Refused::Limit`, as [`HashMap::update`] does.
     pub fn update_or_insert_with<'g, R: Wait, U: Fn(&V) -> V, F: FnOnce() -> V + Drop, G: Guard>(
         &'g self,
         rt: &R,

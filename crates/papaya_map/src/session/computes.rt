@@ -24,8 +24,10 @@ impl<'a, K: Hash + Eq + Drop, V: Drop, S: BuildHasher> Session<'a, K, V, S> {
     /// most, since its insertion is remembered.
     ///
     /// # Errors
-    /// As [`Session::insert`], and `Refused::RemoveNothing` if the closure returns a removal and
-    /// there is no entry.
+    ///
+    /// Fails with `Refused::Memory`, `Refused::Capacity` or `Refused::Limit`, as
+    /// [`Session::insert`] does, and with `Refused::RemoveNothing` if the closure returns a removal
+    /// and there is no entry.
     #[inline(always)]
     pub fn compute<R: Wait, T: Drop, F: FnMut(Option<(&K, &V)>) -> Operation<V, T>>(
         &mut self,

@@ -30,13 +30,15 @@ fn not_inserted<V>(supply: Option<Ready<V>>, spare: Option<&V>) -> NotInserted<'
 }
 
 impl<'a, K: Hash + Eq + Drop, V: Drop, S: BuildHasher> Session<'a, K, V, S> {
-    /// Inserts a key-value pair, and returns the key's old value, if any: `insert` of 0.2.5. As
-    /// there, a stored key stays, and the key that was passed in is dropped.
+    /// Inserts a key-value pair, and returns the key's old value, or `None` if the key was absent:
+    /// `insert` of 0.2.5. As there, a stored key stays, and the key that was passed in is dropped.
+    /// The old entry stays in memory until [`HashMap::reclaim`](crate::map::HashMap::reclaim).
     ///
     /// # Errors
-    /// `Refused::Memory` if an allocation fails, `Refused::Capacity` if an arena is full or a next
-    /// table would be too long, and `Refused::Limit` if the map's limit on entries is reached. The
-    /// call changes nothing then.
+    ///
+    /// Fails with `Refused::Memory` if an allocation fails, with `Refused::Capacity` if an arena is
+    /// full or a next table would be too long, and with `Refused::Limit` if the map's limit on
+    /// entries is reached. The call then changes nothing.
     #[inline(always)]
     pub fn insert<R: Wait>(&mut self, rt: &R, key: K, value: V) -> Result<Option<&'a V>, Refused>
         ensures map { self.new.map ≡ self.old.map }
@@ -53,13 +55,16 @@ impl<'a, K: Hash + Eq + Drop, V: Drop, S: BuildHasher> Session<'a, K, V, S> {
     }
 
     /// Inserts an entry if the key is absent, and returns its value: `try_insert` of 0.2.5. If the
-    /// key is present, its value stays. The error then returns the value that was passed in, or a
-    /// reference to it in the arena.
+    /// key is present, its value stays, and the error has that value and the one that was passed
+    /// in. The latter may be a reference into the arena, where 0.2.5 always returns the value
+    /// itself.
     ///
     /// The session makes one change if the value was stored, and otherwise none.
     ///
     /// # Errors
-    /// `Refused::Memory`, `Capacity` or `Limit`, as [`Session::insert`].
+    ///
+    /// Fails with `Refused::Memory`, `Refused::Capacity` or `Refused::Limit`, as
+    /// [`Session::insert`] does.
     pub fn try_insert<R: Wait>(
         &mut self,
         rt: &R,
@@ -95,11 +100,14 @@ impl<'a, K: Hash + Eq + Drop, V: Drop, S: BuildHasher> Session<'a, K, V, S> {
         }
     }
 
-    /// Inserts a value made by a closure if the key is absent: `try_insert_with` of 0.2.5. The
-    /// error is the value that is there. The closure is called once at most.
+    /// Inserts the value that a closure makes if the key is absent, and returns it:
+    /// `try_insert_with` of 0.2.5. If the key is present, the error is its value. The closure is
+    /// called at most once.
     ///
     /// # Errors
-    /// As [`Session::insert`].
+    ///
+    /// Fails with `Refused::Memory`, `Refused::Capacity` or `Refused::Limit`, as
+    /// [`Session::insert`] does.
     pub fn try_insert_with<R: Wait, F: FnOnce() -> V + Drop>(
         &mut self,
         rt: &R,
@@ -134,12 +142,15 @@ impl<'a, K: Hash + Eq + Drop, V: Drop, S: BuildHasher> Session<'a, K, V, S> {
         }
     }
 
-    /// Returns the key's value, inserting this one if there is none: `get_or_insert` of 0.2.5.
+    /// Returns the key's value, and first inserts `value` if the key is absent: `get_or_insert` of
+    /// 0.2.5.
     ///
     /// The session makes one change if the value was stored, and otherwise none.
     ///
     /// # Errors
-    /// `Refused::Memory`, `Capacity` or `Limit`, as [`Session::insert`].
+    ///
+    /// Fails with `Refused::Memory`, `Refused::Capacity` or `Refused::Limit`, as
+    /// [`Session::insert`] does.
     pub fn get_or_insert<R: Wait>(&mut self, rt: &R, key: K, value: V) -> Result<&'a V, Refused>
         ensures map { self.new.map ≡ self.old.map }
         ensures seen { IsPrefix self.old.history self.new.history }
@@ -157,11 +168,13 @@ impl<'a, K: Hash + Eq + Drop, V: Drop, S: BuildHasher> Session<'a, K, V, S> {
         }
     }
 
-    /// Returns the key's value, inserting one that a closure makes if there is none:
-    /// `get_or_insert_with` of 0.2.5. The closure is called once at most.
+    /// Returns the key's value, and first inserts the one that a closure makes if the key is
+    /// absent: `get_or_insert_with` of 0.2.5. The closure is called at most once.
     ///
     /// # Errors
-    /// As [`Session::insert`].
+    ///
+    /// Fails with `Refused::Memory`, `Refused::Capacity` or `Refused::Limit`, as
+    /// [`Session::insert`] does.
     pub fn get_or_insert_with<R: Wait, F: FnOnce() -> V + Drop>(
         &mut self,
         rt: &R,

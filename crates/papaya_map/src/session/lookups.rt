@@ -10,8 +10,8 @@ use papaya_words_keys::guard::Equivalent;
 use std::hash::{BuildHasher, Hash};
 
 impl<'a, K: Hash + Eq, V, S: BuildHasher> Session<'a, K, V, S> {
-    /// Returns the key's value, or `None` if there is none: `get` of 0.2.5. It only loads words: it
-    /// waits for no thread, takes no lock and allocates nothing.
+    /// Returns the key's value, or `None` if the map has no entry of the key: `get` of 0.2.5. It
+    /// only loads words: it waits for no thread, takes no lock and allocates nothing.
     #[inline(always)]
     pub fn get<Q: Equivalent<K>>(&mut self, key: &Q) -> Option<&'a V>
         ensures map { self.new.map ≡ self.old.map }
@@ -24,8 +24,8 @@ impl<'a, K: Hash + Eq, V, S: BuildHasher> Session<'a, K, V, S> {
         self.map.get_as(key, &mut self.pass)
     }
 
-    /// Returns the stored key and its value, if any: `get_key_value` of 0.2.5. As [`Session::get`],
-    /// it never waits, locks or allocates.
+    /// Returns the stored key and its value, or `None` if the map has no entry of the key:
+    /// `get_key_value` of 0.2.5. As [`Session::get`], it never waits, locks or allocates.
     #[inline]
     pub fn get_key_value<Q: Equivalent<K>>(&mut self, key: &Q) -> Option<(&'a K, &'a V)>
         ensures map { self.new.map ≡ self.old.map }
@@ -42,7 +42,8 @@ impl<'a, K: Hash + Eq, V, S: BuildHasher> Session<'a, K, V, S> {
         found
     }
 
-    /// Returns whether the key has a value: `contains_key` of 0.2.5. It never waits.
+    /// Returns whether the map has an entry of the key: `contains_key` of 0.2.5. It never waits,
+    /// locks or allocates.
     #[inline(always)]
     pub fn contains_key<Q: Equivalent<K>>(&mut self, key: &Q) -> bool
         ensures map { self.new.map ≡ self.old.map }

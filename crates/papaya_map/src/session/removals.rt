@@ -20,6 +20,7 @@ impl<'a, K: Hash + Eq, V, S: BuildHasher> Session<'a, K, V, S> {
     /// another thread was first to replace or remove the entry.
     ///
     /// # Errors
+    ///
     /// A removal allocates nothing for itself. If it helps to copy the table, it may fail with
     /// `Refused::Memory` or `Refused::Capacity` as [`Session::insert`] does, and then changes
     /// nothing.
@@ -46,7 +47,8 @@ impl<'a, K: Hash + Eq, V, S: BuildHasher> Session<'a, K, V, S> {
     /// Removes a key's entry, and returns its value, if any: `remove` of 0.2.5.
     ///
     /// # Errors
-    /// `Refused::Memory` or `Capacity`, as [`Session::remove_if`].
+    ///
+    /// Fails with `Refused::Memory` or `Refused::Capacity`, as [`Session::remove_if`] does.
     pub fn remove<R: Wait, Q: Equivalent<K>>(
         &mut self,
         rt: &R,
@@ -67,7 +69,8 @@ impl<'a, K: Hash + Eq, V, S: BuildHasher> Session<'a, K, V, S> {
     /// Removes a key's entry, and returns it, if any: `remove_entry` of 0.2.5.
     ///
     /// # Errors
-    /// `Refused::Memory` or `Capacity`, as [`Session::remove_if`].
+    ///
+    /// Fails with `Refused::Memory` or `Refused::Capacity`, as [`Session::remove_if`] does.
     pub fn remove_entry<R: Wait, Q: Equivalent<K>>(
         &mut self,
         rt: &R,

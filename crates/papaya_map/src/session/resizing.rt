@@ -18,10 +18,12 @@ impl<'a, K: Hash + Eq, V, S: BuildHasher> Session<'a, K, V, S> {
     /// If no other call changes the map meanwhile, that is its table. Other calls go on as before.
     ///
     /// # Errors
-    /// `Refused::Memory` if an allocation fails. `Refused::Capacity` if the arena of tables is
-    /// full, or a table would be longer than [`papaya_words::limits::MAX_TABLE_LEN`]: the one for
-    /// these entries, or one that a copy needs. 0.2.5 panics or aborts there. The session makes no
-    /// change, whether the call fails or not.
+    ///
+    /// Fails with `Refused::Memory` if an allocation fails. Fails with `Refused::Capacity` if the
+    /// arena of tables is full, or a table would be longer than
+    /// [`papaya_words::limits::MAX_TABLE_LEN`] slots: the one for these entries, or one that a copy
+    /// needs. 0.2.5 aborts or panics there. The session makes no change, whether the call fails or
+    /// not.
     pub fn reserve<R: Wait>(&mut self, rt: &R, additional: usize) -> Result<(), Refused>
         ensures map { self.new.map ≡ self.old.map }
         ensures seen { IsPrefix self.old.history self.new.history }

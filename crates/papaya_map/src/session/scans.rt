@@ -15,18 +15,20 @@ use std::hash::{BuildHasher, Hash};
 use std::sync::Wait;
 
 impl<'a, K: Hash + Eq, V, S: BuildHasher> Session<'a, K, V, S> {
-    /// Removes the entries for which the closure returns `false`: `retain` of 0.2.5. Each entry
-    /// that it is called with was in the map, in a history that begins with what the session had
-    /// observed. The closure is called for a key's entry again if another call replaced it
-    /// meanwhile, or if everything is copied.
+    /// Removes the entries for which the closure returns `false`: `retain` of 0.2.5. The closure is
+    /// called with entries that were in the map, in a history that begins with what the session had
+    /// observed. It may be called with the entry of a key again if another thread replaces that
+    /// entry meanwhile, or if the call meets a copy to a next table: then it finishes the copy, and
+    /// begins again.
     ///
-    /// Take an entry that the map had after what the session had observed. If the call succeeds, it
-    /// was removed since, by this call or another, or the closure last returned `true` for it. The
-    /// closure may be called for an entry that is stored meanwhile, or not. The session makes one
+    /// If the call succeeds, each entry that the map had after what the session had observed was
+    /// removed since, by this call or another, or the closure last returned `true` for it. The
+    /// closure may be called with an entry that is stored meanwhile, or not. The session makes one
     /// change for each entry that this call removed, right after the closure returned `false` for
     /// it, whether the call fails or not.
     ///
     /// # Errors
+    ///
     /// If the call meets a copy under way, it copies what is left to copy, and may need a table.
     /// Then it fails with `Refused::Memory` if an allocation fails, and with `Refused::Capacity` if
     /// there is no room, as at an insertion. Removed entries stay removed.
@@ -60,13 +62,14 @@ impl<'a, K: Hash + Eq, V, S: BuildHasher> Session<'a, K, V, S> {
         retained
     }
 
-    /// Removes all entries that the map has: `clear` of 0.2.5. If it succeeds, each entry that the
-    /// map had after what the session had observed was removed since, by this call or another. An
-    /// entry that is stored meanwhile may stay. The session makes one change for each entry that
-    /// this call removed, and no other.
+    /// Removes all entries that are in the map as the call begins: `clear` of 0.2.5. If it
+    /// succeeds, each entry that the map had after what the session had observed was removed since,
+    /// by this call or another. An entry that is stored meanwhile may stay. The session makes one
+    /// change for each entry that this call removed, and no other.
     ///
     /// # Errors
-    /// `Refused::Memory` or `Capacity`, as [`Session::retain`].
+    ///
+    /// Fails with `Refused::Memory` or `Refused::Capacity`, as [`Session::retain`] does.
     pub fn clear<R: Wait>(&mut self, rt: &R) -> Result<(), Refused>
         ensures map { self.new.map ≡ self.old.map }
         ensures seen { IsPrefix self.old.history self.new.history }
@@ -95,7 +98,9 @@ impl<'a, K: Hash + Eq, V, S: BuildHasher> Session<'a, K, V, S> {
     /// copies what is left to copy.
     ///
     /// # Errors
-    /// `Refused::Memory` or `Capacity`, as [`Session::retain`], if that copy needs a table.
+    ///
+    /// Fails with `Refused::Memory` or `Refused::Capacity`, as [`Session::retain`] does, if that
+    /// copy needs a table.
     pub fn iter<R: Wait>(&mut self, rt: &R) -> Result<Iter<'a, K, V, S>, Refused>
         ensures map { self.new.map ≡ self.old.map }
         ensures seen { IsPrefix self.old.history self.new.history }
@@ -114,7 +119,8 @@ impl<'a, K: Hash + Eq, V, S: BuildHasher> Session<'a, K, V, S> {
     /// Returns an iterator over the keys: `keys` of 0.2.5.
     ///
     /// # Errors
-    /// As [`Session::iter`].
+    ///
+    /// Fails with `Refused::Memory` or `Refused::Capacity`, as [`Session::iter`] does.
     pub fn keys<R: Wait>(&mut self, rt: &R) -> Result<Keys<'a, K, V, S>, Refused>
         ensures map { self.new.map ≡ self.old.map }
         ensures seen { IsPrefix self.old.history self.new.history }
@@ -133,7 +139,8 @@ impl<'a, K: Hash + Eq, V, S: BuildHasher> Session<'a, K, V, S> {
     /// Returns an iterator over the values: `values` of 0.2.5.
     ///
     /// # Errors
-    /// As [`Session::iter`].
+    ///
+    /// Fails with `Refused::Memory` or `Refused::Capacity`, as [`Session::iter`] does.
     pub fn values<R: Wait>(&mut self, rt: &R) -> Result<Values<'a, K, V, S>, Refused>
         ensures map { self.new.map ≡ self.old.map }
         ensures seen { IsPrefix self.old.history self.new.history }

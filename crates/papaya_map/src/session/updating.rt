@@ -16,14 +16,16 @@ use std::hash::{BuildHasher, Hash};
 use std::sync::Wait;
 
 impl<'a, K: Hash + Eq + Drop, V: Drop, S: BuildHasher> Session<'a, K, V, S> {
-    /// Replaces the key's value by what the closure makes of it, and returns that: `update` of
-    /// 0.2.5. Returns `Ok(None)` if the key has none. The closure may be called again if another
-    /// call was first to replace the value.
+    /// Replaces the key's value by the one that the closure computes from it, and returns the new
+    /// value: `update` of 0.2.5. Returns `Ok(None)` if the key is absent. The closure may be called
+    /// again if another thread was first to replace the value.
     ///
     /// The session makes one change if a value was replaced, and otherwise none.
     ///
     /// # Errors
-    /// `Refused::Memory`, `Capacity` or `Limit`, as [`Session::insert`].
+    ///
+    /// Fails with `Refused::Memory`, `Refused::Capacity` or `Refused::Limit`, as
+    /// [`Session::insert`] does.
     pub fn update<R: Wait, F: Fn(&V) -> V>(
         &mut self,
         rt: &R,
@@ -84,11 +86,16 @@ impl<'a, K: Hash + Eq + Drop, V: Drop, S: BuildHasher> Session<'a, K, V, S> {
         }
     }
 
-    /// Updates the key's value, or inserts this one if there is none: `update_or_insert` of 0.2.5.
-    /// The session makes one change, or none if the call fails. Otherwise as [`Session::update`].
+    /// Replaces the key's value by the one that the closure computes from it, or inserts `value` if
+    /// the key is absent, and returns the key's new value: `update_or_insert` of 0.2.5. The closure
+    /// may be called again if another thread was first to replace the value.
+    ///
+    /// The session makes one change, or none if the call fails.
     ///
     /// # Errors
-    /// As [`Session::insert`].
+    ///
+    /// Fails with `Refused::Memory`, `Refused::Capacity` or `Refused::Limit`, as
+    /// [`Session::insert`] does.
     #[inline(always)]
     pub fn update_or_insert<R: Wait, F: Fn(&V) -> V>(
         &mut self,
@@ -111,11 +118,13 @@ impl<'a, K: Hash + Eq + Drop, V: Drop, S: BuildHasher> Session<'a, K, V, S> {
         self.upsert(rt, key, update, Ready { value })
     }
 
-    /// Updates the key's value, or inserts one that a second closure makes if there is none:
-    /// `update_or_insert_with` of 0.2.5. It is called once at most.
+    /// Updates as [`Session::update_or_insert`] does, with a value that a second closure makes if
+    /// the key is absent: `update_or_insert_with` of 0.2.5. That closure is called at most once.
     ///
     /// # Errors
-    /// As [`Session::insert`].
+    ///
+    /// Fails with `Refused::Memory`, `Refused::Capacity` or `Refused::Limit`, as
+    /// [`Session::insert`] does.
     pub fn update_or_insert_with<R: Wait, U: Fn(&V) -> V, F: FnOnce() -> V + Drop>(
         &mut self,
         rt: &R,

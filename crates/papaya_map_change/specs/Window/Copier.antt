@@ -1,4 +1,4 @@
--- What a copier may be asked and answers, by what it sees of the map.
+-- A copier: what it may be asked for and what it answers, by what it has observed of the map.
 use Rattle.std.specs.Prelude.{ℕ, Option, None, Some}
 use Rattle.papaya_call.specs.declared.ask.At.{At}
 use Rattle.papaya_call.specs.declared.ask.At.TheVariants.{Next}
@@ -36,13 +36,13 @@ module _ {K V S H : Type 0} {d : keyed.Ghosts S K H} where
   CanExchange w at kind words h = copier.CanExchangeFor d.keys.eq d.keys.hash
       (begun_of w.book.now.parts) w.book.now.begun.book at kind words.0 words.1 w.sight.log h
 
-  -- a word was loaded
+  -- The word was loaded from this place.
   abbrev pub Loads : At → ℕ → Window K V S H d → Copier K V S H → Window K V S H d
       → Copier K V S H → Type 0
   Loads at word w h w' h' = helping.IsLoadedFor d.keys.eq d.keys.hash (begun_of w.book.now.parts)
       w.book.now.begun.book at word w'.sight.log h.last h'.last
 
-  -- an exchange was tried
+  -- An exchange was tried.
   abbrev pub TriesFor : At → Option StepKind → (words : ℕ × ℕ) → Window K V S H d
       → Copier K V S H → Window K V S H d → ℕ × Option (Stored K V) → Type 0
   TriesFor at kind words w h w' tried = helping.IsTriedFor d.keys.eq d.keys.hash

@@ -1,4 +1,5 @@
--- A call that is set aside goes on by answers for its copy, by what it sees of the map.
+-- A call that is set aside goes on with the answers to its copy's asks, by what it has observed of
+-- the map.
 use Rattle.papaya_map_book.specs.declared.keyed.Keyed as keyed
 use Rattle.papaya_map_book.specs.declared.window.Window.{Window}
 use Rattle.papaya_map_book.specs.Parts.{begun_of}
@@ -7,7 +8,7 @@ use Rattle.papaya_map_change.specs.declared.driver.Driver.{Driver}
 use Rattle.papaya_map_change.specs.Going as going
 
 module _ {K V S H : Type 0} {d : keyed.Ghosts S K H} where
-  -- it went on so up to an answer that it is still to be told
+  -- The call went on up to an answer that its machine has yet to receive.
   abbrev pub GoesBy : Window K V S H d → Driver K V S H → Window K V S H d → Driver K V S H → Answer
       → Type 0
   GoesBy w c w' c' answer = going.GoesBy d.keys.eq d.keys.hash (begun_of w.book.now.parts)

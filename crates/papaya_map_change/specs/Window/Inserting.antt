@@ -1,4 +1,4 @@
--- What an insertion on the shared map holds and relies on, by what it sees of the map.
+-- An insertion on the shared map: what it holds and relies on, by what it has observed of the map.
 use Rattle.std.specs.Prelude.{Option}
 use denote.Bor.{Bor}
 use Rattle.papaya_call.specs.declared.ask.Answer.{Answer}

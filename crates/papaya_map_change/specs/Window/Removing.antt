@@ -1,5 +1,5 @@
--- What a removal on the shared map holds and relies on, by what is asked for and what it sees of
--- the map.
+-- A removal on the shared map: what it holds and relies on, by what it searches for and what it has
+-- observed of the map.
 use Rattle.std.specs.Prelude.{Bool, Option}
 use Rattle.papaya_call.specs.declared.ask.Answer.{Answer}
 use Rattle.papaya_call.specs.declared.call.Reply.{Reply}
@@ -25,6 +25,6 @@ module _ {K V S H F : Type 0} {d : keyed.Ghosts S K H} (query : Query K S)
       f w'.sight.log x' f' answer
 
 module _ {K V S H : Type 0} {d : keyed.Ghosts S K H} where
-  -- a removal that replies this has at hand what it tells of
+  -- A removal with this reply holds the pairs that its result needs.
   abbrev pub CanTell : Window K V S H d → Removal K V S H → Reply → Type 0
   CanTell w = removing.CanTell (begun_of w.book.now.parts) w.book.now.begun.book

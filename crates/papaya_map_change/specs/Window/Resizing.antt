@@ -1,4 +1,5 @@
--- What a call that resizes the shared map holds and relies on, by what it sees of the map.
+-- A call that resizes the shared map: what it holds and relies on, by what it has observed of the
+-- map.
 use Rattle.papaya_map_book.specs.declared.keyed.Keyed as keyed
 use Rattle.papaya_map_book.specs.declared.window.Window.{Window}
 use Rattle.papaya_map_book.specs.Parts.{begun_of}
@@ -12,7 +13,7 @@ module _ {K V S H : Type 0} {d : keyed.Ghosts S K H} where
   CanResize w x = resizing.IsResizing d.keys.eq d.keys.hash (begun_of w.book.now.parts)
       w.book.now.begun.book w.sight.log x.machine x.copier
 
-  -- it relies on what holds once its machine has this answer
+  -- The call relies on what holds once its machine has received this answer.
   abbrev pub GoesOnAfter : Window K V S H d → Resizing K V S H → Answer → Type 0
   GoesOnAfter w x answer = resizing.IsResizing d.keys.eq d.keys.hash (begun_of w.book.now.parts)
       w.book.now.begun.book w.sight.log (after x.machine answer) x.copier

@@ -1,4 +1,4 @@
--- A search that is made at once, for an insertion or a compute, by what it sees of the map.
+-- The search of an insertion's or a compute's fast path, by what it has observed of the map.
 use Rattle.std.specs.Prelude.{◌≡◌, Option, None, Some, List}
 use denote.Bor.{Bor}
 use Rattle.papaya_call.specs.declared.search.Place.{Place}
@@ -20,19 +20,19 @@ use Rattle.papaya_map_change.specs.Seeking as seeking
 use Rattle.papaya_map_change.specs.declared.fast_path.ProbeHit.{ProbeHit}
 
 module _ {K V S H : Type 0} {d : keyed.Ghosts S K H} where
-  -- a call of this key that began at this log would stand here by now
+  -- A call of this key that began at the log `begun` would be in this state now.
   abbrev pub IsSeekingAt : Seeker → Window K V S H d → K → List (Event K V S) → State
       → Option (Stored K V) → Sheet → Type 0
   IsSeekingAt who w key begun state met table = seeking.IsSeekingAt who d.keys.eq d.keys.hash
       (begun_of w.book.now.parts) w.book.now.begun.book key begun w.sight.log state met table
 
-  -- an insertion would
+  -- The same for an insertion.
   abbrev pub IsInsertingAt : Window K V S H d → K → List (Event K V S) → State → Option (Stored K V)
       → Sheet → Type 0
   IsInsertingAt w key begun state met table = seeking.IsInsertingAt d.keys.eq d.keys.hash
       (begun_of w.book.now.parts) w.book.now.begun.book key begun w.sight.log state met table
 
-  -- some one would
+  -- Some insertion of this key would be in this state now.
   abbrev pub StandsAt : Window K V S H d → K → State → Option (Stored K V) → Sheet → Type 0
   StandsAt w key state met table = (begun : List (Event K V S))
       × IsInsertingAt w key begun state met table
@@ -43,23 +43,24 @@ module _ {K V S H : Type 0} {d : keyed.Ghosts S K H} where
   abbrev pub ReadsAt : Window K V S H d → K → Sheet → Place → Type 0
   ReadsAt w key table at = StandsAt w key (Searching (Reading at)) None table
 
-  -- one that a turn has led there
+  -- Some insertion of this key would be in the state to which this outcome leads.
   abbrev pub StandsBy : Window K V S H d → K → Sheet → ProbeHit (Met K V) → Type 0
   StandsBy w key table turn = (state : State) × (led_to turn ≡ Some state)
       × StandsAt w key state (met_by turn) table
 
-  -- each call that stood there is led on by a turn, as is seen by now
+  -- This outcome leads each call that was in this state on to its next state, by what has been
+  -- observed in `w'`.
   abbrev pub Turns : (w w' : Window K V S H d) → K → Sheet → State → ProbeHit (Met K V) → Type 0
   Turns w w' key table state turn = (who : Seeker) (begun : List (Event K V S)) (state' : State)
       → leads who turn ≡ Some state' → IsSeekingAt who w key begun state None table
       → IsSeekingAt who w' key begun state' (met_by turn) table
 
-  -- one that began at what was seen of the map first is led there
+  -- A call that began at the log of `w` would be in the state to which this outcome leads.
   abbrev pub IsFoundFor : (w w' : Window K V S H d) → K → Sheet → ProbeHit (Met K V) → Type 0
   IsFoundFor w w' key table turn = (who : Seeker) (state : State) → leads who turn ≡ Some state
       → IsSeekingAt who w' key w.sight.log state (met_by turn) table
 
-  -- what each has put in that a turn had led there
+  -- Each insertion that this outcome led to its state has put in its value, with this result.
   abbrev pub HasWritten : (w w' : Window K V S H d) → K → V → Sheet → ProbeHit (Met K V) → Option (Bor V)
       → Type 0
   HasWritten w w' key value table turn answer = (begun : List (Event K V S)) (state : State)

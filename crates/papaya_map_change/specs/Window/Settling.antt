@@ -1,4 +1,4 @@
--- Slots that are copied one after another, by what is seen of the map.
+-- Slots that are copied one after another, by what has been observed of the map.
 use Rattle.std.specs.Prelude.{◌<◌, Option, List}
 use mathlib.Core.List.{IsPrefix}
 use Rattle.papaya_words.specs.declared.resize_mode.ResizeMode.{ResizeMode}
@@ -24,7 +24,7 @@ use Rattle.papaya_map_change.specs.Seeking.{left_at}
 use Rattle.papaya_map_change.specs.Settling.{Stop, at_slot}
 use Rattle.papaya_map_change.specs.Settling as settling
 
--- the copy of the slot looks at its word, by what was seen before
+-- The copy is about to look at the slot's word, by the log `seen`.
 abbrev pub stop_seen : {K V S H : Type 0} → List (Event K V S) → Site K V S H → Copier K V S H
     → Stop K V S H
 stop_seen seen site h = record {
@@ -33,7 +33,8 @@ stop_seen seen site h = record {
   loaded = h;
 }
 
--- the carry of the slot's pair looks at its place: the hint, then the word, then it is put there
+-- The steps at a place to which the slot's pair may be moved: `looking` loads its hint, `reading`
+-- loads its word, and `placing` puts the pair there.
 abbrev pub looking : {K V S H : Type 0} → Moving K V S H → Settle
 looking m = Carrying m.marked (Looking_at m.hash m.place)
 
@@ -48,20 +49,20 @@ module _ {K V S H : Type 0} {d : keyed.Ghosts S K H} where
   CanLead w mode s = settling.CanLead d.keys.eq d.keys.hash (begun_of w.book.now.parts)
       w.book.now.begun.book mode s
 
-  -- the copy stands here, by what is seen
+  -- The copy at this point, by what has been observed.
   abbrev pub stop_in : Window K V S H d → Copying → Copier K V S H → Stop K V S H
   stop_in w copying h = record { copying = copying; log = w.sight.log; loaded = h }
 
-  -- the copy of the slot does
+  -- The copy of the site's slot at this step, by what has been observed.
   abbrev pub stop_at : Window K V S H d → Site K V S H → Settle → Copier K V S H → Stop K V S H
   stop_at w site settle h = stop_in w (at_slot site.aim site.chunk settle) h
 
-  -- the table at hand is that of the chunk that is copied
+  -- The table that is held is that of the chunk that is copied.
   pub record IsPlacedAt (w : Window K V S H d) (site : Site K V S H) : Type 0 where
     pub table : IsTable w site.chunk.cursor.from site.table.now
     pub standing : IsStandingChunk site.chunk
 
-  -- the place that the pair is tried at is one of the table at hand
+  -- The place that is tried for the pair is in the table that is held.
   pub record IsAt (w : Window K V S H d) (m : Moving K V S H) : Type 0 where
     pub within : IsWithin m.place
     pub table : IsTable w m.place.table m.to.now
@@ -69,12 +70,13 @@ module _ {K V S H : Type 0} {d : keyed.Ghosts S K H} where
   abbrev pub CanLeadAt : Window K V S H d → Site K V S H → Settle → Copier K V S H → Type 0
   CanLeadAt w site settle h = CanLead w site.mode (stop_at w site settle h)
 
-  -- it was seen that the copy of the slot stands there, and it may be led on
+  -- The copy is about to look at the slot's word, by a log that has been observed, and may be led
+  -- on from there.
   abbrev pub WaitsAt : Window K V S H d → Site K V S H → Copier K V S H → Type 0
   WaitsAt w site h = (seen : List (Event K V S)) × IsPrefix seen w.sight.log
       × CanLead w site.mode (stop_seen seen site h)
 
-  -- the slot is settled, or its copy was left
+  -- The slot is settled, or its copy stopped.
   abbrev pub LeavesFrom : Stop K V S H → Window K V S H d → Site K V S H → Copier K V S H
       → Option Halt → Type 0
   LeavesFrom s w site h halt = settling.LeavesSlot d.keys.eq d.keys.hash
@@ -89,7 +91,8 @@ module _ {K V S H : Type 0} {d : keyed.Ghosts S K H} where
   Leads w mode s t = settling.Leads d.keys.eq d.keys.hash (begun_of w.book.now.parts)
       w.book.now.begun.book mode s t
 
-  -- a look at this place leads to a later one, or the slot is settled, or its copy was left
+  -- From this place the search for the pair's new slot goes on to a later one; or the slot is
+  -- settled, or its copy stopped.
   abbrev pub LooksOn : Window K V S H d → Site K V S H → Moving K V S H → Copier K V S H
       → Window K V S H d → Copier K V S H → MoveStep → Type 0
   LooksOn w site m h w' h' (Next next) = IsAt w' (record m { place = next })
@@ -97,7 +100,7 @@ module _ {K V S H : Type 0} {d : keyed.Ghosts S K H} where
       (stop_at w' site (looking (record m { place = next })) h') × (left_at next < left_at m.place)
   LooksOn w site m h w' h' (Left halt) = Leaves w site (looking m) h w' h' halt
 
-  -- answers led to this copy, and the last one is still to be told
+  -- Answers led to this point of the copy, and the machine has yet to receive the last one.
   abbrev pub Ends : Window K V S H d → ResizeMode → Copying → Copier K V S H → Window K V S H d
       → Copier K V S H → Copying × Answer → Type 0
   Ends w mode copying h w' h' end = settling.Ends d.keys.eq d.keys.hash

@@ -1,4 +1,5 @@
--- What a call on the shared map that inserts holds and relies on, by what it sees of the map.
+-- A call on the shared map that inserts: what it holds and relies on, by what it has observed of
+-- the map.
 use Rattle.std.specs.Prelude.{◌≡◌, ◌⊎◌, ℕ, ◌<◌, ◌^◌, IfErr, IfOk, Option, Some, Result}
 use Rattle.papaya_call.specs.declared.ask.Answer.{Answer}
 use Rattle.papaya_call.specs.declared.ask.Ask.{Ask}
@@ -44,12 +45,12 @@ module _ {K V S H : Type 0} {d : keyed.Ghosts S K H} where
   Puts w c t x old q w' c' answer = writing.Puts d.keys.eq d.keys.hash (begun_of w.book.now.parts)
       w.book.now.begun.book w.sight.log c t x old q w'.sight.log c' answer
 
-  -- some such call is under way, and waits for an answer to this
+  -- Some such call is under way, and waits for an answer to `ask`.
   pub record Waits (w : Window K V S H d) (c : Writer K V S H) (ask : Ask) : Type 0 where
     pub can : CanWrite w c
     pub asks : ask_of c.call.machine ≡ Call ask
 
-  -- It has this answer by a step that changes nothing: more of the log may be seen by then.
+  -- The call got this answer by a step that changes nothing. It may have observed more of the log.
   pub record Steps (w : Window K V S H d) (c : Writer K V S H) (w' : Window K V S H d)
       (c' : Writer K V S H) (answer : Answer) : Type 0 where
     pub sees : Sees w w'
@@ -60,8 +61,8 @@ module _ {K V S H : Type 0} {d : keyed.Ghosts S K H} where
     pub unsaid : IsUnsaid c'.call.copier.given.done answer
     pub writes : Writes w c w' c' answer
 
-  -- It has it by an exchange of a slot that was tried: where that was made, this is what came with
-  -- it.
+  -- The call got this answer by trying an exchange of a slot, which brought in the pair `comes` if
+  -- it succeeded.
   pub record Tries (w : Window K V S H d) (c : Writer K V S H) (comes : Option (Stored K V))
       (w' : Window K V S H d) (c' : Writer K V S H) (answer : Answer) : Type 0 where
     pub sees : Sees w w'
@@ -71,8 +72,8 @@ module _ {K V S H : Type 0} {d : keyed.Ghosts S K H} where
     pub put : (c'.call.put ≡ c.call.put) ⊎ (c'.call.put ≡ comes)
     pub unsaid : IsUnsaid c'.call.copier.given.done answer
 
-  -- It has logged a pair of its value that is to be put in, or this is what its machine is to be
-  -- answered.
+  -- The call has stored a pair of its value in the arena, which is to be put in; or its machine is
+  -- to receive this answer.
   pub record Logs (w : Window K V S H d) (c c' : Writer K V S H)
       (result : Result (Stored K V) Answer) : Type 0 where
     pub machine : c'.call.machine ≡ c.call.machine
@@ -87,6 +88,6 @@ module _ {K V S H : Type 0} {d : keyed.Ghosts S K H} where
     pub writes : IfErr result (λ answer. Writes w c w c' answer)
 
 module _ {K V S H : Type 0} where
-  -- Whatever is seen of the map, each such call goes on so, with no step.
+  -- Whatever has been observed of the map, each such call goes on with this answer and no step.
   abbrev pub MakesPart : Keys K S → Writer K V S H → Answer → Type 0
   MakesPart keys c answer = (w : Window K V S H (record { keys = keys })) → Writes w c w c answer

@@ -1,5 +1,6 @@
--- One class of keys with blocking: the root has the map, and what comes after it copies of what leaves the root.
--- `On` says which tables the chain has, r is the root, `Was` says which tables were the root, `ab` which are aborted.
+-- One class of keys with blocking: the root has the map, and the tables after it have copies of
+-- what leaves the root. `On` says which tables are on the chain, r is the root, `Was` says which
+-- tables were the root, and `ab` which are aborted.
 use Rattle.std.proofs.Common.{◌≡◌, ◌⊎◌, inl, inr, ⊎_elim, ℕ, ◌<◌, ◌≤◌, Bool, true, false, Option, None, Some, refl, sym, ap, ◌∙◌, subst, arith}
 use Rattle.std.proofs.lemmas.Bool.{cases_lt}
 use Rattle.papaya_words_law.specs.View.{View, Free, Foreign, Here, Leaving, Grave, own, active, held, beyond, foreign, HasWord}

@@ -1,4 +1,5 @@
--- A link made with blocking: to which tables roots are copied then, and that these have a word for each chunk.
+-- A link with blocking: to which tables roots are copied after it, and that these tables have a
+-- word for each chunk.
 use Rattle.std.proofs.Common.{◌≡◌, ◌⊎◌, inl, inr, ⊎_elim, ℕ, zero, suc, ◌<◌, ◌≤◌, true, false, ◌==◌, Option, refl, sym, ap, ◌∙◌, subst, arith, eqb-true, eq-eqb}
 use Rattle.std.proofs.lemmas.Bool.{cases_lt, cases_order, cases_Bool, cond-true, cond-false}
 use Rattle.papaya_words_law.specs.Exchange.{Setting, State, Link, after, at_put, walk}

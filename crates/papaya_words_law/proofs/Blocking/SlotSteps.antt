@@ -1,4 +1,4 @@
--- Each kind of exchange of a slot keeps what is to be kept, with blocking.
+-- Each kind of exchange of a slot preserves the invariant, with blocking.
 use Rattle.std.proofs.Common.{◌≡◌, inl, inr, ⊎_elim, ℕ, ◌<◌, Bool, true, false, cond, Option, None, Some, refl, sym, ap, ◌∙◌, subst}
 use Rattle.std.proofs.lemmas.Bool.{cases_Bool, cond-true, cond-false}
 use Rattle.papaya_words_law.specs.Exchange.{Word, Empty, Closed, Live, Marked, Buried, Setting, State, slot_put}

@@ -1,4 +1,4 @@
--- With blocking: each list of allowed exchanges keeps one map.
+-- With blocking: after each list of allowed exchanges the words represent one map.
 use Rattle.std.proofs.Common.{◌≡◌, ◌⊎◌, ⊎_elim, ℕ, ◌<◌, true, Option, List, [], ◌∷◌, sym, subst}
 use Rattle.papaya_words_law.specs.Exchange.{Setting, State, Exchange, Open, Claim, Replace, Bury, Link}
 use Rattle.papaya_words_law.specs.Exchange.{Mark, Close, Place, Finish, Advance, Promote, Abort, Take}

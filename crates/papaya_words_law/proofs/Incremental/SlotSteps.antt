@@ -1,4 +1,4 @@
--- Each kind of exchange of a slot keeps what is to be kept, without blocking. Claim stands in `States`.
+-- Each kind of exchange of a slot preserves the invariant, without blocking. Claim is in `States`.
 use Rattle.std.proofs.Common.{◌≡◌, ◌⊎◌, inl, inr, ⊎_elim, ℕ, Bool, true, false, cond, Option, None, Some, refl, sym, ap, ◌∙◌, subst, arith}
 use Rattle.std.proofs.lemmas.Bool.{cases_Bool, cond-true, cond-false}
 use Rattle.papaya_words_law.specs.Exchange.{Word, Empty, Closed, Live, Marked, Copied, Buried, Setting, State, slot_put}

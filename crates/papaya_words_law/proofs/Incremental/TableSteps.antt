@@ -1,4 +1,4 @@
--- The exchanges of the root and of the words of a table keep what is to be kept, without blocking.
+-- The exchanges of the root and of the words of a table preserve the invariant, without blocking.
 use Rattle.std.proofs.Common.{◌≡◌, ⊎_elim, ℕ, suc, ◌<◌, ◌≤◌, true, false, ◌==◌, Option, None, refl, sym, ap, ◌∙◌, subst, arith, eqb-true}
 use Rattle.std.proofs.lemmas.Bool.{cases_order, cases_Bool, cond-true, cond-false}
 use Rattle.papaya_words_law.specs.Exchange.{Word, Empty, Closed, Live, Marked, Copied, Buried, Setting}

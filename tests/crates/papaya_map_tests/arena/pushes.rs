@@ -3,7 +3,7 @@
 ghost use Rattle.std.specs.Prelude.{◌≡◌, IfSome};
 ghost use Rattle.boxcar.specs.Table.{Shows};
 
-use crate::arena::expect::is;
+use crate::expect::is;
 use papaya_map_arena::arena::Arena;
 use papaya_map_arena::token::{Pushed, token, witness};
 use std::sync::Wait;

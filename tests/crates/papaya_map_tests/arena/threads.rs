@@ -1,5 +1,5 @@
 // Threads that push onto one arena.
-use crate::arena::expect::is;
+use crate::expect::is;
 use papaya_map_arena::arena::Arena;
 use std::alloc::Global;
 use std::sync::Wait;

@@ -10,7 +10,7 @@ use Rattle.papaya_core_timeline.specs.Outcomes.{ListsGiven, all_given, given_by}
 use Rattle.papaya_core.proofs.Walks.{given_is}
 use Rattle.papaya_core.proofs.scans.advance_scan.Goals as goal
 
--- there was no memory for a pair of its list
+-- memory ran out for a pair of its list
 pub returns-in-Some-unheard-clause-goes : goal.returns-in-Some-unheard-clause-goes
 returns-in-Some-unheard-clause-goes g c = record {
   ask = c.in-Some.ask;

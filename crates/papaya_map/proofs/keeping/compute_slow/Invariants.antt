@@ -3,6 +3,6 @@ use Rattle.papaya_map_change.specs.Showings.{Operates}
 use Rattle.papaya_map_compute.proofs.Running.{IsRunning}
 use Rattle.papaya_map.proofs.keeping.compute_slow.Given as goal
 
--- the machine runs, and the closure may be called again
+-- The machine runs, and the closure may be called again.
 abbrev pub invariant-loop : goal.invariant-loop
 invariant-loop g l = IsRunning (Operates g.F.FnMut) l.means.initial l.fn.window l.fn.f l.fn.start l.window l.computing l.f × always_mut g.F.FnMut l.f

@@ -1,4 +1,4 @@
--- `tell` copies what the token shows. Assumes `Logic`.
+-- `tell` copies the evidence of the token. Assumes `Logic`.
 use Rattle.std.proofs.Common.{List, [], ◌∷◌, ◌++◌, map, refl, sym, subst}
 use mir.Syntax.{a_type, dcons, dnil, named}
 use mir.Val.{Val, vptr}

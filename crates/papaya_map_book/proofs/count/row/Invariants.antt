@@ -1,6 +1,6 @@
 use Rattle.std.proofs.Common.{◌≡◌, ◌≤◌, length}
 use Rattle.papaya_map_book.proofs.count.row.Given as goal
 
--- so many shards are there already
+-- This many shards have been made already.
 abbrev pub invariant-loop : goal.invariant-loop
 invariant-loop l = (length l.shards.items ≡ l.counter) × (l.counter ≤ l.len)

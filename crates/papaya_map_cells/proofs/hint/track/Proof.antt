@@ -1,4 +1,4 @@
--- `track` puts a part of the pen's cell beside the word, in the place of what was seen.
+-- `track` puts a part of the pen's cell beside the word, in place of the observed log.
 use Rattle.std.proofs.Common.{true, List, [], ◌∷◌, refl, inr}
 use mir.Syntax.{a_type, dcons, dnil, named}
 use mir.Val.{Val, vunit, vptr}

@@ -8,7 +8,7 @@ use Rattle.papaya_map_change.specs.Seeking.{Seeker, left_at}
 use Rattle.papaya_map_change.specs.Window.Seeking.{IsSeekingAt}
 use Rattle.papaya_map_change.proofs.fast_path.seek.Given as goal
 
--- the turns so far led on from the first place to this one
+-- The outcomes so far led from the first place to this one.
 abbrev pub invariant-loop-next : goal.invariant-loop-next
 invariant-loop-next g l =
     ((who : Seeker) (begun : List (Event _ _ _)) → IsSeekingAt who l.fn.window l.key begun (Searching (Looking l.fn.at)) None l.table

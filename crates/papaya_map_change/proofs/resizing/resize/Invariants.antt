@@ -4,7 +4,7 @@ use Rattle.papaya_map_book.specs.Windows.{Observes}
 use Rattle.papaya_map_change.specs.Window.Resizing.{CanResize}
 use Rattle.papaya_map_change.proofs.resizing.resize.Given as goal
 
--- it relies on what is seen by now
+-- The call relies on what has been observed now.
 abbrev pub invariant-loop : goal.invariant-loop
 invariant-loop g l = record {
   sees : Observes l.fn.window l.window;

@@ -8,7 +8,7 @@ use Rattle.papaya_map_lookup.specs.Lookups.{left_of}
 use Rattle.papaya_map_lookup.proofs.Turning.{IsHeld, numbered}
 use Rattle.papaya_map_lookup.proofs.lookup.find.Given as goal
 
--- the lookup that began at some log since was told the number of the table that is held, or that there is none
+-- The lookup that began at some log since has received the number of the table that is held, or that there is none.
 abbrev pub invariant-loop-held : goal.invariant-loop-held
 invariant-loop-held g l = (began : List (Event g.row.K.Denot g.row.V.Denot g.row.S.Denot)) × IsPrefix l.fn.window.sight.log began
     × IsPrefix began l.window.sight.log

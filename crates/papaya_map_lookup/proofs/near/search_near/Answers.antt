@@ -13,7 +13,7 @@ use Rattle.papaya_map_lookup.proofs.near.search_near.Goals as goal
 use Rattle.papaya_map_lookup.proofs.near.search_near.Goals.{After-search_slots, In-Absent, In-Found}
 use Rattle.papaya_map_lookup.proofs.near.search_near.Given.{Over}
 
--- what the key matches is one class of keys
+-- The keys that match are one class.
 lawful : (g : Over) (key : g.row.Q.Denot) → IsQuery g.K.PartialEq.eq g.K.Hash.hash_input (g.Q.Equivalent.matches key) (g.Q.Hash.hash_input key)
 lawful g key = record { feeds = g.met.Q.Equivalent.hashes_as_key key; class = λ k l. g.met.Q.Equivalent.matches_equal_keys key k l }
 

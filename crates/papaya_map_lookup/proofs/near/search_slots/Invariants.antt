@@ -10,7 +10,7 @@ use Rattle.papaya_map_lookup.specs.Lookups.{IsReadingAt, IsTurned}
 use Rattle.papaya_map_lookup.specs.declared.lookup.ProbeHit.TheVariants.{Next}
 use Rattle.papaya_map_lookup.proofs.near.search_slots.Given as goal
 
--- the places so far led each lookup on to this one that stood where the search began
+-- The places so far led each lookup that was where the search began to this one.
 abbrev pub invariant-loop-turned : goal.invariant-loop-turned
 invariant-loop-turned g l =
     ((began : List (Event g.row.K.Denot g.row.V.Denot g.row.S.Denot))

@@ -4,7 +4,7 @@ use Rattle.papaya_map_change.specs.Showings.{Judges}
 use Rattle.papaya_map_scan.specs.TableScans.{HasShown}
 use Rattle.papaya_map_scan.proofs.retain.retain.Given as goal
 
--- what the closure was shown so far, and what was made of its answers
+-- The calls of the closure so far, and the changes that they caused.
 abbrev pub invariant-loop : goal.invariant-loop
 invariant-loop g l = record {
   sees : Sees l.fn.window l.window;

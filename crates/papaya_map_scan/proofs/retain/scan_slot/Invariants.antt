@@ -3,7 +3,7 @@ use Rattle.papaya_map_change.specs.Showings.{Judges}
 use Rattle.papaya_map_scan.specs.TableScans.{IsMet, IsTaken, Scans}
 use Rattle.papaya_map_scan.proofs.retain.scan_slot.Given as goal
 
--- the word that was found last stands in the slot, and names a pair that the map had
+-- The word that was found last is in the slot, and names an entry that the map had.
 abbrev pub invariant-loop : goal.invariant-loop
 invariant-loop g l = record {
   sees : Sees l.fn.window l.window;

@@ -3,7 +3,7 @@ use Rattle.papaya_map_change.specs.Showings.{Judges}
 use Rattle.papaya_map_scan.specs.TableScans.{IsTaken, Scans}
 use Rattle.papaya_map_scan.proofs.retain.scan_table.Given as goal
 
--- the slots that were scanned so far
+-- The slots that were scanned so far.
 abbrev pub invariant-loop-place : goal.invariant-loop-place
 invariant-loop-place g l = record {
   sees : Sees l.fn.window l.window;

@@ -5,7 +5,7 @@ use Rattle.papaya_map_book.specs.Windows.{Sees}
 use Rattle.papaya_map_scan.specs.Walked.{AreLast, ArePassed}
 use Rattle.papaya_map_scan.proofs.walk.next_pair.Given as goal
 
--- more is seen, and fewer slots are left: the others are passed
+-- At least as much has been observed, and fewer slots are left: the others are passed.
 abbrev pub invariant-loop-slot : goal.invariant-loop-slot
 invariant-loop-slot g l = record {
   sees : Sees l.fn.window l.window;

@@ -6,7 +6,7 @@ use Rattle.papaya_words_keys.specs.Hashes.{hash_of}
 use Rattle.papaya_seq.specs.Copies.{Steps}
 use Rattle.papaya_seq.proofs.chunk.advance.Given as goal
 
--- the chunks so far led on from the one that was copied
+-- the chunks so far brought the machine here from the chunk that was copied
 abbrev pub invariant-loop-at : goal.invariant-loop-at
 invariant-loop-at g l = IsStandingCursor l.cursor
     × ((mode : ResizeMode)

@@ -6,7 +6,7 @@ use Rattle.papaya_words_keys.specs.Hashes.{hash_of}
 use Rattle.papaya_seq.specs.Copies.{IsSized, Steps}
 use Rattle.papaya_seq.proofs.chunk.copy_slots.Given as goal
 
--- the slots so far led on from the first one to this one
+-- the slots so far brought the machine from the first slot to this one
 abbrev pub invariant-loop-settle : goal.invariant-loop-settle
 invariant-loop-settle g l = IsStandingChunk l.chunk × IsSized l.store
     × Steps g.K.PartialEq.eq (hash_of g.K.Hash.hash_input g.S.BuildHasher.build_hasher g.S.Hasher.Hasher.write g.S.Hasher.Hasher.finish) l.fn.mode

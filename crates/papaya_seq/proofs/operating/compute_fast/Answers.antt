@@ -23,7 +23,7 @@ use Rattle.papaya_seq.proofs.operating.compute_fast.Goals.{In-Some-Empty, In-Som
 use Rattle.papaya_seq.proofs.operating.compute_fast.Given as given
 use Rattle.papaya_seq.proofs.operating.compute_fast.Given.{Over}
 
--- what the closure may answer
+-- what the closure may return
 abbrev said : (g : Over) (f : g.row.F.Denot) → Option (Stored g.row.K.Denot g.row.V.Denot) → Operation g.row.V.Denot g.row.T.Denot → Type 0
 said g f = Says (λ shown operation. given.F-post g f shown operation)
 

@@ -11,7 +11,7 @@ use Rattle.papaya_seq.proofs.removal.remove_fast.Goals as goal
 use Rattle.papaya_seq.proofs.removal.remove_fast.Goals.{In-Some-Here}
 use Rattle.papaya_seq.proofs.removal.remove_fast.Given.{Over}
 
--- what the search of the root saw
+-- the outcome of the search of the root
 here : (g : Over) (c : In-Some-Here g) → IsRootTurn (g.Q.Equivalent.matches c.args.key.now) c.args.store.now c.args.hash
     (turns.Here c.in-Some-Here.place c.in-Some-Here.word)
 here g c = subst (λ (t : ProbeHit). IsRootTurn (g.Q.Equivalent.matches c.args.key.now) c.args.store.now c.args.hash t) (search rules)

@@ -6,7 +6,7 @@ use Rattle.papaya_core_store.specs.Store.{Stored, pair_of}
 use Rattle.papaya_seq.specs.Removes.{IsShown}
 use Rattle.papaya_seq.proofs.removal.show.Goals as goal
 
--- a closure that was called at a pair's key and value was shown it
+-- a closure that was called with the key and the value of a pair was called with that pair
 shown : {F K V : Type 0} (g : Mut F (Bor K × (Bor V × Unit {0})) Bool) (o : Option (Stored K V)) (n : ℕ) (key : Bor K) (value : Bor V) (f f' : F)
     (agrees : Bool) → o ≡ Some (record { number = n; key = key.now; value = value.now }) → Called g f (key, (value, tt)) agrees f'
     → IsShown g o f (Yes agrees) f'

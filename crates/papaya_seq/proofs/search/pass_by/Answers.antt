@@ -12,7 +12,7 @@ use Rattle.papaya_seq.proofs.search.pass_by.Goals.{After-hinted}
 use Rattle.papaya_seq.proofs.search.pass_by.Given.{Over}
 
 module _ (g : Over) (c : After-hinted g) where
-  -- the hint that stands at this place
+  -- the hint of this place
   abbrev there : ℕ
   there = hint_at c.args.store.now.words c.loop-next.place.table c.loop-next.place.probe.i
 

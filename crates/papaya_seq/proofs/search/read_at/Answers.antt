@@ -11,7 +11,7 @@ use Rattle.papaya_seq.proofs.search.read_at.Goals as goal
 use Rattle.papaya_seq.proofs.search.read_at.Goals.{After-slot-word}
 use Rattle.papaya_seq.proofs.search.read_at.Given.{Over}
 
--- the word that stands at the place
+-- the word at the place
 word_is : (g : Over) (c : After-slot-word g) (hash : ℕ)
     → c.slot-word.result ≡ word_there (g.Q.Equivalent.matches c.args.key.now) c.args.store.now hash c.args.at
 word_is g c hash =

@@ -19,7 +19,7 @@ use Rattle.papaya_seq.proofs.writing.insert_fast.Goals as goal
 use Rattle.papaya_seq.proofs.writing.insert_fast.Goals.{In-Some-Empty, In-Some-Here}
 use Rattle.papaya_seq.proofs.writing.insert_fast.Given.{Over}
 
--- what the search of the root saw
+-- the outcome of the search of the root
 empty : (g : Over) (c : In-Some-Empty g) → IsRootTurn (g.K.PartialEq.eq c.args.key) c.args.store.now c.args.hash (turns.Empty c.in-Some-Empty.place)
 empty g c = subst (λ (t : ProbeHit). IsRootTurn (g.K.PartialEq.eq c.args.key) c.args.store.now c.args.hash t) (search rules)
     (c.search_root.ensures c.in-Some-Empty.field-0 c.in-Some-Empty.is)

@@ -1,7 +1,7 @@
 use Rattle.std.proofs.Common.{inr, refl, sym}
 use Rattle.papaya_core_store.proofs.scans.Scanning.show.Goals as goal
 
--- the closure was shown the pair, and its answers are those that were left
+-- the closure was called with the pair, and its answers are those that were left
 pub returns-in-Some-pair : goal.returns-in-Some-pair
 returns-in-Some-pair g c =
     inr (

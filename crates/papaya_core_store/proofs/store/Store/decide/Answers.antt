@@ -1,7 +1,7 @@
 use Rattle.std.proofs.Common.{Some, inr, refl, sym, ap}
 use Rattle.papaya_core_store.proofs.store.Store.decide.Goals as goal
 
--- the closure was shown the pair, and what it answered is kept
+-- the closure was called with the pair, and what it returned is kept
 pub returns-in-Some-pair-clause-decides : goal.returns-in-Some-pair-clause-decides
 returns-in-Some-pair-clause-decides g c =
     inr (

@@ -1,7 +1,7 @@
 use Rattle.std.proofs.Common.{inr, refl, sym}
 use Rattle.papaya_core_store.proofs.store.Store.judge.Goals as goal
 
--- the closure was shown the pair, and its answers are those that were left
+-- the closure was called with the pair, and its answers are those that were left
 pub returns-in-Some-pair-clause-judges : goal.returns-in-Some-pair-clause-judges
 returns-in-Some-pair-clause-judges g c =
     inr (

@@ -1,4 +1,4 @@
--- `get` with a guard answers what it is told, and hands over what shows the log. Assumes `Logic`.
+-- `get` with a guard returns the result of its first half, and passes on the evidence of the log. Assumes `Logic`.
 use Rattle.std.proofs.Common.{◌≡◌, [], ◌∷◌, Err, true, refl}
 use Rattle.std.specs.Prelude.{IfOk, is_ok}
 use mathlib.Core.List.{IsPrefix}

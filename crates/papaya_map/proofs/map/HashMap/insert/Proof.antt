@@ -1,4 +1,4 @@
--- `insert` with a guard answers what it is told, and hands over what shows the log. Assumes `Logic`.
+-- `insert` with a guard returns the result of its first half, and passes on the evidence of the log. Assumes `Logic`.
 use Rattle.std.proofs.Common.{◌≡◌, [], ◌∷◌, Err, refl}
 use Rattle.std.specs.Prelude.{IfErr, IfOk}
 use mathlib.Core.List.{IsPrefix}

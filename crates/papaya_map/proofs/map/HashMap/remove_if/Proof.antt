@@ -1,4 +1,4 @@
--- `remove_if` with a guard answers what it is told, and hands over what shows the log. Assumes `Logic`.
+-- `remove_if` with a guard returns the result of its first half, and passes on the evidence of the log. Assumes `Logic`.
 use Rattle.std.proofs.Common.{◌≡◌, [], ◌∷◌, Err, refl}
 use mathlib.Core.List.{IsPrefix}
 use mir.Syntax.{a_type, dcons, dnil, named}

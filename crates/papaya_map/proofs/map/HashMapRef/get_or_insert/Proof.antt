@@ -1,4 +1,4 @@
--- `get_or_insert` answers what it is told, and hands over what shows the log. Assumes `Logic`.
+-- `get_or_insert` returns the result of its first half, and passes on the evidence of the log. Assumes `Logic`.
 use Rattle.std.proofs.Common.{◌≡◌, [], ◌∷◌, refl}
 use Rattle.std.specs.Prelude.{IfErr, IfOk}
 use mathlib.Core.List.{IsPrefix}

@@ -1,4 +1,4 @@
--- `retain` answers what it is told, and hands over what shows the log. Assumes `Logic`.
+-- `retain` returns the result of its first half, and passes on the evidence of the log. Assumes `Logic`.
 use Rattle.std.proofs.Common.{◌≡◌, List, [], ◌∷◌, refl}
 use Rattle.std.specs.Prelude.{IfErr}
 use mathlib.Core.List.{IsPrefix}

@@ -1,6 +1,6 @@
 use Rattle.std.proofs.Common.{◌≡◌}
 use Rattle.papaya_map_book.proofs.book.Book.opened.Given as goal
 
--- the parts come back as they were
+-- The parts are given back as they were.
 abbrev pub invariant-loop : goal.invariant-loop
 invariant-loop g l = l.parts ≡ l.fn.parts

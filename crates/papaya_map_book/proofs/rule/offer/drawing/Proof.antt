@@ -1,4 +1,4 @@
--- An offer that draws words is made of nothing.
+-- An offer that draws words needs no resources.
 use Rattle.std.proofs.Common.{ℕ, [], ◌∷◌, refl, w64}
 use mir.Syntax.{a_type, dcons, dnil, named}
 use mir.Val.{Val, vint, vptr}

@@ -1,4 +1,4 @@
--- `back` is one step, at which the counter has its ticket again, if it is at the next number.
+-- `back` is one step, after which the counter has its ticket again if it is at the next number.
 use Rattle.std.proofs.Common.{◌≡◌, ℕ, ◌+◌, ◌^◌, ◌<◌, List, [], ◌∷◌, refl, lit<, arith, w64}
 use base.Logic.{SProp, wand, emp, via, apply∗, id⊢}
 use base.Fml.{Lft, Share, Fml, ftrue, fsep, flft}

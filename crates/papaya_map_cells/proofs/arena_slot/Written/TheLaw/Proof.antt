@@ -1,4 +1,4 @@
--- A `&` to a `Written` holds what it knows, which can be had twice.
+-- A `&` to a `Written` has what that knows, which may be copied.
 use base.Logic.{snd∗}
 use base.Before.{before}
 use types.Logic.{sem}

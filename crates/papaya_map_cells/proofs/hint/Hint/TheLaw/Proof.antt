@@ -1,4 +1,4 @@
--- A `&` to a hint is made as one to an untracked word whose rule says what it says beside this word.
+-- A `&` to a hint is made as one to an untracked word whose rule is the hint's rule beside this word.
 use Prim.Native.Nat.{ℕ}
 use seplogic.Ra.Ura.{Ura}
 use base.Fraction.{full_share}

@@ -1,4 +1,4 @@
--- `compare_exchange` is one step, which leaves what was seen of the log beside the new number.
+-- `compare_exchange` is one step, which leaves the observed log beside the new number.
 use Rattle.std.proofs.Common.{ℕ, ◌^◌, Bool, false, List, [], ◌∷◌, sym, refl, subst, w64}
 use mir.Syntax.{a_type, dcons, dnil, named}
 use mir.Val.{Val, vint, vptr}

@@ -1,4 +1,4 @@
--- `fresh` puts what was seen of the log beside the number.
+-- `fresh` puts the observed log beside the number.
 use Rattle.std.proofs.Common.{ℕ, Bool, false, List, [], ◌∷◌, sym, refl, subst, lit<}
 use mir.Syntax.{a_type, dcons, dnil, named}
 use mir.Val.{Val, vptr}

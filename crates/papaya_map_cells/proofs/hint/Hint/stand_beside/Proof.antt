@@ -1,4 +1,4 @@
--- `stand_beside` puts what was seen of the log beside the number, in the place of what was seen before.
+-- `stand_beside` puts the observed log beside the number, in place of the one observed before.
 use Rattle.std.proofs.Common.{◌≡◌, ℕ, Bool, false, List, [], ◌∷◌, sym, refl, subst}
 use mir.Syntax.{a_type, dcons, dnil, named}
 use mir.Val.{Val, vunit, vptr}

@@ -1,4 +1,4 @@
--- A `&` to a counter is made of a borrow of it: its word and the tickets lie in an invariant.
+-- A `&` to a counter is made of a borrow of it: its word and the tickets are in an invariant.
 use Rattle.std.proofs.Common.{ℕ, zero, ◌+◌, List, [], ◌∷◌, sym, refl, add-zero}
 use seplogic.Ra.Ura.{Ura}
 use mir.Val.{Val}

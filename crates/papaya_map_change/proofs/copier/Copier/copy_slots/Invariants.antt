@@ -7,7 +7,7 @@ use Rattle.papaya_map_change.specs.Window.Settling.{CanLead, IsPlacedAt, Leads, 
 use Rattle.papaya_map_change.specs.Settling.{at_slot}
 use Rattle.papaya_map_change.proofs.copier.Copier.copy_slots.Given as goal
 
--- answers so far led on from the first slot to this one, as was seen by now
+-- The answers so far led from the first slot to this one, by what has been observed now.
 abbrev pub invariant-loop-halt : goal.invariant-loop-halt
 invariant-loop-halt g l = record {
   sees : Observes l.fn.window l.window;

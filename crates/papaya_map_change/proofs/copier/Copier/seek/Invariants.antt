@@ -4,7 +4,7 @@ use Rattle.papaya_map_change.specs.Seeking.{left_at}
 use Rattle.papaya_map_change.specs.Window.Settling.{CanLeadAt, IsAt, IsPlacedAt, Leads, looking, stop_at}
 use Rattle.papaya_map_change.proofs.copier.Copier.seek.Given as goal
 
--- answers so far led on from the first place to this one
+-- The answers so far led from the first place to this one.
 abbrev pub invariant-loop-next : goal.invariant-loop-next
 invariant-loop-next g l = record {
   sees : Observes l.fn.window l.window;

@@ -6,7 +6,7 @@ use Rattle.papaya_map_change.specs.Window.Driver.{GoesOn}
 use Rattle.papaya_map_change.proofs.HelpingArrives.{HasReached}
 use Rattle.papaya_map_change.proofs.driver.Driver.help_set_aside.Given as goal
 
--- the call relies on what is seen by now, and what was answered for the copy has led it here
+-- The call relies on what has been observed now, and the answers to its copy's asks have led it here.
 abbrev pub invariant-loop : goal.invariant-loop
 invariant-loop g l = record {
   sees : Observes l.fn.window l.window;

@@ -22,7 +22,7 @@ use Rattle.papaya_map_change.proofs.Inserting.{goes_on}
 use Rattle.papaya_map_change.proofs.WritingSteps.{counted_on}
 use Rattle.papaya_map_change.proofs.insertion.Insertion.answer.Goals as goal
 
--- an insertion tries to exchange these words only
+-- An insertion tries to exchange these words only.
 exchanged : (kind : Option StepKind) (at : At) (old new : ℕ) → MayAsk (Insert true) kind (Exchange at old new) → (at ≡ Root)
     ⊎ ((at ≡ Made_word) ⊎ ((t : ℕ) × (i : ℕ) × (at ≡ Slot t i)))
 exchanged kind Root old new may = inl refl

@@ -5,7 +5,7 @@ use Rattle.papaya_seq.specs.Map.{deref_pair}
 use Rattle.papaya_seq.specs.PutAlone.{AreClonedAlone}
 use Rattle.papaya_seq.proofs.seq.HashMap.copy_from.Given as goal
 
--- clones of the pairs that came were put in
+-- clones of the pairs so far were inserted
 abbrev pub invariant-loop-key : goal.invariant-loop-key
 invariant-loop-key g l =
     IsCopied g.K.PartialEq.eq g.K.Clone.is_clone g.V.Clone.is_clone l.fn.self (map deref_pair l.yielded) l.self

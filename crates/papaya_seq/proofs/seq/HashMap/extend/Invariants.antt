@@ -3,7 +3,7 @@ use Rattle.papaya_seq.specs.Entries.{Fills}
 use Rattle.papaya_seq.specs.PutAlone.{ArePutAlone}
 use Rattle.papaya_seq.proofs.seq.HashMap.extend.Given as goal
 
--- the pairs that came were put in
+-- the entries so far were inserted
 abbrev pub invariant-loop-key : goal.invariant-loop-key
 invariant-loop-key g l =
     Fills g.K.PartialEq.eq (λ p. p) l.fn.self l.yielded l.self

@@ -4,7 +4,7 @@ use Rattle.papaya_seq.specs.Map.{deref_pair}
 use Rattle.papaya_seq.specs.PutAlone.{ArePutAlone}
 use Rattle.papaya_seq.proofs.seq.HashMap.extend_ref.Given as goal
 
--- the pairs that came were put in
+-- the entries so far were inserted
 abbrev pub invariant-loop-key : goal.invariant-loop-key
 invariant-loop-key g l =
     Fills g.K.PartialEq.eq deref_pair l.fn.self l.yielded l.self

@@ -35,7 +35,7 @@ module _ (g : Over) where
   abbrev Orderly : Map → Type 0
   Orderly s = IsLawfulMap g.K.PartialEq.eq (key_hash s.store.hasher) s.store s.mode s.initial
 
-  -- where the search of the root ended a lookup, what it replies is what was found
+  -- if the search of the root ended a lookup, its reply is what was found
   root_found : (s : Map) → Orderly s → (key : g.row.Q.Denot) → query_hash s.store.hasher key < 2 ^ 64 → (turn : ProbeHit)
       → IsRootTurn (g.Q.Equivalent.matches key) s.store (query_hash s.store.hasher key) turn → (reply : Reply) (answer : Option ℕ)
       → answer ≡ found_number reply

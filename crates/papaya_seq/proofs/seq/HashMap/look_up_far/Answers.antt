@@ -33,7 +33,7 @@ module _ (g : Over) where
   abbrev Map : Type 0
   Map = MapState g.row.K.Denot g.row.V.Denot g.row.S.Denot
 
-  -- the hash of a key, and of what is looked for
+  -- the hash of a key, and of the query
   abbrev key_hash : g.row.S.Denot → g.row.K.Denot → ℕ
   key_hash = hash_of g.K.Hash.hash_input g.S.BuildHasher.build_hasher g.S.Hasher.Hasher.write g.S.Hasher.Hasher.finish
 

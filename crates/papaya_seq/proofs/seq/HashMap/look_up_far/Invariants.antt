@@ -5,7 +5,7 @@ use Rattle.papaya_seq.proofs.LookSteps.{IsLookUp, lookup_left}
 use Rattle.papaya_seq.proofs.LookTurns.{numbered}
 use Rattle.papaya_seq.proofs.seq.HashMap.look_up_far.Given as goal
 
--- the machine of the lookup, that nothing runs, was told the number of this table
+-- the machine of the lookup, which is never run, has loaded the number of this table
 abbrev pub invariant-loop-table : goal.invariant-loop-table
 invariant-loop-table g l =
     let begun = started Get l.hash l.self.mode.resize l.self.initial l.self.mode.limit in

@@ -2,7 +2,7 @@ use Rattle.std.proofs.Common.{◌≡◌, ◌-◌, length}
 use Rattle.papaya_seq.specs.Walks.{left_to}
 use Rattle.papaya_seq.proofs.seq.HashMap.next_in.Given as goal
 
--- the slots so far gave nothing
+-- the slots so far had no pair to return
 abbrev pub invariant-loop-at : goal.invariant-loop-at
 invariant-loop-at g l =
     (l.at.table ≡ l.fn.at.table)

@@ -2,7 +2,7 @@ use Rattle.std.proofs.Common.{◌≡◌, ◌-◌, ◌+◌, length}
 use Rattle.papaya_seq.specs.Walks.{IsStand, left_to}
 use Rattle.papaya_seq.proofs.seq.HashMap.next_pair.Given as goal
 
--- the tables so far gave nothing
+-- the tables so far had no pair to return
 abbrev pub invariant-loop-self : goal.invariant-loop-self
 invariant-loop-self g l =
     IsStand l.self l.at

@@ -8,7 +8,7 @@ use Rattle.papaya_seq.proofs.RetainSteps.{retaining_ends}
 use Rattle.papaya_seq.proofs.seq.HashMap.retain_by.Goals as goal
 use Rattle.papaya_seq.proofs.seq.HashMap.retain_by.Goals.{then-resizing+in_ok-copy_all, else-resizing}
 
--- no pairs are being moved, in a map that has the pairs of before
+-- no pairs are being moved, and the map has the pairs that it had
 pub record IsStill {K V S : Type 0} (eq : K → K → Bool) (s s' : StoreState K V S) : Type 0 where
   pub last : next_of s' ≡ 0
   pub unchanged : Unchanged eq s s'

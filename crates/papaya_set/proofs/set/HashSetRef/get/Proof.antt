@@ -1,4 +1,4 @@
--- `get` answers what it is told, and hands over what shows the log. Assumes `Logic`.
+-- `get` returns the result of its first half, and passes on the evidence of the log. Assumes `Logic`.
 use Rattle.std.proofs.Common.{◌≡◌, [], ◌∷◌, refl}
 use mathlib.Core.List.{IsPrefix}
 use mir.Syntax.{a_type, dcons, dnil, named}

@@ -1,9 +1,0 @@
-// The tests' only assertion. A test calls it instead of writing assertions out, because each of
-// those makes the test's proof longer.
-use std::fmt::Debug;
-use std::process::Abort;
-
-/// Asserts that `found` equals `wanted`.
-pub fn is<T: PartialEq + Debug + Drop>(rt: &impl Abort, found: T, wanted: T) {
-    assert_eq!(rt; found, wanted);
-}
