@@ -1,5 +1,5 @@
-//! Tests of the callers in `papaya_uses`, of the names that `papaya` exports, and of the examples
-//! in the documentation.
+//! Tests of the callers in `papaya_uses`, of the names that `papaya` exports, of the examples in
+//! the documentation, and of public calls at numbers.
 //! It uses `papaya` and `papaya_uses`.
 //! No crate builds on it.
 #![tactic(auto)]
@@ -7,13 +7,19 @@
 #[cfg(test)]
 mod caches;
 #[cfg(test)]
+mod collections;
+#[cfg(test)]
 mod examples;
 #[cfg(test)]
 mod expect;
 #[cfg(test)]
 mod named;
 #[cfg(test)]
+mod plain;
+#[cfg(test)]
 mod servers;
+#[cfg(test)]
+mod sessions;
 #[cfg(test)]
 mod texts;
 #[cfg(test)]

@@ -50,8 +50,6 @@ mod scarce;
 #[cfg(test)]
 mod seen;
 #[cfg(test)]
-mod session_calls;
-#[cfg(test)]
 mod session_entries;
 #[cfg(test)]
 mod shared;

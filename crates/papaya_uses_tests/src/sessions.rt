@@ -1,10 +1,6 @@
 // Each call of a session once, and two threads with a session each.
-use papaya_call::answers::Operation;
-use papaya_map::map::HashMap;
-use papaya_map::session::Session;
-use papaya_words::refused::Refused;
-use papaya_words_keys::results::{Compute, NotInserted, OccupiedError};
-use std::fmt::Debug;
+use crate::expect::is;
+use papaya::{Compute, HashMap, NotInserted, OccupiedError, Operation, Refused, Session};
 use std::process::Abort;
 use std::sync::Wait;
 use std::test::Fail;
@@ -13,11 +9,6 @@ use std::thread::{Threads, join};
 type Numbers = HashMap<u64, u64>;
 
 type NumbersSession<'a> = Session<'a, u64, u64>;
-
-/// Checks that what was found is what is wanted.
-fn is<T: PartialEq + Debug + Drop>(rt: &impl Abort, found: T, wanted: T) {
-    assert_eq!(rt; found, wanted);
-}
 
 /// Stores the value 10 and then 11 at key 1.
 fn stores<R: Wait + Abort>(rt: &R, session: &mut NumbersSession<'_>) {
@@ -33,6 +24,8 @@ fn removes<R: Wait + Abort>(rt: &R, session: &mut NumbersSession<'_>) {
     let kept = session.remove_if(rt, &1, |_, value| *value == 10);
     is(rt, kept, Ok(Err((&1, &11))));
     is(rt, session.remove(rt, &1), Ok(Some(&11)));
+    is(rt, session.insert(rt, 1, 12), Ok(None));
+    is(rt, session.remove_entry(rt, &1), Ok(Some((&1, &12))));
     is(rt, session.contains_key(&1), false);
 }
 
@@ -47,6 +40,15 @@ fn walked<R: Wait>(rt: &R, session: &mut NumbersSession<'_>) -> Result<(u64, u64
     Ok((keys, values))
 }
 
+/// Returns the sum of an iterator's keys.
+fn walked_keys<R: Wait>(rt: &R, session: &mut NumbersSession<'_>) -> Result<u64, Refused> {
+    let mut sum = 0u64;
+    for key in session.keys(rt)? {
+        sum = sum.wrapping_add(*key);
+    }
+    Ok(sum)
+}
+
 /// Retains 2 of the keys 2 and 3, and then clears the map.
 fn scans<R: Wait + Abort>(rt: &R, session: &mut NumbersSession<'_>) {
     is(rt, session.reserve(rt, 100), Ok(()));
@@ -54,6 +56,8 @@ fn scans<R: Wait + Abort>(rt: &R, session: &mut NumbersSession<'_>) {
     is(rt, session.insert(rt, 3, 30), Ok(None));
     is(rt, session.retain(rt, |key, _| *key == 2), Ok(()));
     is(rt, walked(rt, session), Ok((2, 20)));
+    is(rt, walked_keys(rt, session), Ok(2));
+    is(rt, session.pinned().contains_key(&3), false);
     is(rt, session.clear(rt), Ok(()));
     is(rt, walked(rt, session), Ok((0, 0)));
 }
