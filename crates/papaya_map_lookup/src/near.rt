@@ -168,9 +168,73 @@ fn look_at_slot<'a, K: Hash + Eq, V, S: BuildHasher, Q: Equivalent<K>>(
     read_slot(window, key, slot, at)
 }
 
+/// Looks at one place of a table, whose words and hints were taken.
+#[inline(always)]
+fn look_at_place<'a, K: Hash + Eq, V, S: BuildHasher, Q: Equivalent<K>>(
+    window: &mut Window<'a, K, V, S>,
+    key: &Q,
+    hash: u64,
+    table: &Table<K, V, S>,
+    slots: &[Cell<K, V, S>],
+    hints: &[HintCell<K, V, S>],
+    at: Place,
+) -> RootHit<Met<K, V>, (&'a K, &'a V)>
+    requires within { IsWithin at }
+    requires slots { slots.now ≡ map (word_named table.now.book) table.now.slots }
+    requires hints { HoldHints table.now.book table.now.slots hints.now }
+    requires reads { Reads (⟦<S as Asked<K, Q>>⟧.query key.now) window.old hash
+        (Searching (Looking at)) table.now }
+    ensures sees { Observes window.old window.new }
+    ensures near { (began : _) → IsReadingAt (⟦<S as Asked<K, Q>>⟧.query key.now) began window.old
+        hash (Searching (Looking at)) table.now
+        → IsNear (⟦<S as Asked<K, Q>>⟧.query key.now) began window.new hash table.now at result }
+{
+    let slot = &slots[at.probe.i];
+    let beside = &hints[at.probe.i / 8];
+    look_at_slot(window, key, hash, slot, beside, at)
+}
+
 /// Searches a table from this place on, until it meets a copier's work or the probe limit.
 #[inline(always)]
 fn search_slots<'a, K: Hash + Eq, V, S: BuildHasher, Q: Equivalent<K>>(
+    window: &mut Window<'a, K, V, S>,
+    key: &Q,
+    hash: u64,
+    table: &Table<K, V, S>,
+    slots: &[Cell<K, V, S>],
+    hints: &[HintCell<K, V, S>],
+    at: Place,
+) -> RootHit<Met<K, V>, (&'a K, &'a V)>
+    requires within { IsWithin at }
+    requires limit { at.limit ≡ table.now.limit }
+    requires slots { slots.now ≡ map (word_named table.now.book) table.now.slots }
+    requires hints { HoldHints table.now.book table.now.slots hints.now }
+    requires reads { Reads (⟦<S as Asked<K, Q>>⟧.query key.now) window.old hash
+        (Searching (Looking at)) table.now }
+    ensures sees { Observes window.old window.new }
+    ensures ends { result ≡ On → ⊥ }
+    ensures near { (began : _) → IsReadingAt (⟦<S as Asked<K, Q>>⟧.query key.now) began window.old
+        hash (Searching (Looking at)) table.now
+        → (last : _) × IsNear (⟦<S as Asked<K, Q>>⟧.query key.now) began window.new hash table.now
+        last result }
+{
+    let mut place = at;
+    loop {
+        match look_at_place(window, key, hash, table, slots, hints, place) {
+            RootHit::On => {}
+            turned => return turned,
+        }
+        if place.probe.len >= table.limit() {
+            return RootHit::Aside;
+        }
+        place.probe.next(place.len - 1);
+    }
+}
+
+/// Searches a table as [`search_slots`] does. Most searches end at their first place, which is
+/// looked at before the loop.
+#[inline(always)]
+fn search_table<'a, K: Hash + Eq, V, S: BuildHasher, Q: Equivalent<K>>(
     window: &mut Window<'a, K, V, S>,
     key: &Q,
     hash: u64,
@@ -190,19 +254,16 @@ fn search_slots<'a, K: Hash + Eq, V, S: BuildHasher, Q: Equivalent<K>>(
 {
     let slots = slots_of(table);
     let hints = hints_of(table);
-    let mut place = at;
-    loop {
-        let slot = &slots[place.probe.i];
-        let beside = &hints[place.probe.i / 8];
-        match look_at_slot(window, key, hash, slot, beside, place) {
-            RootHit::On => {}
-            turned => return turned,
-        }
-        if place.probe.len >= table.limit() {
-            return RootHit::Aside;
-        }
-        place.probe.next(place.len - 1);
+    match look_at_place(window, key, hash, table, slots, hints, at) {
+        RootHit::On => {}
+        turned => return turned,
     }
+    if at.probe.len >= table.limit() {
+        return RootHit::Aside;
+    }
+    let mut next = at;
+    next.probe.next(at.len - 1);
+    search_slots(window, key, hash, table, slots, hints, next)
 }
 
 /// Returns the result of a lookup, or `None` if the root alone does not decide it.
@@ -224,7 +285,7 @@ pub(crate) fn search_near<'a, K: Hash + Eq, V, S: BuildHasher, Q: Equivalent<K>>
     };
     let (len, limit) = table.size();
     let first = Place::first(hash, number, len, limit);
-    match search_slots(window, key, hash, table, first) {
+    match search_table(window, key, hash, table, first) {
         RootHit::Found(_met, entry) => Some(Some(entry.1)),
         RootHit::Absent => Some(None),
         _ => {
