@@ -1,8 +1,9 @@
 //! The search that most lookups make: a loop over the places of the root alone. It gives up if it
 //! meets a copier's work, a pair whose value another pair brought, or the probe limit. Then the
 //! whole search is made.
-ghost use Rattle.std.specs.Prelude.{◌≡◌, MatchOption, map};
-ghost use Rattle.papaya_words.specs.Word.{may_hold};
+ghost use Rattle.std.specs.Prelude.{◌≡◌, ◌<◌, ◌%◌, IsTrue, MatchOption, map};
+ghost use Rattle.papaya_words.specs.Word.{kind_of, may_hold};
+ghost use Rattle.papaya_words.specs.declared.word.Kind.TheVariants.{Live};
 ghost use Rattle.papaya_call.specs.Search.{IsWithin};
 ghost use Rattle.papaya_call.specs.declared.machine.State.TheVariants.{Searching};
 ghost use Rattle.papaya_call.specs.declared.search.Search.TheVariants.{Looking, Reading};
@@ -101,6 +102,16 @@ fn holds(found: u64, hash: u64) -> bool
     found == u64::from(hint(hash)) || may_hold(found, hash)
 }
 
+/// Returns whether the word of a slot is `Live`. Bits 3 to 9 of such a word are zero, so its lowest
+/// byte says it.
+#[inline(always)]
+fn is_live(word: u64) -> bool
+    requires { word % 1024 < 8 }
+    ensures { IsTrue result → kind_of word ≡ Live }
+{
+    word % 256 == 1
+}
+
 /// Loads the word of a slot, and compares the key of the pair that the word names, if it is `Live`.
 #[inline(always)]
 fn read_slot<'a, K: Hash + Eq, V, S: BuildHasher, Q: Equivalent<K>>(
@@ -118,27 +129,27 @@ fn read_slot<'a, K: Hash + Eq, V, S: BuildHasher, Q: Equivalent<K>>(
         → IsNear (⟦<S as Asked<K, Q>>⟧.query key.now) began window.new hash table at result }
 {
     let (word, offer) = word_of(window, slot, at.table, at.probe.i);
-    match Word(word).kind() {
-        Kind::Live => {
-            let book = window.book;
-            let stored = named_pair(word, offer);
-            let pair = book.pair(&stored);
-            let Some(entry) = book.near_entry(pair) else {
-                return RootHit::Aside;
-            };
-            if !key.equivalent(entry.0) {
-                return RootHit::On;
-            }
-            let met = Met {
-                place: at,
-                word,
-                stored,
-            };
-            RootHit::Found(met, entry)
+    if is_live(word) {
+        let book = window.book;
+        let stored = named_pair(word, offer);
+        let pair = book.pair(&stored);
+        let Some(entry) = book.near_entry(pair) else {
+            return RootHit::Aside;
+        };
+        if !key.equivalent(entry.0) {
+            return RootHit::On;
         }
+        let met = Met {
+            place: at,
+            word,
+            stored,
+        };
+        return RootHit::Found(met, entry);
+    }
+    match Word(word).kind() {
         Kind::Empty => RootHit::Absent,
         Kind::Buried | Kind::Closed => RootHit::On,
-        Kind::Marked | Kind::Copied => RootHit::Aside,
+        Kind::Live | Kind::Marked | Kind::Copied => RootHit::Aside,
     }
 }
 
