@@ -1,4 +1,4 @@
-use Rattle.std.proofs.Common.{◌≡◌, ℕ, ◌+◌, ◌-◌, ◌%◌, nat_lt, true, refl, sym, ap, ◌∙◌, subst, arith, rules}
+use Rattle.std.proofs.Common.{◌≡◌, ℕ, ◌+◌, ◌-◌, ◌%◌, nat_lt, true, refl, ◌∙◌, subst, arith, rules}
 use Rattle.std.specs.Int.{IsPowerOfTwo}
 use Rattle.papaya_call.specs.Search.{next_place}
 use Rattle.papaya_map_book.proofs.Logs.{prefix_trans}
