@@ -23,7 +23,7 @@ use papaya_map_book::rule::offer::Offer;
 use papaya_map_book::rule::steps::Sought;
 use papaya_map_book::table::Table;
 use papaya_map_book::window::Window;
-use papaya_words::word::{Kind, Word, hint, may_hold};
+use papaya_words::word::{Kind, Word, hint};
 use papaya_words_keys::guard::Equivalent;
 use std::hash::{BuildHasher, Hash};
 
@@ -50,7 +50,7 @@ fn hint_of<K: Hash + Eq, V, S: BuildHasher>(
     hints: &HintCell<K, V, S>,
     number: u64,
     place: usize,
-) -> u64
+) -> u8
     requires hints { HoldsHintAt window.old number place hints.now }
     ensures sees { Observes window.old window.new }
     ensures hint { IsHint window.old window.new number place result }
@@ -58,7 +58,7 @@ fn hint_of<K: Hash + Eq, V, S: BuildHasher>(
     window.sight.learn(&window.book.begun);
     let found = hints.load(&mut window.sight);
     window.sight.learn(&window.book.begun);
-    hint_in(found, place)
+    hint_in(found, place) as u8
 }
 
 /// Loads the word of a slot atomically, as [`Window::slot_word`] does.
@@ -96,10 +96,10 @@ pub(crate) enum RootHit<M, E> {
 /// Returns whether the word beside this hint must be loaded, as [`may_hold`] does. Most searches
 /// that find their entry end with the first comparison.
 #[inline(always)]
-fn holds(found: u64, hash: u64) -> bool
+fn holds(found: u8, hash: u64) -> bool
     ensures { result ≡ may_hold found hash }
 {
-    found == u64::from(hint(hash)) || may_hold(found, hash)
+    found == hint(hash) || found == 0
 }
 
 /// Returns whether the word of a slot is `Live`. Bits 3 to 9 of such a word are zero, so its lowest
