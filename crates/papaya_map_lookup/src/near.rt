@@ -1,8 +1,9 @@
 //! The search that most lookups make: a loop over the places of the root alone. It gives up if it
 //! meets a copier's work, a pair whose value another pair brought, or the probe limit. Then the
 //! whole search is made.
-ghost use Rattle.std.specs.Prelude.{◌≡◌, MatchOption, map};
-ghost use Rattle.papaya_words.specs.Word.{may_hold};
+ghost use Rattle.std.specs.Prelude.{◌≡◌, ◌<◌, ◌%◌, IsTrue, MatchOption, map};
+ghost use Rattle.papaya_words.specs.Word.{kind_of, may_hold};
+ghost use Rattle.papaya_words.specs.declared.word.Kind.TheVariants.{Live};
 ghost use Rattle.papaya_call.specs.Search.{IsWithin};
 ghost use Rattle.papaya_call.specs.declared.machine.State.TheVariants.{Searching};
 ghost use Rattle.papaya_call.specs.declared.search.Search.TheVariants.{Looking, Reading};
@@ -22,7 +23,7 @@ use papaya_map_book::rule::offer::Offer;
 use papaya_map_book::rule::steps::Sought;
 use papaya_map_book::table::Table;
 use papaya_map_book::window::Window;
-use papaya_words::word::{Kind, Word, hint, may_hold};
+use papaya_words::word::{Kind, Word, hint};
 use papaya_words_keys::guard::Equivalent;
 use std::hash::{BuildHasher, Hash};
 
@@ -49,7 +50,7 @@ fn hint_of<K: Hash + Eq, V, S: BuildHasher>(
     hints: &HintCell<K, V, S>,
     number: u64,
     place: usize,
-) -> u64
+) -> u8
     requires hints { HoldsHintAt window.old number place hints.now }
     ensures sees { Observes window.old window.new }
     ensures hint { IsHint window.old window.new number place result }
@@ -57,7 +58,7 @@ fn hint_of<K: Hash + Eq, V, S: BuildHasher>(
     window.sight.learn(&window.book.begun);
     let found = hints.load(&mut window.sight);
     window.sight.learn(&window.book.begun);
-    hint_in(found, place)
+    hint_in(found, place) as u8
 }
 
 /// Loads the word of a slot atomically, as [`Window::slot_word`] does.
@@ -95,10 +96,20 @@ pub(crate) enum RootHit<M, E> {
 /// Returns whether the word beside this hint must be loaded, as [`may_hold`] does. Most searches
 /// that find their entry end with the first comparison.
 #[inline(always)]
-fn holds(found: u64, hash: u64) -> bool
+fn holds(found: u8, hash: u64) -> bool
     ensures { result ≡ may_hold found hash }
 {
-    found == u64::from(hint(hash)) || may_hold(found, hash)
+    found == hint(hash) || found == 0
+}
+
+/// Returns whether the word of a slot is `Live`. Bits 3 to 9 of such a word are zero, so its lowest
+/// byte says it.
+#[inline(always)]
+fn is_live(word: u64) -> bool
+    requires { word % 1024 < 8 }
+    ensures { IsTrue result → kind_of word ≡ Live }
+{
+    word % 256 == 1
 }
 
 /// Loads the word of a slot, and compares the key of the pair that the word names, if it is `Live`.
@@ -118,27 +129,27 @@ fn read_slot<'a, K: Hash + Eq, V, S: BuildHasher, Q: Equivalent<K>>(
         → IsNear (⟦<S as Asked<K, Q>>⟧.query key.now) began window.new hash table at result }
 {
     let (word, offer) = word_of(window, slot, at.table, at.probe.i);
-    match Word(word).kind() {
-        Kind::Live => {
-            let book = window.book;
-            let stored = named_pair(word, offer);
-            let pair = book.pair(&stored);
-            let Some(entry) = book.near_entry(pair) else {
-                return RootHit::Aside;
-            };
-            if !key.equivalent(entry.0) {
-                return RootHit::On;
-            }
-            let met = Met {
-                place: at,
-                word,
-                stored,
-            };
-            RootHit::Found(met, entry)
+    if is_live(word) {
+        let book = window.book;
+        let stored = named_pair(word, offer);
+        let pair = book.pair(&stored);
+        let Some(entry) = book.near_entry(pair) else {
+            return RootHit::Aside;
+        };
+        if !key.equivalent(entry.0) {
+            return RootHit::On;
         }
+        let met = Met {
+            place: at,
+            word,
+            stored,
+        };
+        return RootHit::Found(met, entry);
+    }
+    match Word(word).kind() {
         Kind::Empty => RootHit::Absent,
         Kind::Buried | Kind::Closed => RootHit::On,
-        Kind::Marked | Kind::Copied => RootHit::Aside,
+        Kind::Live | Kind::Marked | Kind::Copied => RootHit::Aside,
     }
 }
 
@@ -168,9 +179,73 @@ fn look_at_slot<'a, K: Hash + Eq, V, S: BuildHasher, Q: Equivalent<K>>(
     read_slot(window, key, slot, at)
 }
 
+/// Looks at one place of a table, whose words and hints were taken.
+#[inline(always)]
+fn look_at_place<'a, K: Hash + Eq, V, S: BuildHasher, Q: Equivalent<K>>(
+    window: &mut Window<'a, K, V, S>,
+    key: &Q,
+    hash: u64,
+    table: &Table<K, V, S>,
+    slots: &[Cell<K, V, S>],
+    hints: &[HintCell<K, V, S>],
+    at: Place,
+) -> RootHit<Met<K, V>, (&'a K, &'a V)>
+    requires within { IsWithin at }
+    requires slots { slots.now ≡ map (word_named table.now.book) table.now.slots }
+    requires hints { HoldHints table.now.book table.now.slots hints.now }
+    requires reads { Reads (⟦<S as Asked<K, Q>>⟧.query key.now) window.old hash
+        (Searching (Looking at)) table.now }
+    ensures sees { Observes window.old window.new }
+    ensures near { (began : _) → IsReadingAt (⟦<S as Asked<K, Q>>⟧.query key.now) began window.old
+        hash (Searching (Looking at)) table.now
+        → IsNear (⟦<S as Asked<K, Q>>⟧.query key.now) began window.new hash table.now at result }
+{
+    let slot = &slots[at.probe.i];
+    let beside = &hints[at.probe.i / 8];
+    look_at_slot(window, key, hash, slot, beside, at)
+}
+
 /// Searches a table from this place on, until it meets a copier's work or the probe limit.
 #[inline(always)]
 fn search_slots<'a, K: Hash + Eq, V, S: BuildHasher, Q: Equivalent<K>>(
+    window: &mut Window<'a, K, V, S>,
+    key: &Q,
+    hash: u64,
+    table: &Table<K, V, S>,
+    slots: &[Cell<K, V, S>],
+    hints: &[HintCell<K, V, S>],
+    at: Place,
+) -> RootHit<Met<K, V>, (&'a K, &'a V)>
+    requires within { IsWithin at }
+    requires limit { at.limit ≡ table.now.limit }
+    requires slots { slots.now ≡ map (word_named table.now.book) table.now.slots }
+    requires hints { HoldHints table.now.book table.now.slots hints.now }
+    requires reads { Reads (⟦<S as Asked<K, Q>>⟧.query key.now) window.old hash
+        (Searching (Looking at)) table.now }
+    ensures sees { Observes window.old window.new }
+    ensures ends { result ≡ On → ⊥ }
+    ensures near { (began : _) → IsReadingAt (⟦<S as Asked<K, Q>>⟧.query key.now) began window.old
+        hash (Searching (Looking at)) table.now
+        → (last : _) × IsNear (⟦<S as Asked<K, Q>>⟧.query key.now) began window.new hash table.now
+        last result }
+{
+    let mut place = at;
+    loop {
+        match look_at_place(window, key, hash, table, slots, hints, place) {
+            RootHit::On => {}
+            turned => return turned,
+        }
+        if place.probe.len >= table.limit() {
+            return RootHit::Aside;
+        }
+        place.probe.next(place.len - 1);
+    }
+}
+
+/// Searches a table as [`search_slots`] does. Most searches end at their first place, which is
+/// looked at before the loop.
+#[inline(always)]
+fn search_table<'a, K: Hash + Eq, V, S: BuildHasher, Q: Equivalent<K>>(
     window: &mut Window<'a, K, V, S>,
     key: &Q,
     hash: u64,
@@ -190,19 +265,16 @@ fn search_slots<'a, K: Hash + Eq, V, S: BuildHasher, Q: Equivalent<K>>(
 {
     let slots = slots_of(table);
     let hints = hints_of(table);
-    let mut place = at;
-    loop {
-        let slot = &slots[place.probe.i];
-        let beside = &hints[place.probe.i / 8];
-        match look_at_slot(window, key, hash, slot, beside, place) {
-            RootHit::On => {}
-            turned => return turned,
-        }
-        if place.probe.len >= table.limit() {
-            return RootHit::Aside;
-        }
-        place.probe.next(place.len - 1);
+    match look_at_place(window, key, hash, table, slots, hints, at) {
+        RootHit::On => {}
+        turned => return turned,
     }
+    if at.probe.len >= table.limit() {
+        return RootHit::Aside;
+    }
+    let mut next = at;
+    next.probe.next(at.len - 1);
+    search_slots(window, key, hash, table, slots, hints, next)
 }
 
 /// Returns the result of a lookup, or `None` if the root alone does not decide it.
@@ -224,7 +296,7 @@ pub(crate) fn search_near<'a, K: Hash + Eq, V, S: BuildHasher, Q: Equivalent<K>>
     };
     let (len, limit) = table.size();
     let first = Place::first(hash, number, len, limit);
-    match search_slots(window, key, hash, table, first) {
+    match search_table(window, key, hash, table, first) {
         RootHit::Found(_met, entry) => Some(Some(entry.1)),
         RootHit::Absent => Some(None),
         _ => {

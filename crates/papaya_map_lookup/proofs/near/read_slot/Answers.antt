@@ -1,18 +1,21 @@
 use Rattle.std.proofs.Common.{◌≡◌, false, true, sym, ap, ◌∙◌, rules}
-use Rattle.papaya_words.specs.Word.{kind_of}
 use Rattle.papaya_words.specs.declared.word.Kind.TheVariants as kinds
 use Rattle.papaya_call.specs.Search.{go_on, look}
 use Rattle.papaya_map_book.specs.Logs.{exchanges_of}
 use Rattle.papaya_map_book.specs.Parts.{begun_of}
 use Rattle.papaya_map_lookup.proofs.Nearing.{looks, meets, none_left, none_there, other_there}
 use Rattle.papaya_map_lookup.proofs.Readings.{IsQuery}
+use Rattle.papaya_map_lookup.proofs.Slots.{word_bits}
 use Rattle.papaya_map_lookup.proofs.Turning.{pair_found}
 use Rattle.papaya_map_lookup.proofs.near.read_slot.Goals as goal
+
+pub is_live-requires : goal.is_live-requires
+is_live-requires g c = word_bits c.word_of-word.ensures.slot.read
 
 pub named_pair-stored-requires : goal.named_pair-stored-requires
 named_pair-stored-requires g c =
     let s = c.word_of-word in
-    let live : kind_of s.result.0 ≡ kinds.Live = sym c.kind.ensures ∙ c.in-Live.is in
+    let lit : c.is_live.result ≡ true = search rules in let live = c.is_live.ensures lit in
     s.ensures.slot.some (λ e. let two : kinds.Live ≡ kinds.Empty = sym live ∙ e in cc two)
     (λ e. let two : kinds.Live ≡ kinds.Closed = sym live ∙ e in cc two)
 
@@ -22,7 +25,7 @@ returns-then-not-equivalent-clause-near g c = λ began hash table reading.
     record { feeds = g.met.Q.Equivalent.hashes_as_key c.args.key.now; class = λ k l. g.met.Q.Equivalent.matches_equal_keys c.args.key.now k l } in
     let w = c.args.window.now.book.now in
     let s = c.word_of-word in
-    let live : kind_of s.result.0 ≡ kinds.Live = sym c.kind.ensures ∙ c.in-Live.is in
+    let lit : c.is_live.result ≡ true = search rules in let live = c.is_live.ensures lit in
     let same = c.equivalent.ensures ∙ ap (g.Q.Equivalent.matches c.args.key.now) (c.near_entry.ensures.key c.in-Some.entry c.in-Some.is ∙ ap (λ z. z.key.value) c.pair-pair.ensures) in
     let differs : c.equivalent.result ≡ false = search rules in
     rw s.ensures.sees.book (other_there g.K.PartialEq.eq g.K.Hash.hash_input g.S.BuildHasher.build_hasher g.S.Hasher.Hasher.write
@@ -32,13 +35,13 @@ returns-then-not-equivalent-clause-near g c = λ began hash table reading.
     s.new.window.sight.log s.ensures.sees.log s.result.0 s.result.1.state s.ensures.slot live c.named_pair-stored.result c.named_pair-stored.ensures
     c.equivalent.result same differs)
 
-pub returns-else-not-equivalent-clause-near : goal.returns-else-not-equivalent-clause-near
-returns-else-not-equivalent-clause-near g c = λ began hash table reading.
+pub returns-then-is_live-clause-near : goal.returns-then-is_live-clause-near
+returns-then-is_live-clause-near g c = λ began hash table reading.
     let lawful : IsQuery g.K.PartialEq.eq g.K.Hash.hash_input (g.Q.Equivalent.matches c.args.key.now) (g.Q.Hash.hash_input c.args.key.now) =
     record { feeds = g.met.Q.Equivalent.hashes_as_key c.args.key.now; class = λ k l. g.met.Q.Equivalent.matches_equal_keys c.args.key.now k l } in
     let w = c.args.window.now.book.now in
     let s = c.word_of-word in
-    let live : kind_of s.result.0 ≡ kinds.Live = sym c.kind.ensures ∙ c.in-Live.is in
+    let lit : c.is_live.result ≡ true = search rules in let live = c.is_live.ensures lit in
     let same = c.equivalent.ensures ∙ ap (g.Q.Equivalent.matches c.args.key.now) (c.near_entry.ensures.key c.in-Some.entry c.in-Some.is ∙ ap (λ z. z.key.value) c.pair-pair.ensures) in
     let agrees : c.equivalent.result ≡ true = search rules in
     let key = c.near_entry.ensures.key c.in-Some.entry c.in-Some.is ∙ ap (λ z. z.key.value) c.pair-pair.ensures in
