@@ -37,4 +37,4 @@ pub mod Fetching
 -- a table that is linked is another than all that have come
 pub mod Linking
 -- slots that no table has yet
-pub mod Fresh
+pub mod FreshMore

@@ -1,7 +1,7 @@
 use Rattle.std.proofs.Common.{List, [], ◌∷◌, length, sym, ap, ◌∙◌, subst, arith, length-append}
 use Rattle.logbook.specs.Pages.{Named}
 use Rattle.papaya_map_book.specs.Sheets.{AreFresh}
-use Rattle.papaya_map_book.proofs.Fresh.{fresh_more}
+use Rattle.papaya_map_book.proofs.FreshMore.{fresh_more}
 use Rattle.papaya_map_book.proofs.fresh.with_fresh_hints.Goals as goal
 
 pub loop-preserved : goal.loop-preserved
