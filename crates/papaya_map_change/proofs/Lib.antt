@@ -58,5 +58,6 @@ pub mod ResizingOpens
 -- slots that are copied one after another
 pub mod SettlingTurns
 pub mod SettlingSeen
+pub mod ChunkTurns
 pub mod HelpingSettling
 pub mod ResizingSettling

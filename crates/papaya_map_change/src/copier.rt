@@ -137,7 +137,7 @@ impl<K: Hash + Eq, V, S: BuildHasher> Copier<K, V, S> {
     }
 
     /// Loads the word of a place, and keeps the pair that it names.
-    fn load<'a>(&mut self, at: At, window: &mut Window<'a, K, V, S>) -> u64
+    pub(crate) fn load<'a>(&mut self, at: At, window: &mut Window<'a, K, V, S>) -> u64
         requires reach { CanReach window.old at }
         ensures sees { Observes window.old window.new }
         ensures as_loaded { Loads at result window.old self.old window.new self.new }
@@ -462,7 +462,7 @@ pub(crate) fn size_at<'a, K: Hash + Eq, V, S: BuildHasher>(
 
 /// Returns the size of a table that has come: its number of slots, and how many places a search
 /// looks at after the first.
-fn size<'a, K: Hash + Eq, V, S: BuildHasher>(
+pub(crate) fn size<'a, K: Hash + Eq, V, S: BuildHasher>(
     number: u64,
     window: &mut Window<'a, K, V, S>,
 ) -> (usize, usize)

@@ -6,6 +6,8 @@ ghost use Rattle.papaya_call.specs.declared.chain.ask.Ask.TheVariants.{Copy};
 ghost use Rattle.papaya_call.specs.declared.chain.machine.Phase.TheVariants as phases;
 ghost use Rattle.papaya_call.specs.declared.chain.machine.Phase.TheVariants.{Calling};
 ghost use Rattle.papaya_call.specs.declared.copy.settle.Settle.TheVariants.{Looking};
+ghost use Rattle.papaya_call.specs.declared.copy.copying.Copying.TheVariants.{Stepping};
+ghost use Rattle.papaya_call.specs.declared.copy.step.Step.TheVariants as steps;
 ghost use Rattle.papaya_call.specs.Link.{IsFitCopyAsk};
 ghost use Rattle.papaya_map_book.specs.Windows.{HasCome, IsLawful, IsTable, Observes};
 ghost use Rattle.papaya_map_change.specs.Window.Driver.{CanGoOn, Copies, GoesOn, Helps};
@@ -19,7 +21,7 @@ use papaya_call::chain::ask::{Answer, Ask};
 use papaya_call::chain::machine::Phase;
 use papaya_call::copy::copying::{Aim, Copying};
 use papaya_call::copy::settle::Settle;
-use papaya_call::copy::step::{Chunk, Step};
+use papaya_call::copy::step::{Chunk, Cursor, Step};
 use papaya_call::copy_ask::CopyAsk;
 use papaya_call::machine::State;
 use papaya_call::search::Search;
@@ -122,11 +124,55 @@ impl<'a, K: Hash + Eq, V, S: BuildHasher> Driver<'a, K, V, S> {
         } }
     {
         match self.machine.phase {
+            Phase::Copying(Copying::Stepping(aim, Step::AtRoot)) => self.find_tables(aim, window),
+            Phase::Copying(Copying::Stepping(aim, Step::AtChunk(cursor))) => {
+                self.take_chunk(aim, cursor, window)
+            }
             Phase::Copying(Copying::Stepping(aim, Step::Settling(chunk, Settle::Looking))) => {
                 self.copy_slots(aim, chunk, window)
             }
             _ => self.copy(means, ask, making, window),
         }
+    }
+
+    /// Finds the tables of the copy; returns the answer to the ask after them.
+    fn find_tables(&mut self, aim: Aim, window: &mut Window<'a, K, V, S>) -> Answer
+        requires standing { IsStanding self.old.machine }
+        requires can { CanGoOn window.old self.old }
+        requires phase { self.old.machine.phase ≡ phases.Copying (Stepping aim steps.AtRoot) }
+        ensures sees { Observes window.old window.new }
+        ensures standing { IsStanding self.new.machine }
+        ensures fit { IsFit result }
+        ensures goes { GoesBy window.old self.old window.new self.new result }
+        ensures rest { self.new ≡ record self.old {
+          machine = self.new.machine;
+          copier = self.new.copier;
+        } }
+    {
+        let mode = self.machine.call.mode;
+        let (copying, answer) = self.copier.find_tables(aim, mode, window);
+        self.machine.phase = Phase::Copying(copying);
+        answer
+    }
+
+    /// Copies slots of the chunk at the cursor; returns the answer to the ask after them.
+    fn take_chunk(&mut self, aim: Aim, cursor: Cursor, window: &mut Window<'a, K, V, S>) -> Answer
+        requires standing { IsStanding self.old.machine }
+        requires can { CanGoOn window.old self.old }
+        requires phase { self.old.machine.phase ≡ phases.Copying (Stepping aim (steps.AtChunk cursor)) }
+        ensures sees { Observes window.old window.new }
+        ensures standing { IsStanding self.new.machine }
+        ensures fit { IsFit result }
+        ensures goes { GoesBy window.old self.old window.new self.new result }
+        ensures rest { self.new ≡ record self.old {
+          machine = self.new.machine;
+          copier = self.new.copier;
+        } }
+    {
+        let mode = self.machine.call.mode;
+        let (copying, answer) = self.copier.take_chunk(aim, cursor, mode, window);
+        self.machine.phase = Phase::Copying(copying);
+        answer
     }
 
     /// Copies slots of the chunk, from the current one on; returns the answer to the ask after

@@ -3,6 +3,7 @@
 //! `papaya_map_compute` and `papaya_map_scan` build on it, and `papaya_map` has the public calls.
 #![tactic(auto)]
 
+mod chunks;
 pub mod copier;
 pub mod driver;
 pub mod fast_path;

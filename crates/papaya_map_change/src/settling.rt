@@ -395,12 +395,7 @@ impl<K: Hash + Eq, V, S: BuildHasher> Copier<K, V, S> {
             }
             site.chunk.at += 1;
             if site.chunk.at >= site.chunk.end {
-                let at = At::Done(site.chunk.cursor.to, site.chunk.cursor.at);
-                let answer = self.exchange(at, Some(StepKind::Advance), (0, 1), window);
-                return (
-                    Copying::Stepping(site.aim, Step::Advancing(site.chunk.cursor)),
-                    answer,
-                );
+                return self.close_chunk(&site, window);
             }
         }
     }

@@ -91,8 +91,11 @@ returns-in-Some-clause-ends g c =
     subst (λ (z : _). Ends eq hash (begun_of z.now.parts) z.now.begun.book c.args.mode s end halt.answer) same
     (subst (λ (z : ResizeMode). Ends eq hash b name z s end halt.answer) l.invariant.mode (ends_then eq hash b name site.mode s t end halt.answer led it))
 
-pub exchange-answer-requires : goal.exchange-answer-requires
-exchange-answer-requires g c =
+pub close_chunk-requires-clause-standing : goal.close_chunk-requires-clause-standing
+close_chunk-requires-clause-standing g c = c.loop-halt.invariant.placed.standing.cursor
+
+pub close_chunk-requires-clause-can : goal.close_chunk-requires-clause-can
+close_chunk-requires-clause-can g c =
     let l = c.loop-halt in let w₀ = c.args.window.now in let w = l.window in let one = c.settle in let w' = one.new.window in let h = one.new.self in
     let site = l.site in
     let eq = g.K.PartialEq.eq in let hash = hash_of g.K.Hash.hash_input g.S.BuildHasher.build_hasher g.S.Hasher.Hasher.write g.S.Hasher.Hasher.finish
@@ -111,10 +114,7 @@ exchange-answer-requires g c =
     let ends : past_slot site.aim site.chunk ≡ Stepping site.aim (Advancing site.chunk.cursor) = past_last site.aim site.chunk none in
     let u : Stop _ _ _ _ = stop_in w' (Stepping site.aim (Advancing site.chunk.cursor)) h in
     let there = subst (λ (z : Copying). CanLead w' site.mode (stop_in w' z h)) ends may in
-    record { can = asked w' site.mode u there }
-
-pub returns-then-site-clause-standing : goal.returns-then-site-clause-standing
-returns-then-site-clause-standing g c = c.loop-halt.invariant.placed.standing.cursor
+    there
 
 pub returns-then-site-clause-ends : goal.returns-then-site-clause-ends
 returns-then-site-clause-ends g c =
@@ -136,15 +136,12 @@ returns-then-site-clause-ends g c =
     let ends : past_slot site.aim site.chunk ≡ Stepping site.aim (Advancing site.chunk.cursor) = past_last site.aim site.chunk none in
     let u : Stop _ _ _ _ = stop_in w' (Stepping site.aim (Advancing site.chunk.cursor)) h in
     let there = subst (λ (z : Copying). CanLead w' site.mode (stop_in w' z h)) ends may in
-    let two = c.exchange-answer in let w'' = two.new.window in
+    let two = c.close_chunk in let w'' = two.new.window in
     let to = subst (λ (z : Copying). Leads eq hash b name site.mode s (stop_in w' z h)) ends further in
-    let by = ends_then eq hash b name site.mode s u (stop_in w'' (Stepping site.aim (Advancing site.chunk.cursor)) two.new.self) two.result to
-    (ends_here eq hash b name site.mode u w''.sight.log two.new.self two.result two.ensures.sees.log two.ensures.answers
-    l.invariant.placed.standing.cursor two.ensures.fit) in
-    subst (λ (z : _). Ends eq hash (begun_of z.now.parts) z.now.begun.book c.args.mode s
-    (stop_in w'' (Stepping site.aim (Advancing site.chunk.cursor)) two.new.self) two.result) same
-    (subst (λ (z : ResizeMode). Ends eq hash b name z s (stop_in w'' (Stepping site.aim (Advancing site.chunk.cursor)) two.new.self) two.result)
-    l.invariant.mode by)
+    let end : Stop _ _ _ _ = stop_in w'' two.result.0 two.new.self in
+    let by = ends_then eq hash b name site.mode s u end two.result.1 to two.ensures.ends in
+    subst (λ (z : _). Ends eq hash (begun_of z.now.parts) z.now.begun.book c.args.mode s end two.result.1) same
+    (subst (λ (z : ResizeMode). Ends eq hash b name z s end two.result.1) l.invariant.mode by)
 
 pub loop-halt-preserved : goal.loop-halt-preserved
 loop-halt-preserved g c =
