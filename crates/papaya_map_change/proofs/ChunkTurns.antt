@@ -1,5 +1,5 @@
 -- Answers that lead a copy to the chunk that it takes, and past it.
-use Rattle.std.proofs.Common.{◌≡◌, ℕ, ◌==◌, not, Bool, true, false, if◌then◌else◌, Option, Some, refl, sym, ap, ◌∙◌, subst, List}
+use Rattle.std.proofs.Common.{◌≡◌, ℕ, ◌==◌, not, Bool, true, false, if◌then◌else◌, Some, refl, ap, ◌∙◌, List}
 use Rattle.std.proofs.lemmas.Bool.{ne_eqb}
 use mathlib.Core.List.{IsPrefix}
 use Rattle.logbook.specs.Pages.{Book}
@@ -26,7 +26,7 @@ use Rattle.papaya_map_book.specs.declared.rule.entry.Begun.{Begun}
 use Rattle.papaya_map_book.specs.declared.rule.entry.Event.{Event}
 use Rattle.papaya_map_change.specs.declared.copier.Copier.{Copier}
 use Rattle.papaya_map_change.specs.Copier.{AnswersExchange, AnswersLoad}
-use Rattle.papaya_map_change.specs.Settling.{IsTurn, Stop, at_slot}
+use Rattle.papaya_map_change.specs.Settling.{IsTurn, Stop}
 
 -- a root leads on to the table after it, where not all is copied
 root_on : (aim : Aim) (mode : ResizeMode) (root : ℕ) → ((met : ℕ) → aim ≡ aims.All met → ⊥) → (root == 0) ≡ false

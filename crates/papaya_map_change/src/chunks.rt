@@ -94,8 +94,8 @@ impl<K: Hash + Eq, V, S: BuildHasher> Copier<K, V, S> {
         ensures sees { Observes window.old window.new }
         ensures standing { IsStandingCopying result.0 }
         ensures fit { IsFit result.1 }
-        ensures ends { Ends window.old mode (Stepping aim (steps.AtChunk cursor)) self.old window.new
-            self.new result }
+        ensures ends { Ends window.old mode (Stepping aim (steps.AtChunk cursor)) self.old
+            window.new self.new result }
     {
         let done = self.load(At::Done(cursor.to, cursor.at), window);
         if done != 0 || cursor.copied {

@@ -159,7 +159,8 @@ impl<'a, K: Hash + Eq, V, S: BuildHasher> Driver<'a, K, V, S> {
     fn take_chunk(&mut self, aim: Aim, cursor: Cursor, window: &mut Window<'a, K, V, S>) -> Answer
         requires standing { IsStanding self.old.machine }
         requires can { CanGoOn window.old self.old }
-        requires phase { self.old.machine.phase ≡ phases.Copying (Stepping aim (steps.AtChunk cursor)) }
+        requires phase { self.old.machine.phase
+            ≡ phases.Copying (Stepping aim (steps.AtChunk cursor)) }
         ensures sees { Observes window.old window.new }
         ensures standing { IsStanding self.new.machine }
         ensures fit { IsFit result }

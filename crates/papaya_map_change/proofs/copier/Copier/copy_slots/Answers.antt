@@ -1,4 +1,4 @@
-use Rattle.std.proofs.Common.{◌≡◌, ◌+◌, ◌<◌, Option, None, Some, refl, [], append-nil, sym, ◌∙◌, arith, subst}
+use Rattle.std.proofs.Common.{◌≡◌, ◌+◌, ◌<◌, Option, None, Some, refl, [], append-nil, ◌∙◌, arith, subst}
 use Rattle.papaya_words.specs.declared.resize_mode.ResizeMode.{ResizeMode}
 use Rattle.papaya_call.specs.declared.copy.copying.Copying.{Copying}
 use Rattle.papaya_call.specs.declared.copy.copying.Copying.TheVariants.{Stepping}
@@ -9,7 +9,7 @@ use Rattle.papaya_map_book.specs.Parts.{begun_of}
 use Rattle.papaya_map_book.proofs.Windows.{observes_trans}
 use Rattle.papaya_map_change.specs.Window.Settling.{CanLead, LeavesFrom, stop_in, stop_seen}
 use Rattle.papaya_map_change.specs.Settling.{Ends, Leads, Stop, at_slot, past_slot}
-use Rattle.papaya_map_change.proofs.SettlingTurns.{can_later, ends_here, ends_then, leads_none, leads_then, past_last, past_next}
+use Rattle.papaya_map_change.proofs.SettlingTurns.{can_later, ends_then, leads_none, leads_then, past_last, past_next}
 use Rattle.papaya_map_change.proofs.SettlingSeen.{asked, can_still, leads_still, placed_on}
 use Rattle.papaya_map_change.proofs.copier.Copier.copy_slots.Goals as goal
 

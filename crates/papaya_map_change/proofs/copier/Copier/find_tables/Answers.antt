@@ -1,21 +1,13 @@
-use Rattle.std.proofs.Common.{◌≡◌, ◌==◌, true, refl, sym, ap, ◌∙◌, subst, rules}
-use Rattle.papaya_words.specs.declared.resize_mode.ResizeMode.{ResizeMode}
+use Rattle.std.proofs.Common.{◌≡◌, refl, ◌∙◌, subst}
 use Rattle.papaya_call.specs.declared.ask.Answer.TheVariants.{Size, Word}
-use Rattle.papaya_call.specs.declared.copy.copying.Copying.{Copying}
 use Rattle.papaya_call.specs.declared.copy.copying.Copying.TheVariants.{Stepping}
-use Rattle.papaya_call.specs.declared.copy.step.Chunk.{Chunk}
-use Rattle.papaya_call.specs.declared.copy.step.Cursor.{Cursor}
-use Rattle.papaya_call.specs.declared.copy.step.Step.{Step}
-use Rattle.papaya_call.specs.declared.copy.step.Step.TheVariants.{Advancing, Aiming, AtChunk, AtRoot, Sizing}
-use Rattle.papaya_call.specs.declared.copy.settle.Settle.TheVariants.{Looking}
+use Rattle.papaya_call.specs.declared.copy.step.Step.TheVariants.{Aiming, AtRoot, Sizing}
 use Rattle.papaya_call.specs.declared.chain.ask.Answer.TheVariants.{Call}
-use Rattle.papaya_call.specs.Step.{IsStandingChunk, IsStandingStep, chunk_at, next_cursor}
 use Rattle.papaya_map_book.specs.Hashes.{hash_of}
 use Rattle.papaya_map_book.specs.Parts.{begun_of}
-use Rattle.papaya_map_book.proofs.Windows.{observes_trans}
-use Rattle.papaya_map_change.specs.Window.Settling.{CanLead, stop_in}
-use Rattle.papaya_map_change.specs.Copier.{AnswersExchange, AnswersLoad}
-use Rattle.papaya_map_change.specs.Settling.{Ends, Stop, at_slot}
+use Rattle.papaya_map_change.specs.Window.Settling.{stop_in}
+use Rattle.papaya_map_change.specs.Copier.{AnswersLoad}
+use Rattle.papaya_map_change.specs.Settling.{Stop}
 use Rattle.papaya_map_change.proofs.SettlingTurns.{ends_here, ends_then, leads_one}
 use Rattle.papaya_map_change.proofs.SettlingSeen.{TurnsBy, asked, can_on}
 use Rattle.std.proofs.Common.{arith}
@@ -34,7 +26,7 @@ returns-in-All-clause-ends g c =
     let one = c.load-from in let w1 = one.new.window in let h1 = one.new.self in let from = one.result in
     let s : Stop _ _ _ _ = stop_in w (Stepping aim AtRoot) h in
     let loads : AnswersLoad eq hash b name Root w.sight.log h w1.sight.log h1 (Call (Word from)) =
-        record { word = from; is = refl; as_loaded = one.ensures.as_loaded; rest = one.ensures.rest } in
+    record { word = from; is = refl; as_loaded = one.ensures.as_loaded; rest = one.ensures.rest } in
     ends_here eq hash b name mode s w1.sight.log h1 (Call (Word from)) one.ensures.sees.log loads tt tt
 
 pub returns-then-from-eq0-clause-ends : goal.returns-then-from-eq0-clause-ends
@@ -45,7 +37,7 @@ returns-then-from-eq0-clause-ends g c =
     let one = c.load-from in let w1 = one.new.window in let h1 = one.new.self in let from = one.result in
     let s : Stop _ _ _ _ = stop_in w (Stepping aim AtRoot) h in
     let loads : AnswersLoad eq hash b name Root w.sight.log h w1.sight.log h1 (Call (Word from)) =
-        record { word = from; is = refl; as_loaded = one.ensures.as_loaded; rest = one.ensures.rest } in
+    record { word = from; is = refl; as_loaded = one.ensures.as_loaded; rest = one.ensures.rest } in
     ends_here eq hash b name mode s w1.sight.log h1 (Call (Word from)) one.ensures.sees.log loads tt tt
 
 pub load-to-requires : goal.load-to-requires
@@ -56,7 +48,7 @@ load-to-requires g c =
     let one = c.load-from in let w1 = one.new.window in let h1 = one.new.self in let from = one.result in
     let s : Stop _ _ _ _ = stop_in w (Stepping aim AtRoot) h in
     let loads : AnswersLoad eq hash b name Root w.sight.log h w1.sight.log h1 (Call (Word from)) =
-        record { word = from; is = refl; as_loaded = one.ensures.as_loaded; rest = one.ensures.rest } in
+    record { word = from; is = refl; as_loaded = one.ensures.as_loaded; rest = one.ensures.rest } in
     let t : Stop _ _ _ _ = stop_in w1 (Stepping aim (Aiming from from)) h1 in
     let some : from ≡ 0 → ⊥ = λ e. absurd (omega arith) in
     let turn : TurnsBy w mode s t = roots eq hash b name mode aim w.sight.log h w1.sight.log h1 one.ensures.sees.log from loads
@@ -72,7 +64,7 @@ returns-then-to-eq0-clause-ends g c =
     let one = c.load-from in let w1 = one.new.window in let h1 = one.new.self in let from = one.result in
     let s : Stop _ _ _ _ = stop_in w (Stepping aim AtRoot) h in
     let loads : AnswersLoad eq hash b name Root w.sight.log h w1.sight.log h1 (Call (Word from)) =
-        record { word = from; is = refl; as_loaded = one.ensures.as_loaded; rest = one.ensures.rest } in
+    record { word = from; is = refl; as_loaded = one.ensures.as_loaded; rest = one.ensures.rest } in
     let t : Stop _ _ _ _ = stop_in w1 (Stepping aim (Aiming from from)) h1 in
     let some : from ≡ 0 → ⊥ = λ e. absurd (omega arith) in
     let turn : TurnsBy w mode s t = roots eq hash b name mode aim w.sight.log h w1.sight.log h1 one.ensures.sees.log from loads
@@ -81,8 +73,8 @@ returns-then-to-eq0-clause-ends g c =
     let next = c.load-to in let w2 = next.new.window in let h2 = next.new.self in let to = next.result in
     let same = next.ensures.sees.book ∙ one.ensures.sees.book in
     let led : AnswersLoad eq hash b name (Next from) w1.sight.log h1 w2.sight.log h2 (Call (Word to)) =
-        subst (λ (z : _). AnswersLoad eq hash (begun_of z.now.parts) z.now.begun.book (Next from) w1.sight.log h1 w2.sight.log h2 (Call (Word to)))
-        one.ensures.sees.book (record { word = to; is = refl; as_loaded = next.ensures.as_loaded; rest = next.ensures.rest }) in
+    subst (λ (z : _). AnswersLoad eq hash (begun_of z.now.parts) z.now.begun.book (Next from) w1.sight.log h1 w2.sight.log h2 (Call (Word to)))
+    one.ensures.sees.book (record { word = to; is = refl; as_loaded = next.ensures.as_loaded; rest = next.ensures.rest }) in
     ends_then eq hash b name mode s t (stop_in w2 (Stepping aim (Aiming from from)) h2) (Call (Word to)) (leads_one eq hash b name mode s t turn)
     (ends_here eq hash b name mode t w2.sight.log h2 (Call (Word to)) next.ensures.sees.log led tt tt)
 
@@ -94,7 +86,7 @@ returns-in_default-mode-clause-ends g c =
     let one = c.load-from in let w1 = one.new.window in let h1 = one.new.self in let from = one.result in
     let s : Stop _ _ _ _ = stop_in w (Stepping aim AtRoot) h in
     let loads : AnswersLoad eq hash b name Root w.sight.log h w1.sight.log h1 (Call (Word from)) =
-        record { word = from; is = refl; as_loaded = one.ensures.as_loaded; rest = one.ensures.rest } in
+    record { word = from; is = refl; as_loaded = one.ensures.as_loaded; rest = one.ensures.rest } in
     let t : Stop _ _ _ _ = stop_in w1 (Stepping aim (Aiming from from)) h1 in
     let some : from ≡ 0 → ⊥ = λ e. absurd (omega arith) in
     let turn : TurnsBy w mode s t = roots eq hash b name mode aim w.sight.log h w1.sight.log h1 one.ensures.sees.log from loads
@@ -103,8 +95,8 @@ returns-in_default-mode-clause-ends g c =
     let next = c.load-to in let w2 = next.new.window in let h2 = next.new.self in let to = next.result in
     let same = next.ensures.sees.book ∙ one.ensures.sees.book in
     let led : AnswersLoad eq hash b name (Next from) w1.sight.log h1 w2.sight.log h2 (Call (Word to)) =
-        subst (λ (z : _). AnswersLoad eq hash (begun_of z.now.parts) z.now.begun.book (Next from) w1.sight.log h1 w2.sight.log h2 (Call (Word to)))
-        one.ensures.sees.book (record { word = to; is = refl; as_loaded = next.ensures.as_loaded; rest = next.ensures.rest }) in
+    subst (λ (z : _). AnswersLoad eq hash (begun_of z.now.parts) z.now.begun.book (Next from) w1.sight.log h1 w2.sight.log h2 (Call (Word to)))
+    one.ensures.sees.book (record { word = to; is = refl; as_loaded = next.ensures.as_loaded; rest = next.ensures.rest }) in
     ends_then eq hash b name mode s t (stop_in w2 (Stepping aim (Aiming from from)) h2) (Call (Word to)) (leads_one eq hash b name mode s t turn)
     (ends_here eq hash b name mode t w2.sight.log h2 (Call (Word to)) next.ensures.sees.log led tt tt)
 
@@ -116,7 +108,7 @@ size-len-requires g c =
     let one = c.load-from in let w1 = one.new.window in let h1 = one.new.self in let from = one.result in
     let s : Stop _ _ _ _ = stop_in w (Stepping aim AtRoot) h in
     let loads : AnswersLoad eq hash b name Root w.sight.log h w1.sight.log h1 (Call (Word from)) =
-        record { word = from; is = refl; as_loaded = one.ensures.as_loaded; rest = one.ensures.rest } in
+    record { word = from; is = refl; as_loaded = one.ensures.as_loaded; rest = one.ensures.rest } in
     let t : Stop _ _ _ _ = stop_in w1 (Stepping aim (Aiming from from)) h1 in
     let some : from ≡ 0 → ⊥ = λ e. absurd (omega arith) in
     let turn : TurnsBy w mode s t = roots eq hash b name mode aim w.sight.log h w1.sight.log h1 one.ensures.sees.log from loads
@@ -125,8 +117,8 @@ size-len-requires g c =
     let next = c.load-to in let w2 = next.new.window in let h2 = next.new.self in let to = next.result in
     let same = next.ensures.sees.book ∙ one.ensures.sees.book in
     let led : AnswersLoad eq hash b name (Next from) w1.sight.log h1 w2.sight.log h2 (Call (Word to)) =
-        subst (λ (z : _). AnswersLoad eq hash (begun_of z.now.parts) z.now.begun.book (Next from) w1.sight.log h1 w2.sight.log h2 (Call (Word to)))
-        one.ensures.sees.book (record { word = to; is = refl; as_loaded = next.ensures.as_loaded; rest = next.ensures.rest }) in
+    subst (λ (z : _). AnswersLoad eq hash (begun_of z.now.parts) z.now.begun.book (Next from) w1.sight.log h1 w2.sight.log h2 (Call (Word to)))
+    one.ensures.sees.book (record { word = to; is = refl; as_loaded = next.ensures.as_loaded; rest = next.ensures.rest }) in
     let u : Stop _ _ _ _ = stop_in w2 (Stepping aim (Sizing from to)) h2 in
     let there : to ≡ 0 → ⊥ = λ e. absurd (omega arith) in
     let turn₂ = aims_at eq hash b name mode aim w1.sight.log h1 w2.sight.log h2 next.ensures.sees.log from to c.in-Incremental.field-0 led
@@ -143,7 +135,7 @@ returns-clause-ends g c =
     let one = c.load-from in let w1 = one.new.window in let h1 = one.new.self in let from = one.result in
     let s : Stop _ _ _ _ = stop_in w (Stepping aim AtRoot) h in
     let loads : AnswersLoad eq hash b name Root w.sight.log h w1.sight.log h1 (Call (Word from)) =
-        record { word = from; is = refl; as_loaded = one.ensures.as_loaded; rest = one.ensures.rest } in
+    record { word = from; is = refl; as_loaded = one.ensures.as_loaded; rest = one.ensures.rest } in
     let t : Stop _ _ _ _ = stop_in w1 (Stepping aim (Aiming from from)) h1 in
     let some : from ≡ 0 → ⊥ = λ e. absurd (omega arith) in
     let turn : TurnsBy w mode s t = roots eq hash b name mode aim w.sight.log h w1.sight.log h1 one.ensures.sees.log from loads
@@ -152,8 +144,8 @@ returns-clause-ends g c =
     let next = c.load-to in let w2 = next.new.window in let h2 = next.new.self in let to = next.result in
     let same = next.ensures.sees.book ∙ one.ensures.sees.book in
     let led : AnswersLoad eq hash b name (Next from) w1.sight.log h1 w2.sight.log h2 (Call (Word to)) =
-        subst (λ (z : _). AnswersLoad eq hash (begun_of z.now.parts) z.now.begun.book (Next from) w1.sight.log h1 w2.sight.log h2 (Call (Word to)))
-        one.ensures.sees.book (record { word = to; is = refl; as_loaded = next.ensures.as_loaded; rest = next.ensures.rest }) in
+    subst (λ (z : _). AnswersLoad eq hash (begun_of z.now.parts) z.now.begun.book (Next from) w1.sight.log h1 w2.sight.log h2 (Call (Word to)))
+    one.ensures.sees.book (record { word = to; is = refl; as_loaded = next.ensures.as_loaded; rest = next.ensures.rest }) in
     let u : Stop _ _ _ _ = stop_in w2 (Stepping aim (Sizing from to)) h2 in
     let there : to ≡ 0 → ⊥ = λ e. absurd (omega arith) in
     let turn₂ = aims_at eq hash b name mode aim w1.sight.log h1 w2.sight.log h2 next.ensures.sees.log from to c.in-Incremental.field-0 led
@@ -164,7 +156,7 @@ returns-clause-ends g c =
     let end : Stop _ _ _ _ = stop_in w3 (Stepping aim (Sizing from to)) h2 in
     let answer = Call (Size last.result.0 last.result.1) in
     let sized : AnswersSize eq hash b name from h2 w3.sight.log h2 answer =
-        subst (λ (z : _). AnswersSize eq hash (begun_of z.now.parts) z.now.begun.book from h2 w3.sight.log h2 answer) same
-        (record { size = last.result; is = refl; size_of = last.ensures.size; rest = refl }) in
+    subst (λ (z : _). AnswersSize eq hash (begun_of z.now.parts) z.now.begun.book from h2 w3.sight.log h2 answer) same
+    (record { size = last.result; is = refl; size_of = last.ensures.size; rest = refl }) in
     ends_then eq hash b name mode s u end answer (leads_then eq hash b name mode s t u (leads_one eq hash b name mode s t turn)
     (leads_one eq hash b name mode t u turn₂)) (ends_here eq hash b name mode u w3.sight.log h2 answer last.ensures.sees.log sized tt last.ensures.fit)

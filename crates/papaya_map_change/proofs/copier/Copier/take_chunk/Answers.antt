@@ -1,20 +1,14 @@
-use Rattle.std.proofs.Common.{◌≡◌, ◌==◌, true, refl, sym, ap, ◌∙◌, subst, rules}
-use Rattle.papaya_words.specs.declared.resize_mode.ResizeMode.{ResizeMode}
-use Rattle.papaya_call.specs.declared.ask.Answer.TheVariants.{Size, Word}
-use Rattle.papaya_call.specs.declared.copy.copying.Copying.{Copying}
+use Rattle.std.proofs.Common.{refl, sym, subst, rules}
+use Rattle.papaya_call.specs.declared.ask.Answer.TheVariants.{Word}
 use Rattle.papaya_call.specs.declared.copy.copying.Copying.TheVariants.{Stepping}
 use Rattle.papaya_call.specs.declared.copy.step.Chunk.{Chunk}
-use Rattle.papaya_call.specs.declared.copy.step.Cursor.{Cursor}
-use Rattle.papaya_call.specs.declared.copy.step.Step.{Step}
-use Rattle.papaya_call.specs.declared.copy.step.Step.TheVariants.{Advancing, Aiming, AtChunk, AtRoot, Sizing}
+use Rattle.papaya_call.specs.declared.copy.step.Step.TheVariants.{AtChunk}
 use Rattle.papaya_call.specs.declared.copy.settle.Settle.TheVariants.{Looking}
 use Rattle.papaya_call.specs.declared.chain.ask.Answer.TheVariants.{Call}
-use Rattle.papaya_call.specs.Step.{IsStandingChunk, IsStandingStep, chunk_at, next_cursor}
+use Rattle.papaya_call.specs.Step.{IsStandingChunk, chunk_at}
 use Rattle.papaya_map_book.specs.Hashes.{hash_of}
 use Rattle.papaya_map_book.specs.Parts.{begun_of}
-use Rattle.papaya_map_book.proofs.Windows.{observes_trans}
-use Rattle.papaya_map_change.specs.Window.Settling.{CanLead, stop_in}
-use Rattle.papaya_map_change.specs.Copier.{AnswersExchange, AnswersLoad}
+use Rattle.papaya_map_change.specs.Window.Settling.{stop_in}
 use Rattle.papaya_map_change.specs.Settling.{Ends, Stop, at_slot}
 use Rattle.papaya_map_change.proofs.SettlingTurns.{ends_here, ends_then, leads_one}
 use Rattle.papaya_map_change.proofs.SettlingSeen.{TurnsBy, asked, can_on}

@@ -23,9 +23,11 @@ find_tables-copying-requires g c =
     let s : Stop _ _ _ _ = record { copying = at; log = w.sight.log; loaded = c₀.copier } in
     let stands : IsStandingPhase (Copying_root at) = subst IsStandingPhase c.requires.phase c.requires.standing.phase in
     let same : driver_at c₀ s ≡ c₀ = ap (λ (p : Phase). with_machine c₀ (record c₀.machine { phase = p })) (sym c.requires.phase) in
-    record { can = can_lead g.K.PartialEq.eq g.K.Hash.hash_input g.S.BuildHasher.build_hasher g.S.Hasher.Hasher.write g.S.Hasher.Hasher.finish g.met.K.Eq.laws
-    g.met.K.Hash.respects_eq b name c₀ c.requires.standing s stands
-    (subst (λ (z : Driver _ _ _ _). CanGoOn eq hash b name w.sight.log z) (sym same) c.requires.can) }
+    record {
+      can = can_lead g.K.PartialEq.eq g.K.Hash.hash_input g.S.BuildHasher.build_hasher g.S.Hasher.Hasher.write g.S.Hasher.Hasher.finish g.met.K.Eq.laws
+          g.met.K.Hash.respects_eq b name c₀ c.requires.standing s stands
+          (subst (λ (z : Driver _ _ _ _). CanGoOn eq hash b name w.sight.log z) (sym same) c.requires.can);
+    }
 
 pub returns-clause-standing : goal.returns-clause-standing
 returns-clause-standing g c =
