@@ -6,7 +6,7 @@ import re
 import sys
 
 TOP = os.path.dirname(os.path.dirname(os.path.abspath(__file__)))
-EXAMPLES = "crates/papaya_uses_tests/src/examples.rt"
+EXAMPLES = "tests/crates/papaya_uses_tests/examples.rs"
 
 
 def blocks(path):

@@ -1,7 +1,7 @@
 //! Tests of the callers in `papaya_uses`, of the names that `papaya` exports, of the examples in
 //! the documentation, and of public calls at numbers.
 //! It uses `papaya` and `papaya_uses`.
-//! No crate builds on it.
+//! They are compiled and run, and not proved. No crate builds on it.
 #![tactic(auto)]
 
 #[cfg(test)]
