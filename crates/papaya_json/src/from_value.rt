@@ -50,10 +50,11 @@ where
     Ok(map)
 }
 
-/// Returns the map of a JSON object: for each member an entry, whose key and value the functions
-/// return. It replaces the implementation of `Deserialize` in 0.2.5. If two members have equal
-/// keys, the earlier one's key stays, with the later one's value, in the order of their texts. No
-/// room is reserved ahead, and the map has no limit on entries.
+/// Returns a map with an entry for each member of a JSON object. One function returns the key for a
+/// member's text, and the other the value for its JSON value. This replaces the implementation of
+/// `Deserialize` in 0.2.5. Members are read in the order of their texts. If two members have equal
+/// keys, the map has the key of the first and the value of the last. No room is reserved ahead, and
+/// the map has no limit on entries.
 ///
 /// # Errors
 ///
@@ -112,9 +113,9 @@ fn set_of<K: Hash + Eq + Drop, S: BuildHasher + Drop, T: Fn(&Value) -> Option<K>
     Ok(set)
 }
 
-/// Returns the set of a JSON array: for each item a key, which the function returns. It replaces
-/// the implementation of `Deserialize` in 0.2.5. If two items have equal keys, the earlier one
-/// stays. No room is reserved ahead, and the set has no limit on keys.
+/// Returns a set with a key for each item of a JSON array. The function returns the key for an
+/// item. This replaces the implementation of `Deserialize` in 0.2.5. If two items have equal keys,
+/// the set has the first one. No room is reserved ahead, and the set has no limit on keys.
 ///
 /// # Errors
 ///

@@ -22,9 +22,9 @@ use std::alloc::Global;
 use std::hash::{BuildHasher, Hash};
 use std::sync::Wait;
 
-/// Returns a shared map as a JSON object, as [`crate::to_value::map_to_value`] does: the object of
-/// the entries that an iteration returns. If other threads change the map meanwhile, those entries
-/// are as [`papaya_map::map::HashMapRef::iter`] returns them.
+/// Returns a shared map as a JSON object, as [`crate::to_value::map_to_value`] does. The object has
+/// the entries that an iteration yields. If other threads change the map meanwhile, these are the
+/// entries that [`papaya_map::map::HashMapRef::iter`] describes.
 ///
 /// # Errors
 ///
@@ -120,8 +120,9 @@ where
     Ok(map)
 }
 
-/// Returns a shared map of a JSON object, as [`crate::from_value::map_from_value`] does: for each
-/// member an entry, whose key and value the functions return, in the order of the members' texts.
+/// Returns a shared map with an entry for each member of a JSON object, as
+/// [`crate::from_value::map_from_value`] does. Entries are inserted in the order of the members'
+/// texts.
 ///
 /// # Errors
 ///
@@ -237,8 +238,8 @@ where
     Ok(set)
 }
 
-/// Returns a shared set of a JSON array, as [`crate::from_value::set_from_value`] does: for each
-/// item a key, which the function returns, in the order of the items.
+/// Returns a shared set with a key for each item of a JSON array, as
+/// [`crate::from_value::set_from_value`] does. Keys are inserted in the order of the items.
 ///
 /// # Errors
 ///

@@ -95,8 +95,9 @@ where
     Ok(Value::Object(members))
 }
 
-/// Returns the map as a JSON object: for each entry a member, whose text and value the functions
-/// return. It replaces the implementation of `Serialize` in 0.2.5.
+/// Returns the map as a JSON object, with one member for each entry. One function returns the text
+/// of a key, and the other the JSON value of a value. This replaces the implementation of
+/// `Serialize` in 0.2.5.
 ///
 /// # Errors
 ///
@@ -168,8 +169,8 @@ where
     Ok(Value::Array(items))
 }
 
-/// Returns the set as a JSON array, in the order of an iteration: for each key an item, which the
-/// function returns. It replaces the implementation of `Serialize` in 0.2.5.
+/// Returns the set as a JSON array, with one item for each key, in the order of an iteration. The
+/// function returns the item of a key. This replaces the implementation of `Serialize` in 0.2.5.
 ///
 /// # Errors
 ///

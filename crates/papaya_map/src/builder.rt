@@ -20,8 +20,8 @@ use std::hash::{BuildHasher, BuildHasherDefault, FoldHasher, Hash};
 use std::marker::{Model, PhantomData};
 use std::sync::{Arc, Wait};
 
-/// The settings of a map that is to be built: `HashMapBuilder` of 0.2.5. Contracts see each
-/// setting. A setting that is out of range is refused when the map is built.
+/// A builder of maps, which holds their settings: `HashMapBuilder` of 0.2.5. Contracts see each
+/// setting. If a setting is out of range, the call that builds the map fails.
 #[derive(Drop)]
 pub struct HashMapBuilder<K, V, S = BuildHasherDefault<FoldHasher>> {
     hasher: S,
@@ -129,9 +129,9 @@ impl<K, V, S> HashMapBuilder<K, V, S> {
         HashMapBuilder { collector, ..self }
     }
 
-    /// Sets a collector that other maps may have too: `shared_collector` of 0.2.5. A guard is known
-    /// by its collector's number alone. So a guard of one such map, or of the caller's collector,
-    /// fits all of them. The map keeps that number, and counts the guards that it creates itself.
+    /// Sets a collector that several maps share: `shared_collector` of 0.2.5. Only the collector's
+    /// number identifies it. So each of these maps accepts a guard of any of them, or of the
+    /// collector itself. The map stores the number, and numbers the guards that it creates itself.
     pub fn shared_collector(self, collector: Arc<Collector>) -> HashMapBuilder<K, V, S>
         ensures { result ≡ record {
           hasher = self.hasher;
@@ -146,8 +146,8 @@ impl<K, V, S> HashMapBuilder<K, V, S> {
         self.collector(Collector::new(number))
     }
 
-    /// Sets the number of entries that the first table has room for, by default 0: `capacity` of
-    /// 0.2.5. With 0 the first change allocates a table of 32 slots.
+    /// Sets for how many entries the first table has room: `capacity` of 0.2.5. The default is 0:
+    /// then the first change allocates a table of 32 slots.
     pub fn capacity(self, capacity: usize) -> HashMapBuilder<K, V, S>
         ensures { result ≡ record {
           hasher = self.hasher;
@@ -190,9 +190,10 @@ impl<K, V, S> HashMapBuilder<K, V, S> {
         HashMapBuilder { shards, ..self }
     }
 
-    /// Limits how many entries the map may store, including those that were replaced or removed. A
-    /// call that would store one more fails with `Refused::Limit`. After `reclaim` only the entries
-    /// that are in the map count. With 0 no entry is ever stored. 0.2.5 has no such limit.
+    /// Sets how many entries the map may store at most, including those that were replaced or
+    /// removed. A call that would store one more fails with `Refused::Limit`. After `reclaim`, only
+    /// the entries that are in the map count. With a limit of 0 no entry can be stored. 0.2.5 has
+    /// no such limit.
     pub fn pair_limit(self, pairs: u64) -> HashMapBuilder<K, V, S>
         ensures { result ≡ record {
           hasher = self.hasher;
@@ -236,7 +237,7 @@ impl<K: Hash + Eq + Drop, V: Drop, S: BuildHasher + Drop> HashMapBuilder<K, V, S
         HashMap::with_collector(rt, alloc, mode, capacity, shards, hasher, limit, collector)
     }
 
-    /// Builds a map of the same settings for one caller; it needs no collector. 0.2.5 has no such
+    /// Builds a map for one caller with the same settings, except the collector. 0.2.5 has no such
     /// map.
     ///
     /// # Errors

@@ -24,9 +24,10 @@ use std::hash::{BuildHasher, BuildHasherDefault, FoldHasher, Hash};
 use std::sync::Wait;
 
 impl<K: Hash + Eq + Drop, V: Drop, S: BuildHasher> HashMap<K, V, S> {
-    /// Inserts the entries of an iterator in its order: the trait `Extend` of 0.2.5. If two entries
-    /// have equal keys, the first key and the later value are stored. No room is reserved ahead, so
-    /// an empty iterator changes nothing at all. Other calls may take effect between the entries.
+    /// Inserts the entries of an iterator in their order: the trait `Extend` of 0.2.5. If two
+    /// entries have equal keys, the first key and the later value are stored. No room is reserved
+    /// ahead, so an empty iterator changes nothing. Changes of other threads may take effect
+    /// between the insertions.
     ///
     /// # Errors
     ///
@@ -152,9 +153,9 @@ impl<K: Hash + Eq + Copy + Drop, V: Copy + Drop, S: BuildHasher> HashMap<K, V, S
 }
 
 impl<K: Hash + Eq + Drop, V: Drop, S: BuildHasher + Default + Drop> HashMap<K, V, S> {
-    /// Creates a map of an iterator's entries: the trait `FromIterator` of 0.2.5. If two entries
-    /// have equal keys, it has the first key and the later value. It resizes and counts as a map of
-    /// [`HashMap::with_hasher`], and has no table if there are no entries.
+    /// Creates a map from the entries of an iterator: the trait `FromIterator` of 0.2.5. If two
+    /// entries have equal keys, the map has the first key and the later value. Its settings are
+    /// those of [`HashMap::with_hasher`]. It has no table if there are no entries.
     ///
     /// # Errors
     ///
@@ -219,11 +220,11 @@ impl<K: Hash + Eq, V: PartialEq, S: BuildHasher> HashMap<K, V, S> {
     }
 
     /// Returns whether both maps have the same keys with equal values: `PartialEq` of 0.2.5. It
-    /// compares the counts, then iterates over this map and looks up each entry in the other. If
-    /// another thread changes one of the maps meanwhile, the result may be either.
+    /// compares the counts, then iterates over this map and looks up each key in the other. If
+    /// another thread changes one of the maps meanwhile, the result may be `true` or `false`.
     ///
-    /// It holds no lock while it looks into the other map. So two threads may compare two maps in
-    /// either order, or a map with itself.
+    /// It holds no lock while it looks up keys in the other map. So two threads may compare two
+    /// maps in opposite orders, and a map may be compared with itself.
     ///
     /// # Errors
     ///
@@ -299,11 +300,10 @@ impl<K: Hash + Eq + Clone + Drop, V: Clone + Drop, S: BuildHasher> HashMap<K, V,
 }
 
 impl<K: Hash + Eq + Clone + Drop, V: Clone + Drop, S: BuildHasher + Clone + Drop> HashMap<K, V, S> {
-    /// Returns a map of clones of this one's entries: the trait `Clone` of 0.2.5. As there, it has
-    /// a clone of the hasher and room for as many entries as were counted. Otherwise it is a map of
-    /// [`HashMap::with_capacity_and_hasher`]: it has neither this map's mode nor its collector, and
-    /// no limit on entries. An entry that is stored, replaced or removed meanwhile may be copied or
-    /// not.
+    /// Returns a map of clones of this map's entries: the trait `Clone` of 0.2.5. As there, the
+    /// copy has a clone of the hasher, and room for as many entries as this map counts. Its other
+    /// settings are those of [`HashMap::with_capacity_and_hasher`], not this map's mode, collector
+    /// or limit. An entry that is stored, replaced or removed meanwhile may or may not be copied.
     ///
     /// A key's clone must be equal to the key. If one is not, the copy may have fewer entries.
     ///
@@ -328,9 +328,9 @@ impl<K: Hash + Eq + Clone + Drop, V: Clone + Drop, S: BuildHasher + Clone + Drop
         Ok(copy)
     }
 
-    /// Rebuilds the map from clones of its entries, and frees all keys and values that it had
-    /// before. It also frees those that were replaced or removed, which stay in memory until this
-    /// call. 0.2.5 frees those while the map is shared, and has no such call.
+    /// Rebuilds the map from clones of its entries, and frees everything that it held before,
+    /// including the entries that were replaced or removed. 0.2.5 frees such entries while the map
+    /// is shared, and has no such call.
     ///
     /// Mode, limit, initial capacity, collector and shards stay, and the hasher is a clone of the
     /// old one. The map opens a table with room for its entries, no shorter than the initial
@@ -338,10 +338,9 @@ impl<K: Hash + Eq + Clone + Drop, V: Clone + Drop, S: BuildHasher + Clone + Drop
     /// that are kept count against the limit, so the call does not reach it: a test shows that, and
     /// no clause states it.
     ///
-    /// The call takes `&mut self`, so no other thread, no pinned map and no reference to a key or a
-    /// value outlasts it. A [`Pass`](crate::map::Pass) from before is of no use afterwards, since
-    /// it observed the history of the old map: [`HashMap::pass`] creates a new one. If the call
-    /// fails, the map is as it was, and earlier passes continue.
+    /// The call takes `&mut self`, so no session, no pinned map and no reference to a key or a
+    /// value outlives it. A [`Pass`](crate::map::Pass) from before can only be used again if the
+    /// call fails, since it has observed the history of the old map.
     ///
     /// A key's clone must be equal to the key. If one is not, the map may have fewer entries then.
     ///

@@ -36,15 +36,15 @@ use std::marker::Model;
 /// [`Session`](crate::session::Session), through a pinned map ([`HashMap::pin`]), or with a guard
 /// ([`HashMap::guard`]).
 ///
-/// A replaced or removed entry stays in memory until [`HashMap::reclaim`], or until the map is
-/// dropped: 24 bytes for two `u64`s.
+/// A replaced or removed entry stays in memory until [`HashMap::reclaim`] or until the map is
+/// dropped. An entry of two `u64`s takes 24 bytes or more.
 ///
 /// In the examples of its calls, `map` is an empty `HashMap<u64, u64>` that no other thread changes.
 /// `rt` is the runtime that `main` gets, and `alloc` is the allocator, `rt.alloc()`.
 ///
-/// Contracts see what is fixed when the map is made: its book, hasher, resize mode and arenas, the
-/// initial capacity that sizes its first table, and its number of shards. They also see the tables
-/// that it had at once, and the history observed at that point.
+/// Contracts see what is fixed when the map is created: its book, hasher, resize mode and arenas,
+/// its initial capacity, and its number of shards. They also see the tables that it had from the
+/// start, and the history observed at that point.
 #[derive(Drop)]
 pub struct HashMap<K: Hash + Eq, V, S: BuildHasher = BuildHasherDefault<FoldHasher>> {
     pub(crate) alloc: Global,
@@ -73,11 +73,12 @@ impl<K: Hash + Eq, V, S: BuildHasher> Model for HashMap<K, V, S> {
     ghost invariant = { λ m. IsLegalHistory K.eq key_of (history_of m.opened.log) };
 }
 
-/// A pinned map, on which calls are made: `HashMapRef` of 0.2.5, but without a guard. References
-/// that it returns live as long as the map, and in 0.2.5 only as long as the pin. It keeps the root
-/// table found when the map was pinned, so that calls need not look it up again.
+/// A pinned map: `HashMapRef` of 0.2.5, but without a guard. Its calls take no guard and record no
+/// history. References that they return live as long as the borrow of the map; in 0.2.5 they live
+/// only as long as the pin. A pinned map remembers the root table at the time of the pin, so that
+/// calls need not look it up again.
 ///
-/// Contracts see what they see of the map, and the history that had been observed at the pin.
+/// Contracts see what they see of the map, and the history that the pinned map has observed.
 pub struct HashMapRef<'a, K: Hash + Eq, V, S: BuildHasher> {
     pub(crate) map: &'a HashMap<K, V, S>,
     kept: KeptRoot<'a, K, V, S>,
@@ -104,8 +105,9 @@ impl<'a, K: Hash + Eq, V, S: BuildHasher> Drop for HashMapRef<'a, K, V, S> {
 }
 
 impl<K: Hash + Eq, V, S: BuildHasher> HashMap<K, V, S> {
-    /// Pins the map, and returns the reference on which calls are made: `pin` of 0.2.5. It writes
-    /// no word. It has observed the history up to the map's creation: see [`HashMapRef::after`].
+    /// Pins the map: `pin` of 0.2.5. Returns a pinned map, on which calls are made without a guard.
+    /// The call writes no word. The pinned map has observed the history up to the map's creation;
+    /// [`HashMapRef::after`] returns one that has observed more.
     ///
     /// # Examples
     ///
@@ -129,8 +131,8 @@ impl<K: Hash + Eq, V, S: BuildHasher> HashMap<K, V, S> {
         }
     }
 
-    /// Pins the map as [`HashMap::pin`] does: `pin_owned` of 0.2.5, whose reference may be sent to
-    /// another thread. Here every pinned map may, as it holds no guard.
+    /// Pins the map as [`HashMap::pin`] does: `pin_owned` of 0.2.5. There only this pinned map may
+    /// be sent to another thread. Here every pinned map may, since it holds no guard.
     pub fn pin_owned(&self) -> HashMapRef<'_, K, V, S>
         ensures map { result.map ≡ self.now }
         ensures seen { IsPrefix self.now.seen result.seen }
@@ -158,8 +160,8 @@ impl<K: Hash + Eq, V, S: BuildHasher> HashMap<K, V, S> {
         self.len() == 0
     }
 
-    /// Returns a new pass of this map. It has observed no change yet: each history of a map begins
-    /// as that of the empty one.
+    /// Returns a new pass of this map, which has observed no change yet. Users call
+    /// [`Session::new`](crate::session::Session::new).
     pub fn pass(&self) -> Pass<K, V, S>
         ensures book { result.book ≡ self.now.book }
         ensures new { result.history ≡ [] }

@@ -21,16 +21,16 @@ use papaya_words_keys::guard::Guard;
 use std::hash::{BuildHasher, BuildHasherDefault, FoldHasher, Hash};
 use std::marker::Model;
 
-/// One thread's access to a map: a pinned map, and a pass of it. 0.2.5 has no such type. Each call
-/// takes effect after all that the session had observed before, and afterwards the session has
-/// observed the call's own point in time. So a thread reads its own writes: the map had what the
-/// thread reads at some point after them.
+/// One thread's access to a shared map. It records the history of the map that the thread has
+/// observed. 0.2.5 has no such type. Each call takes effect after everything that the session had
+/// observed before, and the session then has observed that effect too. So a thread reads its own
+/// writes: a value that it reads was in the map at some point after them.
 ///
-/// Contracts see what is fixed of the map, the observed history, and the changes that this session
-/// made, oldest first. They see the number of slots of each table that the session has observed. If
-/// the last change failed with `Refused::Capacity`, they see the number that a full arena of tables
-/// gave, or the sum of the map's count. If the map has a limit on entries, they see how many
-/// numbers were taken for entries.
+/// Contracts see the settings of the map, the observed history, and the changes that this session
+/// made, oldest first. They see the length of each table that the session has observed. After
+/// `Refused::Capacity` they see its cause: the number that a full arena of tables gave, or the sum
+/// of the count. In a map with a limit on entries, they see how many numbers were taken for
+/// entries.
 #[derive(Drop)]
 pub struct Session<'a, K: Hash + Eq, V, S: BuildHasher = BuildHasherDefault<FoldHasher>> {
     map: HashMapRef<'a, K, V, S>,
@@ -56,9 +56,9 @@ impl<'a, K: Hash + Eq, V, S: BuildHasher> Model for Session<'a, K, V, S> {
 }
 
 impl<'a, K: Hash + Eq, V, S: BuildHasher> Session<'a, K, V, S> {
-    /// Returns a session of this map, in the place of `pin` of 0.2.5. It has observed no change
-    /// yet: each history of a map begins as that of the empty one. The map's collector numbers its
-    /// pass by one addition; no word of a table is written.
+    /// Returns a new session of this map. It takes the place of `pin` of 0.2.5. The session has
+    /// observed no change yet. It draws a number by one addition to a counter that all threads
+    /// share, and writes no word of a table.
     ///
     /// # Examples
     ///
@@ -93,8 +93,9 @@ impl<'a, K: Hash + Eq, V, S: BuildHasher> Session<'a, K, V, S> {
         self.map.map()
     }
 
-    /// Returns the pinned map, for calls without a history. It has observed what the session has:
-    /// a result of its calls is correct for a state after all that. Does nothing at run time.
+    /// Returns a pinned map, for calls without a history. It has observed what the session has
+    /// observed: each result of its calls is correct for some state no earlier than that. Does
+    /// nothing at run time.
     pub fn pinned(&self) -> HashMapRef<'a, K, V, S>
         ensures map { result.map ≡ self.now.map }
         ensures seen { IsPrefix self.now.history result.seen }
@@ -125,9 +126,9 @@ impl<'a, K: Hash + Eq, V, S: BuildHasher> Session<'a, K, V, S> {
         } = self.pass.tell(());
     }
 
-    /// Returns a result, with evidence of the history that the session has observed, and with the
-    /// changes made by it. A call that creates its own session shows by this which history its
-    /// result is of, and which changes it made: see [`Told`].
+    /// Returns a result together with evidence of the history that the session has observed and of
+    /// the changes that it made. A call that creates its own session uses this to state for which
+    /// history its result is correct, and which changes it made: see [`Told`].
     #[inline(always)]
     pub fn tell<B>(&self, answer: B) -> Saying<B, K, V, S>
         ensures answer { result.answer ≡ answer }
@@ -139,9 +140,9 @@ impl<'a, K: Hash + Eq, V, S: BuildHasher> Session<'a, K, V, S> {
         self.pass.tell(answer)
     }
 
-    /// Shares what two sessions have observed. Afterwards both have observed one history, which
-    /// begins with what each had observed. Does nothing at run time, and never fails. One premise
-    /// is left, which no type states: both sessions are of one map.
+    /// Shares what two sessions of one map have observed. Afterwards both have observed the same
+    /// history, which begins with what each had observed before. Does nothing at run time, and
+    /// never fails. The caller proves that both sessions are of one map, since no type states it.
     pub fn meet(&mut self, other: &mut Session<'_, K, V, S>)
         requires { other.old.map.book ≡ self.old.map.book }
         ensures maps { (self.new.map ≡ self.old.map) × (other.new.map ≡ other.old.map) }
@@ -156,10 +157,10 @@ impl<'a, K: Hash + Eq, V, S: BuildHasher> Session<'a, K, V, S> {
         self.map.meet(&mut self.pass, &mut other.pass)
     }
 
-    /// Passes what an iterator has observed on to the session. Afterwards the session has observed
-    /// a history that begins with what each had observed. So its calls take effect after all that
-    /// the iterator returned. Does nothing at run time, and never fails. As at [`Session::meet`] a
-    /// premise is left: the iterator is of the session's map.
+    /// Adds what an iterator has observed to what the session has observed. Afterwards the
+    /// session's calls take effect after everything that the iterator has yielded. Does nothing at
+    /// run time, and never fails. As for [`Session::meet`], the caller proves that the iterator is
+    /// of the session's map.
     pub fn learn_walk(&mut self, walk: &Iter<'_, K, V, S>)
         requires { walk.now.book ≡ self.old.map.book }
         ensures map { self.new.map ≡ self.old.map }

@@ -19,19 +19,20 @@ pub type ReclaimingMap<K, V, S = BuildHasherDefault<FoldHasher>> = Reclaiming<Ha
 /// A set that threads share for months: a [`Reclaiming`] of a set.
 pub type ReclaimingSet<K, S = BuildHasherDefault<FoldHasher>> = Reclaiming<HashSet<K, S>>;
 
-/// The number of stored entries up to which [`Handle::reclaim_if`] reclaims nothing, so that a map
-/// of few entries is not rebuilt all the time. Entries of two numbers take 192 KiB then.
+/// The number of stored entries up to which [`Handle::reclaim_if`] does nothing, so that a small
+/// map is not rebuilt all the time. That many entries of two `u64`s take 192 KiB.
 pub const LEAST_STORED: usize = 8192;
 
-/// A map or set that gives back memory while threads go on. In 0.2.5 a collector frees replaced
-/// entries beside the calls; here a thread requests it, by [`Handle::reclaim`] or
+/// A map or set whose memory can be freed while threads use it. In 0.2.5 a collector frees replaced
+/// entries during the calls. Here a thread requests it, by [`Handle::reclaim`] or
 /// [`Handle::reclaim_if`].
 ///
 /// Each thread makes a [`Handle`], and enters by it for one call or for many. Threads that enter
-/// never wait for each other. A thread that reclaims waits until each current guard has come back
-/// once, and holds new ones off until it is done. The pause lasts as long as copying the entries.
+/// never wait for each other. A thread that reclaims waits until each existing guard has been
+/// dropped or refreshed, and lets no thread enter until it is done. Other threads wait for as long
+/// as it copies the entries.
 ///
-/// It is one of the kit's locks, in eight places on cache lines of their own: entering writes to
+/// It is a lock of the kit with eight places, each on a cache line of its own. Entering writes to
 /// one of them, and reclaiming takes all eight.
 #[derive(Drop)]
 pub struct Reclaiming<M> {
@@ -41,8 +42,8 @@ pub struct Reclaiming<M> {
 }
 
 impl<M: Reclaim + Drop> Reclaiming<M> {
-    /// Takes a map or set that was made in the usual way. All its settings stay whenever it is
-    /// reclaimed: hasher, resize mode, capacity, shards and limit.
+    /// Wraps a map or set. A reclaim keeps all its settings: hasher, resize mode, capacity, shards
+    /// and limit.
     ///
     /// # Errors
     ///
@@ -60,8 +61,9 @@ impl<M: Reclaim + Drop> Reclaiming<M> {
         })
     }
 
-    /// Returns a thread's handle to the map. Each thread makes one, once: handles take the eight
-    /// places of the lock in turn, so that up to eight threads write to cache lines of their own.
+    /// Returns a handle to the map for one thread. Make one handle in each thread and keep it.
+    /// Handles are assigned to the eight places of the lock in turn, so that up to eight threads
+    /// each write to a cache line of their own.
     ///
     /// # Examples
     ///
@@ -88,9 +90,9 @@ impl<M: Reclaim + Drop> Reclaiming<M> {
         map
     }
 
-    /// Returns the map or set itself, once no thread has a handle. It returns `None` only if a
-    /// writer's guard of the kit's lock was forgotten; no such guard leaves this module, and none
-    /// is forgotten here.
+    /// Returns the map or set itself. No handle can exist any more, since the call takes `self`. It
+    /// would return `None` only if a write guard of the lock had been leaked; no such guard leaves
+    /// this module, and none is leaked here.
     pub fn into_inner(self) -> Option<M> {
         let Self {
             lock,
@@ -101,9 +103,9 @@ impl<M: Reclaim + Drop> Reclaiming<M> {
     }
 }
 
-/// One thread's access to a map or set that is reclaimed. While it has a guard it can neither enter
-/// again nor reclaim, which the borrow checker ensures. A thread with two handles could wait for
-/// itself, so make one per thread.
+/// One thread's access to a [`Reclaiming`] map or set. While its guard exists, the borrow checker
+/// rules out that the handle enters again or reclaims. A thread with two handles could wait for
+/// itself forever, so make one per thread.
 #[derive(Drop)]
 pub struct Handle<'a, M> {
     shared: &'a Reclaiming<M>,
@@ -111,12 +113,12 @@ pub struct Handle<'a, M> {
 }
 
 impl<'a, M: Reclaim + Drop> Handle<'a, M> {
-    /// Enters the map: the guard lends it for any number of calls, while the guard is kept. Waits
-    /// while another thread reclaims the map or waits to do so.
+    /// Enters the map, and returns a guard by which any number of calls can be made. Waits while
+    /// another thread reclaims the map or waits to do so.
     ///
-    /// A thread that keeps a guard for long calls [`Entered::refresh`] from time to time. Until it
-    /// does, the map cannot be reclaimed, and threads that want to enter may wait for one that
-    /// waits to reclaim it.
+    /// A thread that keeps a guard for a long time should call [`Entered::refresh`] from time to
+    /// time. Until it does, the map cannot be reclaimed. Threads that want to enter may then wait
+    /// for a thread that waits to reclaim.
     ///
     /// # Examples
     ///
@@ -134,9 +136,10 @@ impl<'a, M: Reclaim + Drop> Handle<'a, M> {
         }
     }
 
-    /// Reclaims the map: waits until each current guard has come back once, copies the entries into
-    /// a new map, and frees all that the old one held. Threads that come and go all the time cannot
-    /// hold it off; a thread that never comes back does.
+    /// Reclaims the map: waits until each existing guard has been dropped or refreshed, copies the
+    /// entries into a new map, and frees everything that the old one held. Threads that enter and
+    /// leave all the time cannot delay it forever. A thread that never drops or refreshes its guard
+    /// does.
     ///
     /// # Errors
     ///
@@ -147,8 +150,8 @@ impl<'a, M: Reclaim + Drop> Handle<'a, M> {
         self.shared.alone(rt).reclaim(rt)
     }
 
-    /// Reclaims the map if there are no guards, and otherwise returns `false` at once. It is for a
-    /// thread that must not wait, or that may have another handle's guard.
+    /// Reclaims the map and returns `true` if no guard exists, and otherwise returns `false` at
+    /// once. Call it in a thread that must not wait, or that may have a guard of another handle.
     ///
     /// # Errors
     ///
@@ -163,14 +166,14 @@ impl<'a, M: Reclaim + Drop> Handle<'a, M> {
         }
     }
 
-    /// Reclaims the map if it stores more than `share` times its entries, and more than
-    /// [`LEAST_STORED`]. With a share of 2 it does so once more than half of the stored entries
-    /// were replaced or removed, and so copies an entry for each replacement. With a share of 4 it
-    /// copies one for three. Returns whether this thread reclaimed it: if several find it due, one
-    /// does.
+    /// Reclaims the map if it stores more than `share` times as many entries as it has, and more
+    /// than [`LEAST_STORED`]. Returns whether this call reclaimed it: if several threads call at
+    /// once, one of them does. With a share of 2 it reclaims once more than half of the stored
+    /// entries were replaced or removed, so it copies about one entry for each that was replaced.
+    /// With a share of 4 it copies about one for every three.
     ///
-    /// It costs a few hundred instructions if nothing is due, so call it once in some thousand
-    /// changes, or from time to time.
+    /// If there is nothing to reclaim, the call takes a few hundred instructions. So call it from
+    /// time to time, such as once in a thousand changes.
     ///
     /// # Errors
     ///
@@ -194,9 +197,9 @@ fn is_due<M: Reclaim>(map: &M, share: usize) -> bool {
     stored > LEAST_STORED && stored > map.entries().saturating_mul(share)
 }
 
-/// A map or set that a thread has entered. It derefs to the map, so `entered.pin()` and
-/// `Session::new(&entered)` work as usual, and no session, pinned map or reference to an entry
-/// outlives it.
+/// A guard of a map or set that a thread has entered. It derefs to the map, so `entered.pin()` and
+/// `Session::new(&entered)` work as usual. No session, pinned map or reference to an entry outlives
+/// the guard.
 #[derive(Drop)]
 pub struct Entered<'a, M> {
     shared: &'a Reclaiming<M>,
@@ -217,8 +220,8 @@ impl<'a, M> Deref for Entered<'a, M> {
 
 impl<'a, M: Reclaim + Drop> Entered<'a, M> {
     /// Leaves the map and enters it again if a thread waits to reclaim it, and otherwise does
-    /// nothing. It is for a thread that stays in, between two requests. It costs one load of a word
-    /// that seldom changes.
+    /// nothing. Call it between two requests in a thread that keeps its guard. If no thread waits,
+    /// it takes one load of a word that seldom changes.
     #[inline(always)]
     pub fn refresh<R: Wait>(self, rt: &R) -> Entered<'a, M> {
         let waiting: &AtomicU64 = &self.shared.waiting;

@@ -174,12 +174,13 @@ impl<K: Hash + Eq + Clone + Drop, V: Clone + Drop, S: BuildHasher + Clone + Drop
     }
 
     /// Rebuilds the map from clones of its entries, and frees the memory of those that were
-    /// replaced or removed. Entries are numbered again; afterwards as many numbers are taken as
+    /// replaced or removed. Entries get new numbers: afterwards only as many numbers are taken as
     /// there are entries. Mode, limit, initial capacity and number of shards stay, and there is
     /// room for the entries. A map built without a capacity has no table afterwards if it has no
     /// entries. 0.2.5 frees entries while the map is in use, and has no such call.
     ///
-    /// A clone of a key must be equal to it. Until the new map is filled both need memory.
+    /// A clone of a key must be equal to the key. Until the new map is filled, there must be memory
+    /// for both maps.
     ///
     /// # Errors
     ///

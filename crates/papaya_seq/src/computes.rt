@@ -49,9 +49,9 @@ impl<K: Hash + Eq + Drop, V: Drop, S: BuildHasher> HashMap<K, V, S> {
     /// 0.2.5. The closure is called once, with the entry or with `None` if the key is absent. The
     /// references that it gets are valid for that call only.
     ///
-    /// The contract does not describe the map itself afterwards, because the result may own a `T`.
-    /// It describes a map that a run of the call leaves. If a proof needs the map itself, use
-    /// [`HashMap::compute_into`].
+    /// The contract does not describe the map afterwards, because the result may own a `T`. It
+    /// describes the map that a run of the same call leaves. If your proof needs the map itself,
+    /// use [`HashMap::compute_into`].
     ///
     /// # Errors
     ///

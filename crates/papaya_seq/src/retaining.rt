@@ -60,8 +60,9 @@ impl<K: Hash + Eq + Drop, V: Drop, S: BuildHasher> HashMap<K, V, S> {
         self.retain_by(&mut agrees)
     }
 
-    /// Retains as [`HashMap::retain`] does, by a closure that stays the caller's. The contract
-    /// names the state that the calls leave the closure in: it was called with nothing else.
+    /// Retains as [`HashMap::retain`] does, but borrows the closure. The contract names the state
+    /// in which the calls leave the closure, so it rules out that the closure is called with
+    /// anything else.
     ///
     /// # Errors
     ///

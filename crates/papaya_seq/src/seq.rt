@@ -62,9 +62,9 @@ fn resized(done: Result<(), Refused>) -> Reply
     }
 }
 
-/// A hash map for one caller: changes take `&mut self`. It ports `papaya::HashMap` to code that has
-/// a `&mut` map, and runs the machines of the shared map on plain words. It needs no guard and no
-/// atomics, and results borrow the map.
+/// A hash map for one caller: changes take `&mut self`. It ports `papaya::HashMap` for code that
+/// owns its map, and runs the same algorithm on plain words. It needs no guard and no atomics, and
+/// results borrow the map.
 ///
 /// A replaced or removed entry stays in the arena until [`HashMap::reclaim`], or until the map is
 /// dropped: 24 bytes for two `u64`s.
@@ -96,8 +96,9 @@ impl<K: Hash + Eq, V, S: BuildHasher> Model for HashMap<K, V, S> {
 impl<K: Hash + Eq + Drop, V: Drop, S: BuildHasher + Drop> HashMap<K, V, S> {
     /// Creates a map from all its settings. The first table has room for `capacity` entries; with 0
     /// the first change makes it. `shards` is rounded up to a power of two. With a `limit` the map
-    /// stores at most that many entries: a call that needs one more fails with `Refused::Limit`. A
-    /// call that took a number for its entry, and then ran out of memory, has used the number up.
+    /// stores at most that many entries: a call that would store one more fails with
+    /// `Refused::Limit`. If memory runs out after a call has taken a number for its entry, the
+    /// number counts against the limit.
     ///
     /// # Errors
     ///
@@ -262,8 +263,8 @@ impl<K: Hash + Eq, V, S: BuildHasher> HashMap<K, V, S> {
         self.store.root().map_or(0, |table| table.len())
     }
 
-    /// Returns whether entries are being moved to a next table. While they are not, a removal
-    /// allocates nothing and never fails.
+    /// Returns whether entries are being moved to a next table. If not, a removal allocates nothing
+    /// and cannot fail.
     pub fn resizing(&self) -> bool
         ensures { MatchBool result (next_of self.now.store ≢ 0) (next_of self.now.store ≡ 0) }
     {
@@ -283,8 +284,8 @@ impl<K: Hash + Eq, V, S: BuildHasher> HashMap<K, V, S> {
     /// Returns the key's value, or `None` if the map has no entry of the key: `get` of 0.2.5. It
     /// allocates nothing and never fails.
     ///
-    /// The contract also states that the result is what the machine of a lookup replies if each of
-    /// its loads is answered with the word that is in the tables.
+    /// The contract also states that the result is what the machine of a lookup replies when each
+    /// of its loads returns the word in the tables.
     ///
     /// # Examples
     ///
@@ -376,10 +377,12 @@ impl<K: Hash + Eq + Drop, V: Drop, S: BuildHasher> HashMap<K, V, S> {
     ghost use Rattle.papaya_seq.specs.Ends.{ends_so};
 
     /// Inserts a key-value pair, and returns the key's old value, or `None` if the key was absent:
-    /// `insert` of 0.2.5. As there, a stored key stays, and the key that was passed in is dropped.
+    /// `insert` of 0.2.5. As the documentation of 0.2.5 says, a stored key stays, and the key that
+    /// was passed in is dropped.
     ///
-    /// When the places of a table are filled, a next table follows. While entries are being moved
-    /// to it, each call that may change the map moves a chunk of them, or with `Blocking` all.
+    /// When a table has no place for a key, the map makes a next table. While entries are being
+    /// moved to it, each call that may change the map moves a chunk of them, or all of them with
+    /// `Blocking`.
     ///
     /// # Errors
     ///
@@ -415,8 +418,8 @@ impl<K: Hash + Eq + Drop, V: Drop, S: BuildHasher> HashMap<K, V, S> {
         }
     }
 
-    /// Inserts an entry if the key is absent. Returns the number of the key's entry, and the
-    /// passed-in value if the key was in the map, so that it was not stored.
+    /// Inserts an entry if the key is absent. Returns the number of the key's entry, and gives the
+    /// value back if the key was in the map.
     ///
     /// Works as [`HashMap::try_insert`], with a number instead of a reference.
     ///
@@ -598,7 +601,8 @@ impl<K: Hash + Eq + Drop, V: Drop, S: BuildHasher> HashMap<K, V, S> {
     /// Returns `Ok(None)` if the key is absent, `Ok(Some(entry))` if that very entry was removed,
     /// and `Err(entry)` if the closure returned `false` for it.
     ///
-    /// The contract needs the closure to be callable once, since it is not called again.
+    /// The contract requires only that the closure can be called once, since it is called at most
+    /// once.
     ///
     /// # Errors
     ///

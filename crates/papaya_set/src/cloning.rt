@@ -105,14 +105,14 @@ impl<K: Hash + Eq + Clone + Drop, S: BuildHasher + Clone + Drop> HashSet<K, S> {
         }
     }
 
-    /// Rebuilds the set from clones of its keys, and frees all that it had before, as
-    /// [`papaya_map::map::HashMap::reclaim`] does for a map. Earlier passes and sessions are of no
-    /// use afterwards.
+    /// Rebuilds the set from clones of its keys, and frees everything that it held before, as
+    /// [`papaya_map::map::HashMap::reclaim`] does for a map. No session or pinned set outlives the
+    /// call, since it takes `&mut self`.
     ///
     /// # Errors
     ///
     /// Fails with `Refused::Memory` or `Refused::Capacity`, as that `reclaim` does. The set is then
-    /// as it was, and passes and sessions continue.
+    /// as it was.
     pub fn reclaim<R: Wait>(&mut self, rt: &R) -> Result<(), Refused>
         ensures ok { IfOk result (λ _. HasSettingsOf self.old self.new) }
         ensures hasher { IfOk result (λ _. S.is_clone self.old.begun.hasher

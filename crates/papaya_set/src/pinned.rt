@@ -301,15 +301,15 @@ impl<'a, K: Hash + Eq + Drop, S: BuildHasher> HashSetRef<'a, K, S> {
         }
     }
 
-    /// Inserts a key, and returns whether it was absent: `insert` of 0.2.5. As there, an equal key
-    /// that is stored stays, and the one that was passed in is dropped. If several threads insert
-    /// equal keys at once, only one call returns `true`.
+    /// Inserts a key, and returns whether it was absent: `insert` of 0.2.5. If an equal key is
+    /// stored, that key stays, and the one that was passed in is dropped. If several threads insert
+    /// equal keys at once, only one call returns `true`, unless the key is removed in between.
     ///
     /// # Errors
     ///
-    /// Fails with `Refused::Memory` if an allocation fails, with `Refused::Capacity` if an arena is
-    /// full or a next table would be too long, and with `Refused::Limit` if the set has a limit on
-    /// keys, and as many are stored or about to be. The call then changes nothing.
+    /// Fails with `Refused::Memory` if an allocation fails, with `Refused::Capacity` if the arena
+    /// of tables is full or a next table would be too long, and with `Refused::Limit` if the set's
+    /// limit on keys is reached. The call then changes no key.
     ///
     /// # Examples
     ///

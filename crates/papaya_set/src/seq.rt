@@ -20,8 +20,8 @@ use std::alloc::Global;
 use std::hash::{BuildHasher, BuildHasherDefault, FoldHasher, Hash};
 use std::marker::Model;
 
-/// A hash set for one caller: `papaya::HashSet` for where a `&mut` will do, as
-/// [`papaya_seq::seq::HashMap`] is for the map.
+/// A hash set for one caller: changes take `&mut self`. It ports `papaya::HashSet` as
+/// [`papaya_seq::seq::HashMap`] ports the map.
 ///
 /// Contracts see it as the map of its keys to unit values, so its clauses are the map's. The
 /// arena keeps removed keys, and keys that were inserted while an equal one was stored, until
@@ -166,7 +166,7 @@ impl<K: Hash + Eq + Drop> HashSet<K, BuildHasherDefault<FoldHasher>> {
 
 impl<K: Hash + Eq, S: BuildHasher> HashSet<K, S> {
     /// Returns the map of the set's keys to unit values. It has calls that the set lacks, such as
-    /// for the number of slots of the root table and for a copy under way.
+    /// `slots` and `resizing`.
     pub fn map(&self) -> &HashMap<K, (), S>
         ensures { result.now ≡ self.now }
     {

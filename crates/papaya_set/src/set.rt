@@ -82,9 +82,9 @@ impl<K: Hash + Eq + Drop, S: BuildHasher + Drop> HashSet<K, S> {
         })
     }
 
-    /// Creates a set for `capacity` keys with this hasher: `with_capacity_and_hasher` of 0.2.5. It
-    /// resizes by [`ResizeMode::default`], and counts over [`papaya_words::limits::DEFAULT_SHARDS`]
-    /// shards.
+    /// Creates an empty set with this hasher, whose first table has room for `capacity` keys:
+    /// `with_capacity_and_hasher` of 0.2.5. It resizes by [`ResizeMode::default`], and counts over
+    /// [`papaya_words::limits::DEFAULT_SHARDS`] shards.
     ///
     /// # Errors
     ///

@@ -34,11 +34,11 @@ impl<'a, K: Hash + Eq + Drop, V: Drop, S: BuildHasher> HashMapRef<'a, K, V, S> {
     /// # Errors
     ///
     /// - `Refused::Memory` if an allocation fails.
-    /// - `Refused::Capacity` if the arena of entries or that of tables is full: it gave a number
-    ///   past its limit. Also if the next table would be too long, by the length of a table that
-    ///   the pass has observed and the sum of the count. Contracts then observe that number or that
-    ///   sum.
-    /// - `Refused::Limit` if the map has a limit on entries, and as many are stored or about to be.
+    /// - `Refused::Capacity` if the arena of tables is full, or if the next table would be too
+    /// long. Contracts then see the cause: the number that the arena gave, or the length of an
+    /// observed table and the sum of the count.
+    /// - `Refused::Limit` if the map has a limit on entries, and that many numbers were taken for
+    /// entries.
     #[inline(always)]
     pub fn insert_as<R: Wait>(
         &self,
@@ -76,8 +76,8 @@ impl<'a, K: Hash + Eq + Drop, V: Drop, S: BuildHasher> HashMapRef<'a, K, V, S> {
     }
 
     /// Inserts a key-value pair, and returns the key's old value, or `None` if the key was absent:
-    /// `insert` of 0.2.5. As there, a stored key stays, and the key that was passed in is dropped.
-    /// The old entry stays in memory until [`HashMap::reclaim`].
+    /// `insert` of 0.2.5. As the documentation of 0.2.5 says, a stored key stays, and the key that
+    /// was passed in is dropped. The old entry stays in memory until [`HashMap::reclaim`].
     ///
     /// # Errors
     ///
@@ -218,7 +218,8 @@ impl<'a, K: Hash + Eq + Drop, V: Drop, S: BuildHasher> HashMapRef<'a, K, V, S> {
 
 impl<K: Hash + Eq + Drop, V: Drop, S: BuildHasher> HashMap<K, V, S> {
     /// Inserts a key-value pair, and returns the key's old value, or `None` if the key was absent:
-    /// `insert` of 0.2.5. As there, a stored key stays, and the key that was passed in is dropped.
+    /// `insert` of 0.2.5. As the documentation of 0.2.5 says, a stored key stays, and the key that
+    /// was passed in is dropped.
     ///
     /// # Errors
     ///

@@ -58,10 +58,10 @@ fn pairs_for(initial: usize, pairs: usize) -> usize
 }
 
 impl<K: Hash + Eq + Drop, V: Drop, S: BuildHasher + Drop> HashMap<K, V, S> {
-    /// Creates an empty map from all its settings. The first table has room for `capacity` entries;
-    /// if that is 0, the first change creates it. `shards` is rounded up to a power of two. With a
-    /// `limit` the map stores at most that many entries, including those replaced or removed. Its
-    /// collector has number 0.
+    /// Creates an empty map with all settings passed in. The first table has room for `capacity`
+    /// entries. If `capacity` is 0, the first change creates the table, with 32 slots. `shards` is
+    /// rounded up to a power of two. With a `limit` the map stores at most that many entries,
+    /// including those replaced or removed. Its collector has number 0.
     ///
     /// # Errors
     ///
@@ -228,8 +228,8 @@ impl<K: Hash + Eq + Drop, V: Drop, S: BuildHasher + Clone + Drop> HashMap<K, V, 
 
 impl<K: Hash + Eq + Drop, V: Drop> HashMap<K, V, BuildHasherDefault<FoldHasher>> {
     /// Creates an empty map: `new` of 0.2.5. Its first change allocates the first table, of 32
-    /// slots. The hasher has a fixed seed, where that of 0.2.5 has a random one. If attackers pick
-    /// the keys, pass a `RandomState` to [`HashMap::with_hasher`].
+    /// slots. The hasher has a fixed seed; in 0.2.5 the seed is random. If attackers pick the keys,
+    /// pass a `RandomState` to [`HashMap::with_hasher`].
     ///
     /// # Errors
     ///

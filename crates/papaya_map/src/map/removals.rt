@@ -72,7 +72,9 @@ impl<'a, K: Hash + Eq, V, S: BuildHasher> HashMapRef<'a, K, V, S> {
 
     /// Removes a key's entry if the closure returns `true` for it: `remove_if` of 0.2.5.
     ///
-    /// Returns as [`HashMapRef::remove_if_as`] does.
+    /// Returns `Ok(None)` if the key is absent, `Ok(Some(entry))` if this entry was removed, and
+    /// `Err(entry)` if the closure returned `false` for it. The closure may be called again if
+    /// another call replaces or removes the entry meanwhile.
     ///
     /// # Errors
     ///

@@ -25,9 +25,9 @@ use std::sync::Wait;
 
 impl<'a, K: Hash + Eq, V, S: BuildHasher> HashMapRef<'a, K, V, S> {
     /// Removes the entries for which the closure returns `false`: `retain` of 0.2.5. The closure is
-    /// called with each entry. It may be called with the entry of a key again if another call
-    /// replaces that entry meanwhile, or if this call meets a copy to a next table: then it
-    /// finishes the copy, and begins again.
+    /// called with each entry. It may be called again for a key if another call replaces the key's
+    /// entry meanwhile, or if this call meets a resize: then it finishes the resize and begins
+    /// again.
     ///
     /// # Errors
     ///
@@ -133,10 +133,10 @@ impl<'a, K: Hash + Eq, V, S: BuildHasher> HashMapRef<'a, K, V, S> {
         }
     }
 
-    /// Returns an iterator over the entries: `iter` of 0.2.5. It returns each entry that is in the
-    /// map as the call begins, if no call removes or replaces it meanwhile. An entry that is
-    /// stored, replaced or removed meanwhile may be returned or not. Before it returns, the call
-    /// may copy entries to a next table, as [`HashMapRef::iter_as`] does.
+    /// Returns an iterator over the entries: `iter` of 0.2.5. It yields each entry that is in the
+    /// map when the call begins, unless a call removes or replaces it meanwhile. It may or may not
+    /// yield an entry that is stored, replaced or removed meanwhile. The call may first finish a
+    /// resize, as [`HashMapRef::iter_as`] does.
     ///
     /// # Errors
     ///

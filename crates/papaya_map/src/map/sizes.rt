@@ -6,11 +6,11 @@ use crate::map::{HashMap, HashMapRef};
 use std::hash::{BuildHasher, Hash};
 
 impl<K: Hash + Eq, V, S: BuildHasher> HashMap<K, V, S> {
-    /// Returns the number of entries in the arena: those of the map, those replaced or removed
-    /// since it was made or reclaimed, and those of calls under way. A place that was lost to
-    /// another call counts too. An entry of two numbers takes 24 bytes.
+    /// Returns the number of entries that the arena holds: those in the map, those that were
+    /// replaced or removed since the map was created or reclaimed, and those of calls under way. An
+    /// entry whose insertion lost a race counts too. An entry of two `u64`s takes 24 bytes or more.
     ///
-    /// After `reclaim` it is the number that [`HashMap::len`] returns, if no place was lost.
+    /// After `reclaim` it is what [`HashMap::len`] returns, unless an insertion lost a race since.
     pub fn stored(&self) -> usize {
         self.book.stored()
     }

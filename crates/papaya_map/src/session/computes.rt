@@ -15,13 +15,13 @@ use std::hash::{BuildHasher, Hash};
 use std::sync::Wait;
 
 impl<'a, K: Hash + Eq + Drop, V: Drop, S: BuildHasher> Session<'a, K, V, S> {
-    /// Calls a closure with the key's entry, or `None`, and does what it returns: `compute` of
-    /// 0.2.5. The closure returns what to store, that the entry is removed, or that nothing is
-    /// changed. Its result may not borrow from the entry; in 0.2.5 it may.
+    /// Calls the closure with the key's entry, or with `None` if the key is absent, and performs
+    /// the operation that it returns: `compute` of 0.2.5. The operation inserts a value, removes
+    /// the entry or changes nothing. Its result may not borrow from the entry; in 0.2.5 it may.
     ///
-    /// The closure may be called again if another thread was first to replace or remove the entry:
-    /// what it returned for one entry is done to that entry alone. It is called with `None` once at
-    /// most, since its insertion is remembered.
+    /// The closure may be called again if another thread replaces or removes the entry meanwhile:
+    /// an operation that it returned for one entry is performed only on that entry. It is called
+    /// with `None` at most once, since the call remembers the insertion that it returned.
     ///
     /// # Errors
     ///

@@ -31,14 +31,15 @@ fn not_inserted<V>(supply: Option<Ready<V>>, spare: Option<&V>) -> NotInserted<'
 
 impl<'a, K: Hash + Eq + Drop, V: Drop, S: BuildHasher> Session<'a, K, V, S> {
     /// Inserts a key-value pair, and returns the key's old value, or `None` if the key was absent:
-    /// `insert` of 0.2.5. As there, a stored key stays, and the key that was passed in is dropped.
-    /// The old entry stays in memory until [`HashMap::reclaim`](crate::map::HashMap::reclaim).
+    /// `insert` of 0.2.5. As the documentation of 0.2.5 says, a stored key stays, and the key that
+    /// was passed in is dropped. The old entry stays in memory until
+    /// [`HashMap::reclaim`](crate::map::HashMap::reclaim).
     ///
     /// # Errors
     ///
-    /// Fails with `Refused::Memory` if an allocation fails, with `Refused::Capacity` if an arena is
-    /// full or a next table would be too long, and with `Refused::Limit` if the map's limit on
-    /// entries is reached. The call then changes nothing.
+    /// Fails with `Refused::Memory` if an allocation fails, with `Refused::Capacity` if the arena
+    /// of tables is full or a next table would be too long, and with `Refused::Limit` if the map's
+    /// limit on entries is reached. The call then changes no entry.
     #[inline(always)]
     pub fn insert<R: Wait>(&mut self, rt: &R, key: K, value: V) -> Result<Option<&'a V>, Refused>
         ensures map { self.new.map ≡ self.old.map }
@@ -54,10 +55,10 @@ impl<'a, K: Hash + Eq + Drop, V: Drop, S: BuildHasher> Session<'a, K, V, S> {
         self.map.insert_as(rt, key, value, &mut self.pass)
     }
 
-    /// Inserts an entry if the key is absent, and returns its value: `try_insert` of 0.2.5. If the
-    /// key is present, its value stays, and the error has that value and the one that was passed
-    /// in. The latter may be a reference into the arena, where 0.2.5 always returns the value
-    /// itself.
+    /// Inserts an entry if the key is absent, and returns a reference to its value: `try_insert` of
+    /// 0.2.5. If the key is present, its entry stays, and the error has the current value and the
+    /// value that was not inserted. The second may be a reference into the arena; in 0.2.5 it is
+    /// always the value itself.
     ///
     /// The session makes one change if the value was stored, and otherwise none.
     ///
@@ -100,9 +101,9 @@ impl<'a, K: Hash + Eq + Drop, V: Drop, S: BuildHasher> Session<'a, K, V, S> {
         }
     }
 
-    /// Inserts the value that a closure makes if the key is absent, and returns it:
-    /// `try_insert_with` of 0.2.5. If the key is present, the error is its value. The closure is
-    /// called at most once.
+    /// Inserts the value that the closure returns if the key is absent, and returns a reference to
+    /// it: `try_insert_with` of 0.2.5. If the key is present, the error is its value. The closure
+    /// is called at most once.
     ///
     /// # Errors
     ///
@@ -142,7 +143,7 @@ impl<'a, K: Hash + Eq + Drop, V: Drop, S: BuildHasher> Session<'a, K, V, S> {
         }
     }
 
-    /// Returns the key's value, and first inserts `value` if the key is absent: `get_or_insert` of
+    /// Returns the key's value. If the key is absent, inserts `value` first: `get_or_insert` of
     /// 0.2.5.
     ///
     /// The session makes one change if the value was stored, and otherwise none.
@@ -168,8 +169,8 @@ impl<'a, K: Hash + Eq + Drop, V: Drop, S: BuildHasher> Session<'a, K, V, S> {
         }
     }
 
-    /// Returns the key's value, and first inserts the one that a closure makes if the key is
-    /// absent: `get_or_insert_with` of 0.2.5. The closure is called at most once.
+    /// Returns the key's value. If the key is absent, inserts the value that the closure returns
+    /// first: `get_or_insert_with` of 0.2.5. The closure is called at most once.
     ///
     /// # Errors
     ///

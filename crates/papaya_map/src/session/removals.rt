@@ -15,15 +15,15 @@ use std::sync::Wait;
 impl<'a, K: Hash + Eq, V, S: BuildHasher> Session<'a, K, V, S> {
     /// Removes a key's entry if the closure returns `true` for it: `remove_if` of 0.2.5.
     ///
-    /// Returns `Ok(None)` if the key is absent, `Ok(Some(entry))` if that very entry was removed,
-    /// and `Err(entry)` if the closure returned `false` for it. The closure may be called again if
-    /// another thread was first to replace or remove the entry.
+    /// Returns `Ok(None)` if the key is absent, `Ok(Some(entry))` if this entry was removed, and
+    /// `Err(entry)` if the closure returned `false` for it. The closure may be called again if
+    /// another thread replaces or removes the entry meanwhile.
     ///
     /// # Errors
     ///
     /// A removal allocates nothing for itself. If it helps to copy the table, it may fail with
-    /// `Refused::Memory` or `Refused::Capacity` as [`Session::insert`] does, and then changes
-    /// nothing.
+    /// `Refused::Memory` or `Refused::Capacity` as [`Session::insert`] does, and then changes no
+    /// entry.
     pub fn remove_if<R: Wait, Q: Equivalent<K>, F: FnMut(&K, &V) -> bool>(
         &mut self,
         rt: &R,
@@ -44,7 +44,8 @@ impl<'a, K: Hash + Eq, V, S: BuildHasher> Session<'a, K, V, S> {
             .remove_if_as(rt, key, should_remove, &mut self.pass)
     }
 
-    /// Removes a key's entry, and returns its value, if any: `remove` of 0.2.5.
+    /// Removes a key's entry and returns its value, or returns `None` if the key is absent:
+    /// `remove` of 0.2.5.
     ///
     /// # Errors
     ///
@@ -66,7 +67,8 @@ impl<'a, K: Hash + Eq, V, S: BuildHasher> Session<'a, K, V, S> {
         self.map.remove_as(rt, key, &mut self.pass)
     }
 
-    /// Removes a key's entry, and returns it, if any: `remove_entry` of 0.2.5.
+    /// Removes a key's entry and returns it, or returns `None` if the key is absent: `remove_entry`
+    /// of 0.2.5.
     ///
     /// # Errors
     ///

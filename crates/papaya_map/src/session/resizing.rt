@@ -13,9 +13,10 @@ use std::hash::{BuildHasher, Hash};
 use std::sync::Wait;
 
 impl<'a, K: Hash + Eq, V, S: BuildHasher> Session<'a, K, V, S> {
-    /// Reserves room for `additional` more entries than the map counts: `reserve` of 0.2.5. If it
-    /// succeeds, the session has observed a table with slots for them beside the entries counted.
-    /// If no other call changes the map meanwhile, that is its table. Other calls go on as before.
+    /// Reserves room for `additional` more entries: `reserve` of 0.2.5. If it succeeds, the session
+    /// has observed a table with slots for them and for the entries that the map counts. If no
+    /// other call changes the map meanwhile, this is the map's root table. Other calls are not
+    /// blocked.
     ///
     /// # Errors
     ///

@@ -15,23 +15,23 @@ use std::hash::{BuildHasher, Hash};
 use std::sync::Wait;
 
 impl<'a, K: Hash + Eq, V, S: BuildHasher> Session<'a, K, V, S> {
-    /// Removes the entries for which the closure returns `false`: `retain` of 0.2.5. The closure is
-    /// called with entries that were in the map, in a history that begins with what the session had
-    /// observed. It may be called with the entry of a key again if another thread replaces that
-    /// entry meanwhile, or if the call meets a copy to a next table: then it finishes the copy, and
-    /// begins again.
+    /// Removes the entries for which the closure returns `false`: `retain` of 0.2.5. Each entry
+    /// with which the closure is called was in the map at some state between what the session had
+    /// observed before the call and what it has observed afterwards. The closure may be called
+    /// again for a key if another thread replaces the key's entry meanwhile, or if the call meets a
+    /// resize: then it finishes the resize and begins again.
     ///
-    /// If the call succeeds, each entry that the map had after what the session had observed was
-    /// removed since, by this call or another, or the closure last returned `true` for it. The
-    /// closure may be called with an entry that is stored meanwhile, or not. The session makes one
-    /// change for each entry that this call removed, right after the closure returned `false` for
-    /// it, whether the call fails or not.
+    /// If the call succeeds, each entry that the session had observed in the map was removed since,
+    /// by this call or another, or the closure last returned `true` for it. The closure may or may
+    /// not be called with an entry that is stored meanwhile. Whether the call succeeds or fails,
+    /// the session has made one change for each entry that this call removed, right after the
+    /// closure returned `false` for it.
     ///
     /// # Errors
     ///
-    /// If the call meets a copy under way, it copies what is left to copy, and may need a table.
-    /// Then it fails with `Refused::Memory` if an allocation fails, and with `Refused::Capacity` if
-    /// there is no room, as at an insertion. Removed entries stay removed.
+    /// If a resize is under way, the call finishes it first and may need another table. It then
+    /// fails with `Refused::Memory` if an allocation fails, and with `Refused::Capacity` if there
+    /// is no room, as [`Session::insert`] does. Entries that it has removed stay removed.
     pub fn retain<R: Wait, F: FnMut(&K, &V) -> bool>(
         &mut self,
         rt: &R,
@@ -62,10 +62,10 @@ impl<'a, K: Hash + Eq, V, S: BuildHasher> Session<'a, K, V, S> {
         retained
     }
 
-    /// Removes all entries that are in the map as the call begins: `clear` of 0.2.5. If it
-    /// succeeds, each entry that the map had after what the session had observed was removed since,
-    /// by this call or another. An entry that is stored meanwhile may stay. The session makes one
-    /// change for each entry that this call removed, and no other.
+    /// Removes all entries that are in the map when the call begins: `clear` of 0.2.5. If it
+    /// succeeds, each entry that the session had observed in the map was removed since, by this
+    /// call or another. An entry that is stored meanwhile may stay. The session makes one change
+    /// for each entry that this call removes, and no other.
     ///
     /// # Errors
     ///
@@ -89,13 +89,14 @@ impl<'a, K: Hash + Eq, V, S: BuildHasher> Session<'a, K, V, S> {
         )
     }
 
-    /// Returns an iterator over the map's entries: `iter` of 0.2.5. The session is free for other
-    /// calls meanwhile, and learns by [`Session::learn_walk`] what the iterator has observed. Each
-    /// entry that this session has observed in the map is returned, if no call removes or replaces
-    /// it meanwhile. An entry that is stored, replaced or removed meanwhile may be returned or not.
+    /// Returns an iterator over the map's entries: `iter` of 0.2.5. The session can make other
+    /// calls meanwhile, and takes over what the iterator has observed by [`Session::learn_walk`].
+    /// The iterator yields each entry that this session has observed in the map, unless a call
+    /// removes or replaces it meanwhile. It may or may not yield an entry that is stored, replaced
+    /// or removed meanwhile.
     ///
-    /// With `ResizeMode::Blocking` the iterator takes the root as it is. Otherwise the call first
-    /// copies what is left to copy.
+    /// With `ResizeMode::Incremental` the call first finishes a resize that is under way. With
+    /// `ResizeMode::Blocking` it does not.
     ///
     /// # Errors
     ///

@@ -16,9 +16,9 @@ use std::hash::{BuildHasher, Hash};
 use std::sync::Wait;
 
 impl<'a, K: Hash + Eq + Drop, V: Drop, S: BuildHasher> Session<'a, K, V, S> {
-    /// Replaces the key's value by the one that the closure computes from it, and returns the new
+    /// Replaces the key's value with the result of calling the closure with it, and returns the new
     /// value: `update` of 0.2.5. Returns `Ok(None)` if the key is absent. The closure may be called
-    /// again if another thread was first to replace the value.
+    /// again if another thread replaces or removes the value meanwhile.
     ///
     /// The session makes one change if a value was replaced, and otherwise none.
     ///
@@ -86,9 +86,9 @@ impl<'a, K: Hash + Eq + Drop, V: Drop, S: BuildHasher> Session<'a, K, V, S> {
         }
     }
 
-    /// Replaces the key's value by the one that the closure computes from it, or inserts `value` if
-    /// the key is absent, and returns the key's new value: `update_or_insert` of 0.2.5. The closure
-    /// may be called again if another thread was first to replace the value.
+    /// Replaces the key's value with the result of calling the closure with it, or inserts `value`
+    /// if the key is absent: `update_or_insert` of 0.2.5. Returns the key's new value. The closure
+    /// may be called again if another thread replaces or removes the value meanwhile.
     ///
     /// The session makes one change, or none if the call fails.
     ///
@@ -118,8 +118,9 @@ impl<'a, K: Hash + Eq + Drop, V: Drop, S: BuildHasher> Session<'a, K, V, S> {
         self.upsert(rt, key, update, Ready { value })
     }
 
-    /// Updates as [`Session::update_or_insert`] does, with a value that a second closure makes if
-    /// the key is absent: `update_or_insert_with` of 0.2.5. That closure is called at most once.
+    /// Updates as [`Session::update_or_insert`] does, but inserts the result of a second closure if
+    /// the key is absent: `update_or_insert_with` of 0.2.5. The second closure is called at most
+    /// once.
     ///
     /// # Errors
     ///
