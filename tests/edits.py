@@ -7,9 +7,10 @@ An edit has the lines of those in must-fail/, and before them `fn:`, the functio
 it below its crate. In the copy the spoiled function stands beside the right one, under a name of its own, with the
 same contract and the same answers by hand. So nothing calls it, and a function may have many edits. A method of a
 trait and a function whose whole proof is by hand can stand there but once: these are spoiled themselves, and no
-other function that is tried may call them. A copy's check looks at the spoiled functions and at what they call, and
-at nothing else. Each of them has to be refused at a goal of its own, and all others be proved. A copy whose edits an
-earlier run on this machine saw refused, over all that it reads, is not tried again.
+other function that is tried may call them. A copy's check looks at the spoiled functions, and takes what they call at
+its word (standing.py): `rt ci` proves that. Each of them has to be refused at a goal of its own, and methods of traits
+that they call be proved. A copy whose edits an earlier run on this machine saw refused, over all that it reads, is not
+tried again.
 """
 
 import os
@@ -19,8 +20,12 @@ import sys
 
 from kept import Try
 from prover import LOST, NAMED, TOP, Bad, Change, below, check, copy_of, digest, entries_of, try_all, verdicts_of
+from standing import is_of_trait, take_at_word
 
 TOGETHER = "must-fail-together"
+
+# What a check with holes says of a function that is proved, or would be without them.
+STANDS = ("no holes", "depends on a hole")
 
 # So many edits at most are made in one copy: a check of more would keep one processor long after all else.
 AT_ONCE = 60
@@ -37,17 +42,6 @@ def extents(lines, name):
                 head -= 1
             found.append((head, last))
     return found
-
-
-def is_of_trait(lines, head):
-    """Does the function that begins here stand in a trait, or in an `impl` of one?"""
-    if not lines[head].startswith(" "):
-        return False
-    begins = max(at for at in range(head) if re.match(r"(impl|(pub(\(.*?\))? )?trait)\b", lines[at]))
-    # (a long head goes on in further lines)
-    ends = next(at for at in range(begins, head) if lines[at].endswith("{"))
-    block = " ".join(it.strip() for it in lines[begins : ends + 1])
-    return bool(re.match(r"impl\b.* for |.*\btrait ", block))
 
 
 class Edit(Change):
@@ -145,6 +139,7 @@ def make_copy(room, crate, edits):
     copy_of(crate, f"{room}/{crate}")
     for number, edit in enumerate(edits):
         edit.make(f"{TOP}/crates/{crate}", f"{room}/{crate}", number)
+    take_at_word(f"{room}/{crate}", crate, [it.function for it in edits])
     return Try("edits", room, crate, [], [(it.name, it.words, it.pairs) for it in edits])
 
 
@@ -155,11 +150,11 @@ def try_copy(room, crate, edits):
     if earlier:
         return [it.replace(": refused, as it must be: ", ": refused by an earlier run: ", 1) for it in earlier]
     places = [it.place(f"{room}/{crate}") for it in edits]
-    said = check(room, crate, [], [it.function for it in edits])
+    said = check(room, crate, [], [it.function for it in edits], "--allow-holes")
     verdicts = {it.removeprefix(f"{crate}::"): verdict for it, verdict in verdicts_of(said).items()}
-    others = [it for it, verdict in verdicts.items() if verdict != "proved" and not any(edit.is_of(it) for edit in edits)]
+    others = [it for it, verdict in verdicts.items() if verdict not in STANDS and not any(edit.is_of(it) for edit in edits)]
     if others or not verdicts:
-        raise Bad(f"{crate}: these are not proved beside the edits: {' '.join(others) or 'all'}\n{digest(said)}")
+        raise Bad(f"{crate}: these do not stand beside the edits: {' '.join(others) or 'all'}\n{digest(said)}")
     told = []
     for edit, place in zip(edits, places):
         verdict, lines = verdicts.get(edit.function), edit.told(crate, place, said)
@@ -173,7 +168,7 @@ def try_copy(room, crate, edits):
 
 def copies_of(crate):
     """The edits of a crate, by the copies in which they are made. Those of one file stand beside each other: what
-    their functions call is much the same, and each copy proves that once."""
+    their functions cite is much the same, and each copy reads that once."""
     edits = [Edit(crate, it) for it in sorted(os.listdir(f"{TOP}/crates/{crate}/{TOGETHER}"))]
     edits.sort(key=lambda it: (it.file, it.function))
     copies = -(-len(edits) // AT_ONCE)

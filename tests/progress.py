@@ -57,8 +57,8 @@ def refused(room, what):
 
 
 def unproved(room):
-    """How many crates of tests are compiled so far without a proof."""
-    return len([it for it in glob.glob(f"{room}/programs/*_tests") if os.path.isfile(it)])
+    """Are the tests compiled that are not proved?"""
+    return any(os.path.isfile(it) for it in glob.glob(f"{room}/programs/*_tests"))
 
 
 def done(room, every, with_tests):
@@ -70,7 +70,7 @@ def done(room, every, with_tests):
     parts = [f"{len(proved)} of {len(every)} crates proved, the tests of {len(tested)} of {len(with_tests)}"]
     for what, files in [("edits", "crates/*/must-fail-together"), ("twins", "tests/twins")]:
         parts.append(f"{refused(room, what)} of {len(glob.glob(f'{TOP}/{files}/*.edit'))} {what} refused")
-    parts.append(f"{unproved(room)} of {len(glob.glob(f'{TOP}/tests/crates/*/'))} crates of unproved tests compiled")
+    parts.append(f"unproved tests {'' if unproved(room) else 'not yet '}compiled")
     begun = [it for it in every if it not in proved and os.path.isdir(out[it])]
     begun += [f"{it} (its tests)" for it in with_tests if it in proved and it not in tested]
     return parts, begun

@@ -120,7 +120,7 @@ def copy_of(crate, to):
             shutil.copytree(f"{TOP}/crates/{crate}/{part}", f"{to}/{part}")
 
 
-def check(folder, crate, changed, functions):
+def check(folder, crate, changed, functions, *more):
     """What a check of these functions of the crate says. The crate and those in `changed`, on which it
     stands, are read from their copies below the folder. The last line is the time that it took."""
     words = [f"{KIT}/bin/rattle", "check", "--crate-name", crate, "src/lib.rt", "--links", f"{crate}=", "--jobs", "1"]
@@ -135,11 +135,12 @@ def check(folder, crate, changed, functions):
             words += ["--extern", f"{name}={library_of(name)}"]
     folders = [f"{KIT}/rlibs", *(os.path.dirname(library_of(it)) for it in ours if it not in changed)]
     words += [word for it in folders for word in ("-L", f"dependency={it}")]
-    words += ["--antt-project", f"{KIT}/rattle/logic/antt-project.json", "--logic-built", f"{KIT}/logic_built"]
+    words += ["--antt-project", f"{KIT}/rattle/logic/antt-project.json", "--logic-built", f"{KIT}/logic_built", *more]
     words += [word for it in functions for word in ("--only", it)]
     with tempfile.TemporaryFile("w+", encoding="utf-8") as said:
         how = {"stdin": subprocess.DEVNULL, "stdout": said, "stderr": subprocess.STDOUT}
-        _, _, used = os.wait4(subprocess.Popen(words, cwd=f"{folder}/{crate}", **how).pid, 0)
+        process = subprocess.Popen(words, cwd=f"{folder}/{crate}", **how)
+        _, _, used = os.wait4(process.pid, 0)
         said.seek(0)
         return f"{said.read()}\ntook {used.ru_utime + used.ru_stime:.0f} s of a processor\n"
 
@@ -151,7 +152,7 @@ def library_of(name):
 
 def verdicts_of(said):
     """What the check says of each function, by its whole name."""
-    return dict(re.findall(r"^fn (\S+): (proved|not proved|no proof|could not tell)", said, re.M))
+    return dict(re.findall(r"^fn (\S+): (proved|not proved|no proof|could not tell|no holes|depends on a hole)", said, re.M))
 
 
 def entries_of(said):
@@ -161,7 +162,7 @@ def entries_of(said):
 
 def digest(said):
     """What a check says of the functions that it refuses, and the places that it names."""
-    lines = [it for it in said.split("\n") if re.match(r"fn \S+: (?!proved)|(note: )?\S+:\d+:\d+: ", it)]
+    lines = [it for it in said.split("\n") if re.match(r"fn \S+: (?!proved|no holes|depends on a hole)|(note: )?\S+:\d+:\d+: ", it)]
     return "\n".join(f"    {it[:200]}" for it in lines or said.split("\n")[-5:])
 
 

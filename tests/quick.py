@@ -2,7 +2,7 @@
 
     bash tests/quick.sh [CRATE..]
 
-The parts: each crate of tests, each program on its files stdin and stdout, the runs of papaya-run, the tests with
+The parts: the crates of tests, each program on its files stdin and stdout, the runs of papaya-run, the tests with
 requests for memory refused to them, the programs of examples/, and what the scripts say themselves. With names: these
 crates of tests and programs alone. Nothing is proved, and no wrong body is tried: that is the gate, .ci/run. The last
 line is `N passed, M failed`.
@@ -17,7 +17,7 @@ import time
 from concurrent.futures import ThreadPoolExecutor
 
 from prover import NAMED, TOP, Bad, lanes
-from run_tests import MOST_SECONDS, count, make, ran, run
+from run_tests import MOST_SECONDS, count, make, make_together, ran, run, run_together
 from unproved import EVERY, compiled, files_of, is_program
 
 # The memory that one crate takes to compile, in kB.
@@ -28,6 +28,12 @@ def run_tests(room, crate):
     """Compiles and runs the tests of a crate."""
     make(crate, room)
     return run(crate, room)
+
+
+def run_unproved(room):
+    """Compiles and runs the tests of all crates of tests/crates."""
+    make_together(room)
+    return run_together(room)
 
 
 def run_program(room, crate):
@@ -89,7 +95,7 @@ def crates_alone(room, names):
 
 def side_by_side(room):
     """The parts that go on beside each other."""
-    parts = crates_alone(room, EVERY)
+    parts = [("tests/crates", run_unproved, room), *crates_alone(room, NAMED)]
     for name in ("papaya_run.sh", "readme_code.sh", "take.sh", "kit.sh"):
         parts.append((name, ran, "bash", f"{TOP}/tests/{name}"))
     parts.append(("sentences.py", ran, "python3", "-B", f"{TOP}/tests/sentences.py"))

@@ -2,8 +2,8 @@
 
     python3 tests/refused.py [--programs FOLDER] [CRATE..]
 
-What runs is the program of the tests that stands in the folder (tests/run_tests.py), or else the one that `rt ci` or `rt test` has
-proved and built. Tests of the first kind run once for
+What runs is the program of the crate's tests that stands in the folder, or the one there of all tests that are not
+proved (tests/run_tests.py), or else the one that `rt ci` or `rt test` has proved and built. Tests of the first kind run once for
 each request that they make, with just that one refused. Those of the second kind run once, and tell what is to
 be refused, while a call of theirs runs: a request for a number of bytes that no test needs is a word (crate
 papaya_testing). By such a word a test also tells which request is to be answered late, when other threads are done.
@@ -116,6 +116,9 @@ void *realloc(void *block, size_t size) {
 }
 """
 
+# The program of the tests that are not proved (tests/unproved.py).
+TOGETHER = "papaya_tests"
+
 # Of one run, in seconds. A loaded machine takes far longer than one that does nothing else.
 MOST_SECONDS = 600
 
@@ -138,7 +141,9 @@ class Tests:
         self.program, self.crate, self.folder, self.library = program, crate, folder, library
         lines = subprocess.run([self.program, "--list"], check=True, capture_output=True, text=True).stdout
         names = [it.removesuffix(": test") for it in lines.splitlines() if it.endswith(": test")]
-        self.names = [it for it in names if word in it]
+        # (where the program has the tests of many crates, each is a module)
+        own = [it for it in names if it.startswith(f"{crate}::")] or names
+        self.names = [it for it in own if word in it]
 
     def run(self, name, number=None):
         """How many requests were refused, and did the test pass?"""
@@ -198,8 +203,9 @@ def refuse_told(tests):
 
 def program_of(crate, programs):
     """The program of a crate's tests."""
-    compiled = f"{programs}/{crate}"
-    return compiled if programs and os.path.exists(compiled) else f"{TOP}/crates/{crate}/out/{crate}_tests"
+    built, stands = f"{TOP}/crates/{crate}/out/{crate}_tests", os.path.isdir(f"{TOP}/crates/{crate}")
+    compiled = [f"{programs}/{it}" for it in ([crate] if stands else [crate, TOGETHER])] if programs else []
+    return next((it for it in compiled if os.path.exists(it)), built)
 
 
 def main(words):

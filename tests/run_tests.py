@@ -2,9 +2,9 @@
 
     python3 tests/run_tests.py FOLDER
 
-The programs of the tests stay in the folder. Each crate passes if its files are laid out, and each of its tests is run
-and passes. Where RT_CI is the number of the process in which `rt ci` runs, the crates are compiled beside it, one after
-the other, and the tests run when it has ended: some of them tell times. The last line is `N passed, M failed`.
+The program of the tests stays in the folder. Each crate passes if its files are laid out, and each of its tests is run
+and passes. Where RT_CI is the number of the process in which `rt ci` runs, the crates are compiled beside it, and the
+tests run when it has ended: some of them tell times. The last line is `N passed, M failed`.
 """
 
 import os
@@ -15,7 +15,7 @@ import tempfile
 import time
 
 from prover import KIT, TOP, Bad, is_proving
-from unproved import TESTS, compiled, files_of, stop_on_layout
+from unproved import TESTS, TOGETHER, compiled, files_of, stop_on_layout
 
 # The seconds that one test may take on a loaded machine.
 MOST_SECONDS = 600
@@ -40,8 +40,9 @@ def ran(*words, **how):
 
 
 def run(crate, room):
-    """Runs the tests of a crate, whose program stands in the folder."""
-    words = [f"{KIT}/bin/rattle-test", "--seconds", str(MOST_SECONDS), f"{room}/{crate}"]
+    """Runs the tests of a crate, whose program stands in the folder, of its own or with the tests of others."""
+    words, own = [f"{KIT}/bin/rattle-test", "--seconds", str(MOST_SECONDS)], f"{room}/{crate}"
+    words += [own] if os.path.exists(own) else ["--filter", f"{crate}::", f"{room}/{TOGETHER}"]
     with tempfile.TemporaryDirectory(dir=room) as empty:
         passed, failed, said = ran(*words, cwd=empty)
     # (a file that no other one names has tests that are not run)
@@ -56,23 +57,34 @@ def make(crate, room):
     compiled(crate, room)
 
 
+def make_together(room):
+    """Compiles the tests of all crates of tests/crates into one program in the folder."""
+    for crate in TESTS:
+        stop_on_layout(crate)
+    compiled(TOGETHER, room)
+
+
+def run_together(room):
+    """Runs the tests of all crates of tests/crates: how many passed and failed, and what those of a crate printed where one failed."""
+    passed, failed, said = 0, 0, []
+    for crate in TESTS:
+        well, badly, told = run(crate, room)
+        passed, failed = passed + well, failed + badly
+        said.append(f"{told[-4000:]}\n" * bool(badly) + f"{crate}: {well} passed, {badly} failed")
+    return passed, failed, "\n".join(said)
+
+
 def main(room):
     os.makedirs(room, exist_ok=True)
-    passed = failed = 0
-    for crate in TESTS:
-        try:
-            make(crate, room)
-        except Bad as why:
-            failed += 1
-            print(f"{crate}: {why}", flush=True)
+    try:
+        make_together(room)
+    except Bad as why:
+        print(f"{why}\nrun_tests.py: 0 passed, 1 failed")
+        return 1
     while is_proving():
         time.sleep(3)
-    for crate in TESTS:
-        if os.path.exists(f"{room}/{crate}"):
-            well, badly, said = run(crate, room)
-            passed, failed = passed + well, failed + badly
-            print(f"{said[-4000:]}\n" * bool(badly) + f"{crate}: {well} passed, {badly} failed", flush=True)
-    print(f"run_tests.py: {passed} passed, {failed} failed")
+    passed, failed, said = run_together(room)
+    print(f"{said}\nrun_tests.py: {passed} passed, {failed} failed")
     return 1 if failed or not passed else 0
 
 
