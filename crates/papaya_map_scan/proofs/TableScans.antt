@@ -1,5 +1,5 @@
 -- Facts about a table and about a closure that stay true, whatever is observed next.
-use Rattle.std.proofs.Common.{ℕ, suc, ◌+◌, ◌-◌, ◌<◌, ◌≤◌, Bool, MatchOption, Option, None, Some, List, [], ◌∷◌, length, map, slice_get, ◌≡◌, refl, sym, ap, ◌∙◌, subst, arith}
+use Rattle.std.proofs.Common.{ℕ, zero, suc, ◌+◌, ◌-◌, ◌<◌, ◌≤◌, Bool, MatchOption, Option, None, Some, List, [], ◌∷◌, length, map, slice_get, slice_index_or, ◌≡◌, refl, sym, ap, ◌∙◌, subst, arith}
 use mathlib.Core.List.{IsPrefix}
 use denote.Bor.{Bor}
 use Rattle.logbook.specs.Pages.{Named as Word}
@@ -104,10 +104,22 @@ last_later log log' t len (word ∷ words) pre (most, here, after) = (
   last_later log log' t len words pre after,
 )
 
--- no more than the table has
-pub last_most : {K V S : Type 0} (log : List (Event K V S)) (t len : ℕ) (words : List Word) → AreLast log t len words → length words ≤ len
-last_most log t len [] h = omega arith
-last_most log t len (word ∷ words) (most, here, after) = most
+-- each of them by its place
+last_at : {K V S : Type 0} (log : List (Event K V S)) (t len : ℕ) (words : List Word) → AreLast log t len words → (i : ℕ) (x : Word) → i < length words
+    → x ≡ slice_index_or words i x → IsSlotAt log t (len - length words + i) x
+last_at log t len [] h i x less is = absurd (omega (arith, less))
+last_at log t len (word ∷ words) (most, here, after) zero x less is =
+    let place : len - suc (length words) ≡ len - suc (length words) + 0 = omega arith in
+    subst (λ (n : ℕ). IsSlotAt log t n x) place (subst (λ (z : Word). IsSlotAt log t (len - suc (length words)) z) (sym is) here)
+last_at log t len (word ∷ words) (most, here, after) (suc i) x less is =
+    let place : len - length words + i ≡ len - suc (length words) + suc i = omega (arith, most) in
+    subst (λ (n : ℕ). IsSlotAt log t n x) place (last_at log t len words after i x (omega (arith, less)) is)
+
+pub slot_at : {K V S : Type 0} (log : List (Event K V S)) (t : ℕ) (words : List Word) → AreLast log t (length words) words → (i : ℕ) (x : Word)
+    → i < length words → x ≡ slice_index_or words i x → IsSlotAt log t i x
+slot_at log t words h i x less is =
+    let place : length words - length words + i ≡ i = omega arith in
+    subst (λ (n : ℕ). IsSlotAt log t n x) place (last_at log t (length words) words h i x less is)
 
 -- the slots of a table that are its last ones
 module _ {K V S : Type 0} (log : List (Event K V S)) (t : ℕ) (sheet : Sheet) (h : calls.IsTable log t sheet) where
@@ -130,21 +142,19 @@ module _ {K V S : Type 0} (log : List (Event K V S)) (t : ℕ) (sheet : Sheet) (
 -- a walk begins with all slots of the root, or with none
 pub all_left : {K V S : Type 0} (eq : K → K → Bool) (b : Begun K V S) (began log : List (Event K V S)) (t : ℕ) (sheet : Sheet) (words : List Word)
     → IsPrefix began log → calls.IsTable log t sheet → taking.IsTaken b began log t → words ≡ map (word_named sheet.book) sheet.slots
-    → ArePassed eq b began log t 0 (length sheet.slots) [] → IsLeft eq b began log t (length words) words []
+    → ArePassed eq b began log t 0 (length sheet.slots) [] → IsLeft eq b began log t words 0 []
 all_left eq b began log t sheet words pre h taken is passed =
     let size = named_len sheet.book sheet.slots in
     let all = subst (λ (n : ℕ). AreLast log t n (map (word_named sheet.book) sheet.slots)) (sym size) (all_last log t sheet h) in
-    let none : length (map (word_named sheet.book) sheet.slots) - length (map (word_named sheet.book) sheet.slots) ≡ 0 = omega arith in
-    subst (λ (ws : List Word). IsLeft eq b began log t (length ws) ws []) (sym is) (record {
+    subst (λ (ws : List Word). IsLeft eq b began log t ws 0 []) (sym is) (record {
       since = pre;
       last = all;
       taken = λ some. taken;
-      passed = subst (λ (n : ℕ). ArePassed eq b began log t n (length (map (word_named sheet.book) sheet.slots)) []) (sym none)
-          (subst (λ (n : ℕ). ArePassed eq b began log t 0 n []) (sym size) passed);
+      passed = subst (λ (n : ℕ). ArePassed eq b began log t 0 n []) (sym size) passed;
     })
 
 pub none_left : {K V S : Type 0} (eq : K → K → Bool) (b : Begun K V S) (began log : List (Event K V S)) → IsPrefix began log
-    → ArePassed eq b began log 0 0 0 [] → IsLeft eq b began log 0 0 [] []
+    → ArePassed eq b began log 0 0 0 [] → IsLeft eq b began log 0 [] 0 []
 none_left eq b began log pre passed = record { since = pre; last = tt; taken = λ some. absurd (omega (arith, some)); passed = passed }
 
 -- what a walk gives, once it has gone on

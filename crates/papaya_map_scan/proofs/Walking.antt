@@ -86,41 +86,26 @@ module _ {K V S : Type 0} (eq : K → K → Bool) (b : Begun K V S) (began log l
       (cases_lt x a.place)))
       (so k p has)
 
-  -- so with the first of the slots that are left
-  pub passed_first : (words : List Word) (slot : Word) (later : List Word) → words ≡ slot ∷ later → suc (length later) ≤ len
-      → (given : List (K × V)) (found : Option (Bor K × Bor V))
-      → ((at : List (Event K V S)) → IsTakenAt b began log t at → IsPassed at log' t (len - length words) found)
-      → ArePassed eq b began log t (len - length words) len given → ArePassed eq b began log' t (len - length later) len (with_found given found)
-  passed_first words slot later first most given found here so =
-      subst (λ (n : ℕ). ArePassed eq b began log' t n len (with_found given found)) next (passed_next (len - length words) given found here so)
-    where
-      next : suc (len - length words) ≡ len - length later
-      next = ap (λ (ws : List Word). suc (len - length ws)) first ∙ omega (arith, most)
-
 -- where none was found, there is no entry more
 pub none_found : {K V : Type 0} (given : List (K × V)) (found : Option (Bor K × Bor V)) → is_some found ≡ false → with_found given found ≡ given
 none_found given None is = refl
 none_found given (Some entry) is = absurd (cc is)
 
 -- at the end of the table none is ahead
-pub passed_all : {K V S : Type 0} (eq : K → K → Bool) (b : Begun K V S) (began log : List (Event K V S)) (t len : ℕ) (given : List (K × V))
-    → ArePassed eq b began log t len len given → (k : K) (p : Stored K V) → replay eq (history_of began) k ≡ Some p
+pub passed_all : {K V S : Type 0} (eq : K → K → Bool) (b : Begun K V S) (began log : List (Event K V S)) (t from len : ℕ) (given : List (K × V))
+    → len ≤ from → ArePassed eq b began log t from len given → (k : K) (p : Stored K V) → replay eq (history_of began) k ≡ Some p
     → WasTakenOut (history_of began) (history_of log) p ⊎ IsAmong given p
-passed_all eq b began log t len given so k p has =
-    ⊎_elim (λ out. inl out) (⊎_elim (λ is. inr is) (λ a. let since = a.since in let until = a.until in absurd (omega (arith, since, until)))) (so k p has)
+passed_all eq b began log t from len given over so k p has =
+    ⊎_elim (λ out. inl out) (⊎_elim (λ is. inr is) (λ a. let since = a.since in let until = a.until in absurd (omega (arith, since, until, over)))) (so k p has)
 
 -- so where a walk is over
-pub over_leaves : {K V S : Type 0} (eq : K → K → Bool) (b : Begun K V S) (began log : List (Event K V S)) (t len : ℕ) (words : List Word)
-    (given : List (K × V)) (found : Option (Bor K × Bor V)) → MatchOption found (words ≡ []) (λ entry. Unit {0})
-    → ArePassed eq b began log t (len - length words) len given
+pub over_leaves : {K V S : Type 0} (eq : K → K → Bool) (b : Begun K V S) (began log : List (Event K V S)) (t from len : ℕ)
+    (given : List (K × V)) (found : Option (Bor K × Bor V)) → MatchOption found (len ≤ from) (λ entry. Unit {0})
+    → ArePassed eq b began log t from len given
     → MatchOption found ((k : K) (p : Stored K V) → replay eq (history_of began) k ≡ Some p
     → WasTakenOut (history_of began) (history_of log) p ⊎ IsAmong given p) (λ entry. Unit {0})
-over_leaves eq b began log t len words given (Some entry) over so = tt
-over_leaves eq b began log t len words given None over so =
-    passed_all eq b began log t len given (subst (λ (n : ℕ). ArePassed eq b began log t n len given) (none over) so)
-  where
-    none : words ≡ [] → len - length words ≡ len
-    none is = ap (λ (ws : List Word). len - length ws) is ∙ omega arith
+over_leaves eq b began log t from len given (Some entry) over so = tt
+over_leaves eq b began log t from len given None over so = passed_all eq b began log t from len given over so
 
 module _ {K V S H : Type 0} (eq : K → K → Bool) (input : K → List (List ℕ)) (build : S → H) (write : H → List ℕ → H) (finish : H → ℕ)
     (classes : IsEquivalence eq) (respects : (x y : K) → eq x y ≡ true → input x ≡ input y) (b : Begun K V S)

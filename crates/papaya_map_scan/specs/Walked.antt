@@ -74,15 +74,16 @@ abbrev pub with_found : {K V : Type 0} → List (K × V) → Option (Bor K × Bo
 with_found entries None = entries
 with_found entries (Some entry) = entries ++ (entry.0.now, entry.1.now) ∷ []
 
--- These words of the root's slots are left to scan, and the root was taken if any are left. Each
--- entry that the map had when the iteration began was taken out since, was returned, or is ahead.
+-- These are the words of the root's slots, and the root was taken if it has any. Each entry that
+-- the map had when the iteration began was taken out since, was returned, or is ahead: slots from
+-- `from` on are left to scan.
 pub record IsLeft {K V S : Type 0} (eq : K → K → Bool) (b : Begun K V S)
-    (began log : List (Event K V S)) (t len : ℕ) (words : List Word) (given : List (K × V))
-    : Type 0 where
+    (began log : List (Event K V S)) (t : ℕ) (words : List Word) (from : ℕ)
+    (given : List (K × V)) : Type 0 where
   pub since : IsPrefix began log
-  pub last : AreLast log t len words
+  pub last : AreLast log t (length words) words
   pub taken : 0 < length words → IsTaken b began log t
-  pub passed : ArePassed eq b began log t (len - length words) len given
+  pub passed : ArePassed eq b began log t from (length words) given
 
 -- These references are to the key and the value of an entry that the map had in some history
 -- between the two.

@@ -27,9 +27,9 @@ use std::hash::{BuildHasher, Hash};
 use std::marker::Model;
 
 /// An iterator over the entries of a map, slot by slot of the root that it took: `Iter` of 0.2.5.
-/// It keeps the root's number, its length, and the slots that are left. Contracts see the book, the
-/// history observed when the iteration began, the history observed by now, and what was returned.
-/// It returns each entry that stays in the map while it goes on.
+/// It keeps the root's number, its slots, and how many of them were passed. Contracts see the book,
+/// the history observed when the iteration began, the history observed by now, and what was
+/// returned. It returns each entry that stays in the map while it goes on.
 #[derive(Drop)]
 pub struct Iter<'a, K: Hash + Eq, V, S: BuildHasher> {
     book: &'a Book<K, V, S>,
@@ -37,8 +37,8 @@ pub struct Iter<'a, K: Hash + Eq, V, S: BuildHasher> {
     began: Seen<K, V, S>,
     sight: Seen<K, V, S>,
     number: u64,
-    len: usize,
-    rest: &'a [Cell<K, V, S>],
+    slots: &'a [Cell<K, V, S>],
+    at: usize,
     yielded: Yielded<K, V>,
 }
 
@@ -50,12 +50,12 @@ impl<'a, K: Hash + Eq, V, S: BuildHasher> Model for Iter<'a, K, V, S> {
       began = history_of i.began.log;
       history = history_of i.sight.log;
       given = i.yielded.entries;
-      left = length i.rest.now;
+      left = length i.slots.now - i.at;
     } };
 
     ghost invariant = { λ i. (i.kept ≡ i.book.now.begun.book)
         × (i.sight.book ≡ i.book.now.begun.book)
-        × IsLeft K.eq (begun_of i.book.now.parts) i.began.log i.sight.log i.number i.len i.rest.now
+        × IsLeft K.eq (begun_of i.book.now.parts) i.began.log i.sight.log i.number i.slots.now i.at
         i.yielded.entries };
 }
 
@@ -79,7 +79,7 @@ impl<'a, K: Hash + Eq, V, S: BuildHasher> Iter<'a, K, V, S> {
         ensures history { result.history ≡ history_of sight.log }
         ensures given { result.given ≡ [] }
     {
-        let (number, rest) = match root {
+        let (number, slots) = match root {
             Some((number, table)) => (number, slots_of(table)),
             None => (0, &[] as &[Cell<K, V, S>]),
         };
@@ -89,8 +89,8 @@ impl<'a, K: Hash + Eq, V, S: BuildHasher> Iter<'a, K, V, S> {
             began,
             sight,
             number,
-            len: rest.len(),
-            rest,
+            slots,
+            at: 0,
             yielded: Yielded::nothing(),
         }
     }
@@ -113,8 +113,8 @@ impl<'a, K: Hash + Eq, V, S: BuildHasher> Iter<'a, K, V, S> {
             began: self.began.again(),
             sight: self.sight.again(),
             number: self.number,
-            len: self.len,
-            rest: self.rest,
+            slots: self.slots,
+            at: self.at,
             yielded: self.yielded.again(),
         }
     }
@@ -157,39 +157,40 @@ fn entry_at<'a, K: Hash + Eq, V, S: BuildHasher>(
     Some(book.entry(book.pair(&named_pair(word, offer))))
 }
 
-/// Returns the next entry in the last slots of a table, and the slots after it.
+/// Returns the next entry in the slots of a table from this place on, and the place after it.
 #[inline(always)]
 fn next_pair<'a, K: Hash + Eq, V, S: BuildHasher>(
     number: u64,
-    len: usize,
     slots: &'a [Cell<K, V, S>],
+    from: usize,
     window: &mut Window<'a, K, V, S>,
-) -> (&'a [Cell<K, V, S>], Option<(&'a K, &'a V)>)
-    requires last { AreLast window.old.sight.log number len slots.now }
+) -> (usize, Option<(&'a K, &'a V)>)
+    requires slots { AreLast window.old.sight.log number (length slots.now) slots.now }
     ensures sees { Sees window.old window.new }
     ensures lawful { MatchOption result.1 Unit (λ entry. IsLawful window.new) }
-    ensures last { AreLast window.new.sight.log number len result.0.now }
-    ensures fewer { length result.0.now ≤ length slots.now }
-    ensures after { MatchOption result.1 Unit (λ entry. length result.0.now < length slots.now) }
+    ensures slots { AreLast window.new.sight.log number (length slots.now) slots.now }
+    ensures fewer { length slots.now - result.0 ≤ length slots.now - from }
+    ensures after { MatchOption result.1 Unit (λ entry.
+        length slots.now - result.0 < length slots.now - from) }
     ensures had { (began : _) → (0 < length slots.now → IsTaken began window.old number)
         → MatchOption result.1 Unit (λ entry. HadEntry K.eq (history_of began) (past window.new)
         entry) }
     ensures passed { (began given : _)
         → ArePassed K.eq (begun_of window.old.book.now.parts) began window.old.sight.log number
-        (len - length slots.now) len given
+        from (length slots.now) given
         → ArePassed K.eq (begun_of window.old.book.now.parts) began window.new.sight.log number
-        (len - length result.0.now) len (with_found given result.1) }
-    ensures over { MatchOption result.1 (result.0.now ≡ []) (λ entry. Unit) }
+        result.0 (length slots.now) (with_found given result.1) }
+    ensures over { MatchOption result.1 (length slots.now ≤ result.0) (λ entry. Unit) }
 {
-    let mut rest = slots;
-    while let Some((slot, later)) = rest.split_first() {
-        let found = entry_at(window, slot, number, len - rest.len());
-        rest = later;
+    let mut at = from;
+    while at < slots.len() {
+        let found = entry_at(window, &slots[at], number, at);
+        at += 1;
         if found.is_some() {
-            return (rest, found);
+            return (at, found);
         }
     }
-    (rest, None)
+    (at, None)
 }
 
 impl<'a, K: Hash + Eq, V, S: BuildHasher> Iterator for Iter<'a, K, V, S> {
@@ -203,9 +204,9 @@ impl<'a, K: Hash + Eq, V, S: BuildHasher> Iterator for Iter<'a, K, V, S> {
     #[inline(always)]
     fn next(&mut self) -> Option<(&'a K, &'a V)> {
         let mut window = Window::new(self.book, &self.kept, &self.sight);
-        let (rest, found) = next_pair(self.number, self.len, self.rest, &mut window);
+        let (at, found) = next_pair(self.number, self.slots, self.at, &mut window);
         self.sight = window.sight;
-        self.rest = rest;
+        self.at = at;
         self.yielded = self.yielded.with(found);
         found
     }

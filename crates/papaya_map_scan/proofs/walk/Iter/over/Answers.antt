@@ -13,13 +13,13 @@ invariant_of-result g c = (
   c.again.ensures ∙ c.requires.kept,
   c.requires.seen,
   subst (λ (entries : List (_ × _)). IsLeft g.K.PartialEq.eq (begun_of c.args.book.now.parts) c.args.began.log c.args.sight.log c.match-root.number.0
-      (length c.match-root.number.1.now) c.match-root.number.1.now entries) (sym c.nothing.ensures) (elim c.match-root.branch [
+      c.match-root.number.1.now 0 entries) (sym c.nothing.ensures) (elim c.match-root.branch [
         | in-Some w ↦
             let b = begun_of c.args.book.now.parts in let began = c.args.began.log in let log = c.args.sight.log in
             let root = subst (λ (r : _). IsRootOf b began log r) w.in-Some.is c.requires.root in
             let passed = passed_none g.K.PartialEq.eq g.K.Hash.hash_input g.S.BuildHasher.build_hasher g.S.Hasher.Hasher.write g.S.Hasher.Hasher.finish
             g.met.K.Eq.laws g.met.K.Hash.respects_eq b began log c.requires.lawful w.in-Some.number w.in-Some.table.now root.0 root.1 in
-            subst (λ (r : ℕ × Bor (List Word)). IsLeft g.K.PartialEq.eq b began log r.0 (length r.1.now) r.1.now []) (sym w.number-is)
+            subst (λ (r : ℕ × Bor (List Word)). IsLeft g.K.PartialEq.eq b began log r.0 r.1.now 0 []) (sym w.number-is)
             (all_left g.K.PartialEq.eq b began log w.in-Some.number w.in-Some.table.now w.slots_of.result.now c.requires.since root.0 root.1
             w.slots_of.ensures passed)
         | in-None w ↦
@@ -27,7 +27,7 @@ invariant_of-result g c = (
             let root = subst (λ (r : _). IsRootOf b began log r) w.in-None.is c.requires.root in
             let passed = passed_rootless g.K.PartialEq.eq g.K.Hash.hash_input g.S.BuildHasher.build_hasher g.S.Hasher.Hasher.write g.S.Hasher.Hasher.finish
             g.met.K.Eq.laws g.met.K.Hash.respects_eq b began log c.requires.lawful c.requires.since root 0 0 0 in
-            subst (λ (r : ℕ × Bor (List Word)). IsLeft g.K.PartialEq.eq b began log r.0 (length r.1.now) r.1.now []) (sym w.number-is)
+            subst (λ (r : ℕ × Bor (List Word)). IsLeft g.K.PartialEq.eq b began log r.0 r.1.now 0 []) (sym w.number-is)
             (none_left g.K.PartialEq.eq b began log c.requires.since passed)
       ]),
 )

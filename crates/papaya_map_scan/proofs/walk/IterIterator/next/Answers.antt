@@ -16,41 +16,41 @@ use Rattle.papaya_map_scan.proofs.Taken.{taken_later}
 use Rattle.papaya_map_scan.proofs.Walking.{over_leaves}
 use Rattle.papaya_map_scan.proofs.walk.IterIterator.next.Goals as goal
 
-pub next_pair-requires : goal.next_pair-requires
-next_pair-requires g c =
+pub next_pair-at-requires : goal.next_pair-at-requires
+next_pair-at-requires g c =
     let i = c.self.inside in
-    record { last = subst (λ (z : _). AreLast z.log i.number i.len i.rest.now) (sym c.new-window.ensures.sight) c.self.invariant.2.last }
+    record { slots = subst (λ (z : _). AreLast z.log i.number (length i.slots.now) i.slots.now) (sym c.new-window.ensures.sight) c.self.invariant.2.last }
 
 pub invariant_of-self : goal.invariant_of-self
 invariant_of-self g c =
-    let i = c.self.inside in let w = c.next_pair.new.window in
-    let since = subst (λ (z : _). IsPrefix z.log w.sight.log) c.new-window.ensures.sight c.next_pair.ensures.sees.log in
-    let fewer = c.next_pair.ensures.fewer in (
+    let i = c.self.inside in let w = c.next_pair-at.new.window in
+    let since = subst (λ (z : _). IsPrefix z.log w.sight.log) c.new-window.ensures.sight c.next_pair-at.ensures.sees.log in
+    (
       c.self.invariant.0,
-      sees_of c.new-window.result w c.next_pair.ensures.sees ∙ (ap (λ (z : _). z.book) c.new-window.ensures.sight ∙ c.self.invariant.1),
+      sees_of c.new-window.result w c.next_pair-at.ensures.sees ∙ (ap (λ (z : _). z.book) c.new-window.ensures.sight ∙ c.self.invariant.1),
       record {
         since = prefix_trans i.began.log i.sight.log w.sight.log c.self.invariant.2.since since;
-        last = c.next_pair.ensures.last;
+        last = c.next_pair-at.ensures.slots;
         taken = λ some. taken_later (begun_of i.book.now.parts) i.began.log i.sight.log w.sight.log i.number
-            (c.self.invariant.2.taken (omega (arith, some, fewer))) since;
+            (c.self.invariant.2.taken some) since;
         passed = subst (λ (entries : List (_ × _)). ArePassed g.K.PartialEq.eq (begun_of i.book.now.parts) i.began.log w.sight.log i.number
-            (i.len - length c.next_pair.result.0.now) i.len entries) (sym c.with.ensures)
+            c.next_pair-at.result.0 (length i.slots.now) entries) (sym c.with.ensures)
             (subst (λ (z : Bor (Book _ _ _ _)). ArePassed g.K.PartialEq.eq (begun_of z.now.parts) i.began.log w.sight.log i.number
-            (i.len - length c.next_pair.result.0.now) i.len (with_found i.yielded.entries c.next_pair.result.1)) c.new-window.ensures.book
-            (c.next_pair.ensures.passed i.began.log i.yielded.entries
+            c.next_pair-at.result.0 (length i.slots.now) (with_found i.yielded.entries c.next_pair-at.result.1)) c.new-window.ensures.book
+            (c.next_pair-at.ensures.passed i.began.log i.yielded.entries
             (subst (λ (z : Bor (Book _ _ _ _)). ArePassed g.K.PartialEq.eq (begun_of z.now.parts) i.began.log c.new-window.result.sight.log i.number
-            (i.len - length i.rest.now) i.len i.yielded.entries) (sym c.new-window.ensures.book)
-            (subst (λ (z : _). ArePassed g.K.PartialEq.eq (begun_of i.book.now.parts) i.began.log z.log i.number (i.len - length i.rest.now) i.len
+            i.at (length i.slots.now) i.yielded.entries) (sym c.new-window.ensures.book)
+            (subst (λ (z : _). ArePassed g.K.PartialEq.eq (begun_of i.book.now.parts) i.began.log z.log i.number i.at (length i.slots.now)
             i.yielded.entries) (sym c.new-window.ensures.sight) c.self.invariant.2.passed))));
       },
     )
 
 pub returns-clause-steps : goal.returns-clause-steps
 returns-clause-steps g c =
-    let i = c.self.inside in let w = c.next_pair.new.window in
-    let since = subst (λ (z : _). IsPrefix z.log w.sight.log) c.new-window.ensures.sight c.next_pair.ensures.sees.log in
+    let i = c.self.inside in let w = c.next_pair-at.new.window in
+    let since = subst (λ (z : _). IsPrefix z.log w.sight.log) c.new-window.ensures.sight c.next_pair-at.ensures.sees.log in
     let seen = c.new-window.result.sight.log in
-    let taken : 0 < length i.rest.now → taking.IsTaken (begun_of c.new-window.result.book.now.parts) i.began.log seen i.number = λ some.
+    let taken : 0 < length i.slots.now → taking.IsTaken (begun_of c.new-window.result.book.now.parts) i.began.log seen i.number = λ some.
     subst (λ (z : Bor (Book _ _ _ _)). taking.IsTaken (begun_of z.now.parts) i.began.log seen i.number) (sym c.new-window.ensures.book)
     (subst (λ (z : _). taking.IsTaken (begun_of i.book.now.parts) i.began.log z.log i.number) (sym c.new-window.ensures.sight)
     (c.self.invariant.2.taken some)) in
@@ -60,29 +60,29 @@ returns-clause-steps g c =
       began = history_of i.began.log;
       history = history_of i.sight.log;
       given = i.yielded.entries;
-      left = length i.rest.now;
+      left = length i.slots.now - i.at;
     } in
     let after : Walked _ _ = record {
       book = i.book.now.begun.book;
       began = history_of i.began.log;
       history = history_of w.sight.log;
       given = c.with.result.entries;
-      left = length c.next_pair.result.0.now;
+      left = length i.slots.now - c.next_pair-at.result.0;
     } in
     let passed = subst (λ (entries : List (_ × _)). ArePassed g.K.PartialEq.eq (begun_of i.book.now.parts) i.began.log w.sight.log i.number
-    (i.len - length c.next_pair.result.0.now) i.len entries) (sym c.with.ensures)
+    c.next_pair-at.result.0 (length i.slots.now) entries) (sym c.with.ensures)
     (subst (λ (z : Bor (Book _ _ _ _)). ArePassed g.K.PartialEq.eq (begun_of z.now.parts) i.began.log w.sight.log i.number
-    (i.len - length c.next_pair.result.0.now) i.len (with_found i.yielded.entries c.next_pair.result.1)) c.new-window.ensures.book
-    (c.next_pair.ensures.passed i.began.log i.yielded.entries
+    c.next_pair-at.result.0 (length i.slots.now) (with_found i.yielded.entries c.next_pair-at.result.1)) c.new-window.ensures.book
+    (c.next_pair-at.ensures.passed i.began.log i.yielded.entries
     (subst (λ (z : Bor (Book _ _ _ _)). ArePassed g.K.PartialEq.eq (begun_of z.now.parts) i.began.log c.new-window.result.sight.log i.number
-    (i.len - length i.rest.now) i.len i.yielded.entries) (sym c.new-window.ensures.book)
-    (subst (λ (z : _). ArePassed g.K.PartialEq.eq (begun_of i.book.now.parts) i.began.log z.log i.number (i.len - length i.rest.now) i.len
+    i.at (length i.slots.now) i.yielded.entries) (sym c.new-window.ensures.book)
+    (subst (λ (z : _). ArePassed g.K.PartialEq.eq (begun_of i.book.now.parts) i.began.log z.log i.number i.at (length i.slots.now)
     i.yielded.entries) (sym c.new-window.ensures.sight) c.self.invariant.2.passed)))) in
-    subst (λ (z : Walked _ _). Gives g.K.PartialEq.eq z c.next_pair.result.1 after) c.self.view_is
+    subst (λ (z : Walked _ _). Gives g.K.PartialEq.eq z c.next_pair-at.result.1 after) c.self.view_is
     (gives_next g.K.PartialEq.eq before after (record { book = refl; began = refl; since = history_since i.sight.log w.sight.log since })
     (IsLawfulLog g.K.PartialEq.eq hash (begun_of w.book.now.parts) w.sight.log)
     (history_legal g.K.PartialEq.eq g.K.Hash.hash_input g.S.BuildHasher.build_hasher g.S.Hasher.Hasher.write g.S.Hasher.Hasher.finish g.met.K.Eq.laws
     g.met.K.Hash.respects_eq (begun_of w.book.now.parts) w.sight.log)
-    c.next_pair.result.1 c.with.ensures c.next_pair.ensures.lawful (c.next_pair.ensures.had i.began.log taken)
-    (over_leaves g.K.PartialEq.eq (begun_of i.book.now.parts) i.began.log w.sight.log i.number i.len c.next_pair.result.0.now c.with.result.entries
-    c.next_pair.result.1 c.next_pair.ensures.over passed))
+    c.next_pair-at.result.1 c.with.ensures c.next_pair-at.ensures.lawful (c.next_pair-at.ensures.had i.began.log taken)
+    (over_leaves g.K.PartialEq.eq (begun_of i.book.now.parts) i.began.log w.sight.log i.number c.next_pair-at.result.0 (length i.slots.now) c.with.result.entries
+    c.next_pair-at.result.1 c.next_pair-at.ensures.over passed))
