@@ -57,8 +57,7 @@ stands 'links between documents' "$(python3 -B tests/links.py 2>&1 | sed 's/[0-9
     'links.py: all passed, 0 failed'
 version="$(sed -n 's/^version //p' VERSION)"
 date="$(sed -n 's/^date //p' VERSION)"
-stands 'the release of README.md' "$(grep -oE '[0-9.]+ of [0-9-]+, with the git tag `v[0-9.]+`' README.md)" \
-    "$version of $date, with the git tag \`v$version\`"
+stands 'the release of README.md' "$(grep -oE 'release is [0-9.]+ of [0-9-]+' README.md)" "release is $version of $date"
 stands 'the kit of README.md' "$(grep -o '`rattle-kit-[^`]*`' README.md)" "\`$(sed -n 's/^kit //p' VERSION)\`"
 stands 'the newest release of CHANGELOG.md' "$(grep -m 1 '^## [0-9]' CHANGELOG.md)" "## $version ($date)"
 
