@@ -24,8 +24,7 @@ next_pair-at-requires g c =
 pub invariant_of-self : goal.invariant_of-self
 invariant_of-self g c =
     let i = c.self.inside in let w = c.next_pair-at.new.window in
-    let since = subst (λ (z : _). IsPrefix z.log w.sight.log) c.new-window.ensures.sight c.next_pair-at.ensures.sees.log in
-    (
+    let since = subst (λ (z : _). IsPrefix z.log w.sight.log) c.new-window.ensures.sight c.next_pair-at.ensures.sees.log in (
       c.self.invariant.0,
       sees_of c.new-window.result w c.next_pair-at.ensures.sees ∙ (ap (λ (z : _). z.book) c.new-window.ensures.sight ∙ c.self.invariant.1),
       record {
