@@ -9,8 +9,8 @@ same contract and the same answers by hand. So nothing calls it, and a function 
 trait and a function whose whole proof is by hand can stand there but once: these are spoiled themselves, and no
 other function that is tried may call them. A copy's check looks at the spoiled functions, and takes what they call at
 its word (standing.py): `rt ci` proves that. Each of them has to be refused at a goal of its own, and methods of traits
-that they call be proved. A copy whose edits an earlier run on this machine saw refused, over all that it reads, is not
-tried again.
+that they call be proved. A copy of which that cannot be said is tried once more, beside the proofs of what they call. A
+copy whose edits an earlier run on this machine saw refused, over all that it reads, is not tried again.
 """
 
 import os
@@ -134,25 +134,37 @@ def rename(file, old, new):
         it.write(re.sub(rf"\bproofs\.{re.escape(old)}\.", f"proofs.{new}.", text))
 
 
-def make_copy(room, crate, edits):
+def make_copy(room, crate, edits, with_holes):
     """Makes these edits in one copy of the crate, and returns what an earlier run may have kept of it."""
     copy_of(crate, f"{room}/{crate}")
     for number, edit in enumerate(edits):
         edit.make(f"{TOP}/crates/{crate}", f"{room}/{crate}", number)
-    take_at_word(f"{room}/{crate}", crate, [it.function for it in edits])
+    if with_holes:
+        take_at_word(f"{room}/{crate}", crate, [it.function for it in edits])
     return Try("edits", room, crate, [], [(it.name, it.words, it.pairs) for it in edits])
 
 
 def try_copy(room, crate, edits):
+    """Tries these edits in one copy of the crate, and says how each was refused. If not all of them are where the right
+    functions are taken at their word, they are tried once more beside the proofs of these."""
+    try:
+        return try_once(f"{room}/short", crate, edits, True)
+    except Bad as why:
+        print(f"edits: {why}\nedits: {crate}: once more, with all proofs", flush=True)
+    return try_once(f"{room}/whole", crate, [Edit(crate, f"{it.name}.edit") for it in edits], False)
+
+
+def try_once(room, crate, edits, with_holes):
     """Makes these edits in one copy of the crate, checks their functions, and says how each was refused."""
-    kept = make_copy(room, crate, edits)
+    kept = make_copy(room, crate, edits, with_holes)
     earlier = kept.refused_earlier()
     if earlier:
         return [it.replace(": refused, as it must be: ", ": refused by an earlier run: ", 1) for it in earlier]
     places = [it.place(f"{room}/{crate}") for it in edits]
-    said = check(room, crate, [], [it.function for it in edits], "--allow-holes")
+    said = check(room, crate, [], [it.function for it in edits], *(["--allow-holes"] if with_holes else []))
     verdicts = {it.removeprefix(f"{crate}::"): verdict for it, verdict in verdicts_of(said).items()}
-    others = [it for it, verdict in verdicts.items() if verdict not in STANDS and not any(edit.is_of(it) for edit in edits)]
+    stands = STANDS if with_holes else ("proved",)
+    others = [it for it, verdict in verdicts.items() if verdict not in stands and not any(edit.is_of(it) for edit in edits)]
     if others or not verdicts:
         raise Bad(f"{crate}: these do not stand beside the edits: {' '.join(others) or 'all'}\n{digest(said)}")
     told = []
