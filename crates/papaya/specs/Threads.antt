@@ -8,11 +8,11 @@ pub use Rattle.papaya_map_change.specs.Changes.{IsChangeOf, IsPut, key_kept}
 pub use Rattle.papaya_map_change.specs.Writing.{IsMemoryOrCapacity}
 pub use Rattle.papaya_map.specs.Limited.{IsPlainRefusal, IsWriteRefusal}
 pub use Rattle.papaya_map.specs.Plain.{IsOfHistory, IsOfHistorySince}
-pub use Rattle.papaya_map_change.specs.RemovalAnswers.{IsJudged, IsRemovalBy, IsRemoved, took, went}
-pub use Rattle.papaya_map_change.specs.Showings.{AllShown, AreShown, HasSaid, Judges, Operates, WasHeld, WasLast}
+pub use Rattle.papaya_map_change.specs.RemovalAnswers.{IsJudged, IsRemovalBy, IsRemoved, gives_value, has_removed}
+pub use Rattle.papaya_map_change.specs.ClosureCalls.{AllArguments, AreRefsTo, HasReturned, Judges, Operates, WasHeld, WasLast}
 pub use Rattle.papaya_map_compute.specs.ComputeAnswers.{IsComputeBy, IsOperated, changes}
 pub use Rattle.papaya_map.specs.Storing.{IsCurrent, IsInPlace, IsStored, IsThereBy, IsTried, IsTriedWith, IsUpdated, IsUpserted}
-pub use Rattle.papaya_call_law.specs.ScanTold.{IsLastAnswer}
+pub use Rattle.papaya_call_law.specs.ScanAnswers.{IsLastAnswer}
 pub use Rattle.papaya_map_scan.specs.Leaving.{AreDropped, Drops, HasDropped, HasKept, IsCleared, IsRetained, WasTakenOut}
 pub use Rattle.papaya_map.specs.Collected.{AreCloned, AreCopied, AreStored, AreWalked, Stores}
 pub use Rattle.papaya_map.specs.Known.{Known}

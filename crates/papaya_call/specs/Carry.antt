@@ -21,22 +21,22 @@ use Rattle.papaya_call.specs.declared.copy.link.Linked.{Linked}
 use Rattle.papaya_call.specs.declared.copy.link.Linked.TheVariants.{On as Link_on, Table, Refused as Link_refused}
 use Rattle.papaya_call.specs.declared.search.Place.{Place}
 use Rattle.papaya_call.specs.Link as links
-use Rattle.papaya_call.specs.Link.{IsStandingLink, link_ask, link_kind, follows}
+use Rattle.papaya_call.specs.Link.{IsValidLink, link_ask, link_kind, follows}
 use Rattle.papaya_call.specs.Search.{IsWithin, first_place, next_place}
 
 -- the carry is within its table
-abbrev pub IsStandingCarry : Carry → Type 0
-IsStandingCarry (Looking hash at) = IsWithin at
-IsStandingCarry (Reading hash at) = IsWithin at
-IsStandingCarry (Comparing hash at word) = IsWithin at
-IsStandingCarry (Placing hash at) = IsWithin at
-IsStandingCarry (Placed hash at) = IsWithin at
-IsStandingCarry (Linking hash link) = IsStandingLink link
-IsStandingCarry _ = Unit {0}
+abbrev pub IsValidCarry : Carry → Type 0
+IsValidCarry (Looking hash at) = IsWithin at
+IsValidCarry (Reading hash at) = IsWithin at
+IsValidCarry (Comparing hash at word) = IsWithin at
+IsValidCarry (Placing hash at) = IsWithin at
+IsValidCarry (Placed hash at) = IsWithin at
+IsValidCarry (Linking hash link) = IsValidLink link
+IsValidCarry _ = Unit {0}
 
-abbrev pub IsStandingCarried : Carried → Type 0
-IsStandingCarried (On carry) = IsStandingCarry carry
-IsStandingCarried _ = Unit {0}
+abbrev pub IsValidCarried : Carried → Type 0
+IsValidCarried (On carry) = IsValidCarry carry
+IsValidCarried _ = Unit {0}
 
 -- its ask, while it carries the pair of the word `marked`
 abbrev pub carry_ask : Carry → (marked : ℕ) → CopyAsk

@@ -28,9 +28,9 @@ use Rattle.papaya_call.specs.declared.copy.link.Linked.TheVariants as linked_to
 use Rattle.papaya_call.specs.declared.copy.settle.Settle.TheVariants.{Looking}
 use Rattle.papaya_call.specs.declared.copy.step.Step.TheVariants.{AtRoot}
 use Rattle.papaya_call.specs.Copying as copyings
-use Rattle.papaya_call.specs.Copying.{IsStandingCopying, copying_ask, copying_follows, copying_kind}
+use Rattle.papaya_call.specs.Copying.{IsValidCopying, copying_ask, copying_follows, copying_kind}
 use Rattle.papaya_call.specs.Link as making
-use Rattle.papaya_call.specs.Link.{IsFitCopyAsk, IsStandingLink, follows, link_ask, link_kind}
+use Rattle.papaya_call.specs.Link.{IsFitCopyAsk, IsValidLink, follows, link_ask, link_kind}
 use Rattle.papaya_call.specs.declared.machine.Machine.{Machine as Call_machine}
 use Rattle.papaya_call.specs.declared.machine.State.{State}
 use Rattle.papaya_call.specs.declared.machine.State.TheVariants.{AtRoot as At_root, Searching, Leaving, Growing, Ended}
@@ -95,8 +95,8 @@ enters m table = record m {
 }
 
 -- the machine whose call begins again, with this root
-abbrev pub begins_anew : Machine → (root : ℕ) → Machine
-begins_anew m root = record m {
+abbrev pub restarted : Machine → (root : ℕ) → Machine
+restarted m root = record m {
   call = calls.after (record m.call { state = At_root }) (Word_read root);
   phase = Calling;
 }
@@ -201,7 +201,7 @@ after_linked m (linked_to.Refused refused) = refuses m refused
 abbrev pub after_copied : Machine → Copied → Machine
 after_copied m (copied_to.On copying) = record m { phase = Copying_root copying }
 after_copied m (copied_to.Search table) = enters m table
-after_copied m (copied_to.Root root) = begins_anew m root
+after_copied m (copied_to.Root root) = restarted m root
 after_copied m copied_to.Chunk = record m { phase = Calling }
 after_copied m (copied_to.Refused refused) = refuses m refused
 
@@ -222,16 +222,16 @@ abbrev pub after : Machine → Answer → Machine
 after m answer = after_in m answer m.phase
 
 -- what is made or copied is within its tables
-abbrev pub IsStandingPhase : Phase → Type 0
-IsStandingPhase Calling = Unit {0}
-IsStandingPhase (Linking link) = IsStandingLink link
-IsStandingPhase (Copying_root copying) = IsStandingCopying copying
+abbrev pub IsValidPhase : Phase → Type 0
+IsValidPhase Calling = Unit {0}
+IsValidPhase (Linking link) = IsValidLink link
+IsValidPhase (Copying_root copying) = IsValidCopying copying
 
-pub record IsStanding (m : Machine) : Type 0 where
-  pub call : calls.IsStanding m.call
+pub record IsValid (m : Machine) : Type 0 where
+  pub call : calls.IsValid m.call
   pub chunked : IsChunked m.call.mode
   pub initial : IsPowerOfTwo m.call.initial
-  pub phase : IsStandingPhase m.phase
+  pub phase : IsValidPhase m.phase
 
 -- an answer within the limits of tables and numbers
 abbrev pub IsFit : Answer → Type 0

@@ -20,18 +20,18 @@ use Rattle.papaya_call.specs.declared.copy.step.Stepped.{Stepped}
 use Rattle.papaya_call.specs.declared.copy.step.Stepped.TheVariants.{On as Step_on, Root as Step_root, Last, Further, Over, Refused as Step_refused}
 use Rattle.papaya_call.specs.declared.copy.step.Step.TheVariants.{AtRoot, Aiming, Settling}
 use Rattle.papaya_call.specs.Settle as settles
-use Rattle.papaya_call.specs.Settle.{IsStandingSettle, settle_ask, settle_follows, settle_kind}
+use Rattle.papaya_call.specs.Settle.{IsValidSettle, settle_ask, settle_follows, settle_kind}
 use Rattle.papaya_call.specs.Step as steps
-use Rattle.papaya_call.specs.Step.{IsStandingStep, step_ask, step_follows, step_kind}
+use Rattle.papaya_call.specs.Step.{IsValidStep, step_ask, step_follows, step_kind}
 
 -- the copy is within its chunk
-abbrev pub IsStandingCopying : Copying → Type 0
-IsStandingCopying (Stepping aim step) = IsStandingStep step
-IsStandingCopying (Lone slot settle) = IsStandingSettle settle
+abbrev pub IsValidCopying : Copying → Type 0
+IsValidCopying (Stepping aim step) = IsValidStep step
+IsValidCopying (Lone slot settle) = IsValidSettle settle
 
-abbrev pub IsStandingCopied : Copied → Type 0
-IsStandingCopied (On copying) = IsStandingCopying copying
-IsStandingCopied _ = Unit {0}
+abbrev pub IsValidCopied : Copied → Type 0
+IsValidCopied (On copying) = IsValidCopying copying
+IsValidCopied _ = Unit {0}
 
 -- its ask
 abbrev pub copying_ask : Copying → CopyAsk

@@ -23,15 +23,15 @@ IsFitCopyAsk (MakeTable slots limit chunks) = IsSize slots limit
 IsFitCopyAsk _ = Unit {0}
 
 -- the lengths in this state are lengths that tables may have
-abbrev pub IsStandingLink : Link → Type 0
-IsStandingLink (Measuring after copied unfit len) = IsPowerOfTwo len × (len ≤ 2 ^ 32)
-IsStandingLink (Counting after unfit len copied) = IsPowerOfTwo len × (len ≤ 2 ^ 32)
-IsStandingLink (Making after len limit chunks) = IsSize len limit
-IsStandingLink _ = Unit {0}
+abbrev pub IsValidLink : Link → Type 0
+IsValidLink (Measuring after copied unfit len) = IsPowerOfTwo len × (len ≤ 2 ^ 32)
+IsValidLink (Counting after unfit len copied) = IsPowerOfTwo len × (len ≤ 2 ^ 32)
+IsValidLink (Making after len limit chunks) = IsSize len limit
+IsValidLink _ = Unit {0}
 
-abbrev pub IsStandingLinked : Linked → Type 0
-IsStandingLinked (On link) = IsStandingLink link
-IsStandingLinked _ = Unit {0}
+abbrev pub IsValidLinked : Linked → Type 0
+IsValidLinked (On link) = IsValidLink link
+IsValidLinked _ = Unit {0}
 
 -- its ask
 abbrev pub link_ask : Link → CopyAsk

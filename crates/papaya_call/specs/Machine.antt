@@ -442,26 +442,26 @@ IsChanger Get = ⊥
 IsChanger _ = Unit {0}
 
 -- the search of the machine is within its table, and each state is one to which the task can come
-abbrev pub IsStandingState : Task → State → Type 0
-IsStandingState task Making = MayInsert task
-IsStandingState task (Opening table) = MayInsert task
-IsStandingState task (Searching search) = IsSearching search
-IsStandingState task (Writing write) = IsWriter task × IsWithin write.place
-IsStandingState task (Offering gap) = IsComputer task × IsGap gap
-IsStandingState task (Showing removal) = HasClosure task × IsWithin removal.place
-IsStandingState task (Pairing purpose) = IsComputer task × IsPurpose purpose
-IsStandingState task (Putting put) = IsComputer task × IsPut put
-IsStandingState task (Burying removal) = HasClosure task × IsWithin removal.place
-IsStandingState task (Counting claimed) = MayInsert task
-IsStandingState task (Noting claimed) = MayInsert task
-IsStandingState task (Uncounting pair) = HasClosure task
-IsStandingState task (Growing need) = IsChanger task
-IsStandingState task _ = Unit {0}
+abbrev pub IsValidState : Task → State → Type 0
+IsValidState task Making = MayInsert task
+IsValidState task (Opening table) = MayInsert task
+IsValidState task (Searching search) = IsSearching search
+IsValidState task (Writing write) = IsWriter task × IsWithin write.place
+IsValidState task (Offering gap) = IsComputer task × IsGap gap
+IsValidState task (Showing removal) = HasClosure task × IsWithin removal.place
+IsValidState task (Pairing purpose) = IsComputer task × IsPurpose purpose
+IsValidState task (Putting put) = IsComputer task × IsPut put
+IsValidState task (Burying removal) = HasClosure task × IsWithin removal.place
+IsValidState task (Counting claimed) = MayInsert task
+IsValidState task (Noting claimed) = MayInsert task
+IsValidState task (Uncounting pair) = HasClosure task
+IsValidState task (Growing need) = IsChanger task
+IsValidState task _ = Unit {0}
 
-pub record IsStanding (m : Machine) : Type 0 where
+pub record IsValid (m : Machine) : Type 0 where
   pub made : IsMade m.made
   pub remembered : IsRemembered m.remembered
-  pub state : IsStandingState m.task m.state
+  pub state : IsValidState m.task m.state
 
 -- an answer within the limits of tables and numbers
 abbrev pub IsFit : Answer → Type 0

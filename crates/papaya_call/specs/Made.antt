@@ -138,9 +138,9 @@ pub record IsMade (made : Made) : Type 0 where
   pub own : IsOwn made.own
   pub of : IsOf made.of
 
-abbrev pub IsTold : Option Made → Type 0
-IsTold None = Unit {0}
-IsTold (Some made) = IsMade made
+abbrev pub IsMadeOrNone : Option Made → Type 0
+IsMadeOrNone None = Unit {0}
+IsMadeOrNone (Some made) = IsMade made
 
 abbrev pub IsGrown : Grown → Type 0
 IsGrown (On made) = IsMade made

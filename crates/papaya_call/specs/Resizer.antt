@@ -23,8 +23,8 @@ use Rattle.papaya_call.specs.declared.copy.link.Link.TheVariants as links
 use Rattle.papaya_call.specs.declared.copy.link.Linked.{Linked}
 use Rattle.papaya_call.specs.declared.copy.link.Linked.TheVariants as linked_to
 use Rattle.papaya_call.specs.declared.copy.step.Step.TheVariants as steps
-use Rattle.papaya_call.specs.Copying.{IsStandingCopying, copying_ask, copying_follows, copying_kind}
-use Rattle.papaya_call.specs.Link.{IsStandingLink, follows, link_ask, link_kind}
+use Rattle.papaya_call.specs.Copying.{IsValidCopying, copying_ask, copying_follows, copying_kind}
+use Rattle.papaya_call.specs.Link.{IsValidLink, follows, link_ask, link_kind}
 use Rattle.papaya_call.specs.declared.chain.ask.Answer.{Answer}
 use Rattle.papaya_call.specs.declared.chain.ask.Answer.TheVariants as answers
 use Rattle.papaya_call.specs.declared.chain.resizer.Resize.{Resize}
@@ -34,7 +34,7 @@ use Rattle.papaya_call.specs.declared.chain.resizer.TableSize.{TableSize}
 use Rattle.papaya_call.specs.declared.chain.resizer.ResizerState.{ResizerState}
 use Rattle.papaya_call.specs.declared.chain.resizer.ResizerState.TheVariants.{AtRoot, Making, Opening, Sizing, Counting, Looking, Linking, Copying, Done, Refused}
 use Rattle.papaya_call.specs.ChainMachine.{copying_after, link_after}
-use Rattle.papaya_call.specs.TableSize.{IsStandingRoom, room_of}
+use Rattle.papaya_call.specs.TableSize.{IsValidRoom, room_of}
 
 -- the state of a resizer that begins: a copy of a chunk begins at once, and all else by loading the
 -- root
@@ -180,14 +180,14 @@ after resizer answer = record resizer {
 }
 
 -- the resizer is within its tables
-abbrev pub IsStandingIn : ResizerState → Type 0
-IsStandingIn (Making room) = IsSize room.len room.limit
-IsStandingIn (Looking root len room) = IsStandingRoom room
-IsStandingIn (Linking link) = IsStandingLink link
-IsStandingIn (Copying from copying) = IsStandingCopying copying
-IsStandingIn _ = Unit {0}
+abbrev pub IsValidIn : ResizerState → Type 0
+IsValidIn (Making room) = IsSize room.len room.limit
+IsValidIn (Looking root len room) = IsValidRoom room
+IsValidIn (Linking link) = IsValidLink link
+IsValidIn (Copying from copying) = IsValidCopying copying
+IsValidIn _ = Unit {0}
 
-pub record IsStandingResizer (resizer : Resizer) : Type 0 where
+pub record IsValidResizer (resizer : Resizer) : Type 0 where
   pub chunked : IsChunked resizer.mode
   pub initial : IsPowerOfTwo resizer.initial
-  pub state : IsStandingIn resizer.state
+  pub state : IsValidIn resizer.state

@@ -180,20 +180,20 @@ after scanner answer = record scanner {
 }
 
 -- the slot is one of its table
-abbrev pub IsStandingSpot : Spot → Type 0
-IsStandingSpot spot = spot.slot < spot.len
+abbrev pub IsValidSpot : Spot → Type 0
+IsValidSpot spot = spot.slot < spot.len
 
 -- the scanner is within its tables
-abbrev pub IsStandingIn : ScannerState → Type 0
-IsStandingIn (Copying stage) = resizers.IsStandingIn stage
-IsStandingIn (Looking spot) = IsStandingSpot spot
-IsStandingIn (Giving spot word) = IsStandingSpot spot
-IsStandingIn (Showing spot word) = IsStandingSpot spot
-IsStandingIn (Burying spot word) = IsStandingSpot spot
-IsStandingIn (Uncounting spot) = IsStandingSpot spot
-IsStandingIn _ = Unit {0}
+abbrev pub IsValidIn : ScannerState → Type 0
+IsValidIn (Copying stage) = resizers.IsValidIn stage
+IsValidIn (Looking spot) = IsValidSpot spot
+IsValidIn (Giving spot word) = IsValidSpot spot
+IsValidIn (Showing spot word) = IsValidSpot spot
+IsValidIn (Burying spot word) = IsValidSpot spot
+IsValidIn (Uncounting spot) = IsValidSpot spot
+IsValidIn _ = Unit {0}
 
-pub record IsStandingScanner (scanner : Scanner) : Type 0 where
+pub record IsValidScanner (scanner : Scanner) : Type 0 where
   pub chunked : IsChunked scanner.mode
   pub initial : IsPowerOfTwo scanner.initial
-  pub state : IsStandingIn scanner.state
+  pub state : IsValidIn scanner.state

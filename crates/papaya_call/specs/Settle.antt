@@ -20,16 +20,16 @@ use Rattle.papaya_call.specs.declared.copy.settle.Settled.{Settled}
 use Rattle.papaya_call.specs.declared.copy.settle.Settled.TheVariants.{On, Settled as Was_settled, Unfit, Refused as Was_refused}
 use Rattle.papaya_call.specs.declared.copy.settle.SlotToCopy.{SlotToCopy}
 use Rattle.papaya_call.specs.Carry as carries
-use Rattle.papaya_call.specs.Carry.{IsStandingCarry, carry_ask, carry_follows, carry_kind}
+use Rattle.papaya_call.specs.Carry.{IsValidCarry, carry_ask, carry_follows, carry_kind}
 
 -- the carry in it is within its table
-abbrev pub IsStandingSettle : Settle → Type 0
-IsStandingSettle (Carrying word carry) = IsStandingCarry carry
-IsStandingSettle _ = Unit {0}
+abbrev pub IsValidSettle : Settle → Type 0
+IsValidSettle (Carrying word carry) = IsValidCarry carry
+IsValidSettle _ = Unit {0}
 
-abbrev pub IsStandingSettled : Settled → Type 0
-IsStandingSettled (On settle) = IsStandingSettle settle
-IsStandingSettled _ = Unit {0}
+abbrev pub IsValidSettled : Settled → Type 0
+IsValidSettled (On settle) = IsValidSettle settle
+IsValidSettled _ = Unit {0}
 
 -- the word once its pair is marked; `copied_as` is the word once its pair is copied
 abbrev pub marked_as : ℕ → ℕ

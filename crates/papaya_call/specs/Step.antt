@@ -23,12 +23,12 @@ use Rattle.papaya_call.specs.declared.copy.step.Step.TheVariants.{AtRoot, Aiming
 use Rattle.papaya_call.specs.declared.copy.step.Stepped.{Stepped}
 use Rattle.papaya_call.specs.declared.copy.step.Stepped.TheVariants.{On, Root as At_root, Last, Further, Over, Refused as Was_refused}
 use Rattle.papaya_call.specs.Link as links
-use Rattle.papaya_call.specs.Link.{IsStandingLink, follows, link_ask, link_kind}
+use Rattle.papaya_call.specs.Link.{IsValidLink, follows, link_ask, link_kind}
 use Rattle.papaya_call.specs.Settle as settles
-use Rattle.papaya_call.specs.Settle.{IsStandingSettle, settle_ask, settle_follows, settle_kind}
+use Rattle.papaya_call.specs.Settle.{IsValidSettle, settle_ask, settle_follows, settle_kind}
 
 -- the chunk whose word is loaded has at least one slot
-pub record IsStandingCursor (cursor : Cursor) : Type 0 where
+pub record IsValidCursor (cursor : Cursor) : Type 0 where
   pub some : 1 ≤ cursor.slots
   pub start : cursor.start ≤ cursor.len
   pub at : cursor.at ≤ cursor.begun
@@ -36,23 +36,23 @@ pub record IsStandingCursor (cursor : Cursor) : Type 0 where
   pub most : cursor.len ≤ 2 ^ 32
 
 -- the slot that is copied is in the chunk
-pub record IsStandingChunk (chunk : Chunk) : Type 0 where
-  pub cursor : IsStandingCursor chunk.cursor
+pub record IsValidChunk (chunk : Chunk) : Type 0 where
+  pub cursor : IsValidCursor chunk.cursor
   pub at : chunk.at < chunk.end
   pub within : chunk.end ≤ chunk.cursor.len
 
 -- the copy is within its chunk
-abbrev pub IsStandingStep : Step → Type 0
-IsStandingStep (Linking from link) = IsStandingLink link
-IsStandingStep (AtChunk cursor) = IsStandingCursor cursor
-IsStandingStep (Settling chunk settle) = IsStandingChunk chunk × IsStandingSettle settle
-IsStandingStep (Advancing cursor) = IsStandingCursor cursor
-IsStandingStep _ = Unit {0}
+abbrev pub IsValidStep : Step → Type 0
+IsValidStep (Linking from link) = IsValidLink link
+IsValidStep (AtChunk cursor) = IsValidCursor cursor
+IsValidStep (Settling chunk settle) = IsValidChunk chunk × IsValidSettle settle
+IsValidStep (Advancing cursor) = IsValidCursor cursor
+IsValidStep _ = Unit {0}
 
-abbrev pub IsStandingStepped : Stepped → Type 0
-IsStandingStepped (On step) = IsStandingStep step
-IsStandingStepped (Further chunk) = IsStandingChunk chunk
-IsStandingStepped _ = Unit {0}
+abbrev pub IsValidStepped : Stepped → Type 0
+IsValidStepped (On step) = IsValidStep step
+IsValidStepped (Further chunk) = IsValidChunk chunk
+IsValidStepped _ = Unit {0}
 
 -- the slot that is copied now
 abbrev pub slot_of : Chunk → SlotToCopy

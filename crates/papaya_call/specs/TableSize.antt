@@ -17,6 +17,6 @@ abbrev pub room_of : (pairs : ℕ) → Option TableSize
 room_of pairs = if nat_le (entries_of pairs) (2 ^ 32)
     then Some (room_of_len (max (entries_of pairs) 8)) else None
 
-abbrev pub IsStandingRoom : Option TableSize → Type 0
-IsStandingRoom None = Unit {0}
-IsStandingRoom (Some room) = IsSize room.len room.limit
+abbrev pub IsValidRoom : Option TableSize → Type 0
+IsValidRoom None = Unit {0}
+IsValidRoom (Some room) = IsSize room.len room.limit

@@ -5,7 +5,7 @@ ghost use Rattle.papaya_call.specs.declared.call.Task.TheVariants.{Compute};
 ghost use Rattle.papaya_call.specs.Compute.{IsGap, IsPurpose, IsRemembered, chosen, fills};
 ghost use Rattle.papaya_call.specs.Compute.{in_place_of, meets, nothing, offered, provides};
 ghost use Rattle.papaya_call.specs.Compute.{recalled, with_choice, with_pair};
-ghost use Rattle.papaya_call.specs.Machine.{IsStandingState};
+ghost use Rattle.papaya_call.specs.Machine.{IsValidState};
 ghost use Rattle.papaya_call.specs.Search.{IsWithin};
 
 use crate::ask::OpKind;
@@ -87,7 +87,7 @@ impl Remembered {
         requires within { IsWithin place }
         requires remembered { IsRemembered self }
         ensures value { result ≡ meets self.choice place word }
-        ensures standing { IsStandingState Compute result }
+        ensures valid { IsValidState Compute result }
     {
         let pair = Word(word).pair();
         match self.choice {
@@ -158,7 +158,7 @@ impl State {
         requires within { IsWithin place }
         requires pair { new.pair < 2 ^ 48 }
         ensures value { result ≡ recalled new place word }
-        ensures standing { IsStandingState Compute result }
+        ensures valid { IsValidState Compute result }
     {
         let write = Write { place, old: word };
         if new.serves(place) {
@@ -176,7 +176,7 @@ impl State {
         requires gap { IsGap gap }
         requires pair { pair < 2 ^ 48 }
         ensures value { result ≡ fills gap pair }
-        ensures standing { IsStandingState Compute result }
+        ensures valid { IsValidState Compute result }
     {
         match gap {
             Gap::NoRoot => State::Making,
@@ -192,7 +192,7 @@ impl State {
     pub(crate) fn offered(gap: Gap, kind: OpKind) -> State
         requires { IsGap gap }
         ensures value { result ≡ offered gap kind }
-        ensures standing { IsStandingState Compute result }
+        ensures valid { IsValidState Compute result }
     {
         match kind {
             OpKind::Insert => State::Pairing(Purpose::Fill(gap)),
@@ -205,7 +205,7 @@ impl State {
     pub(crate) fn chosen(shown: Removal, kind: OpKind) -> State
         requires { IsWithin shown.place }
         ensures value { result ≡ chosen shown kind }
-        ensures standing { IsStandingState Compute result }
+        ensures valid { IsValidState Compute result }
     {
         match kind {
             OpKind::Insert => {
@@ -225,7 +225,7 @@ impl State {
         requires purpose { IsPurpose purpose }
         requires pair { pair < 2 ^ 48 }
         ensures value { result ≡ provides purpose pair }
-        ensures standing { IsStandingState Compute result }
+        ensures valid { IsValidState Compute result }
     {
         match purpose {
             Purpose::Fill(gap) => State::fills(gap, pair),

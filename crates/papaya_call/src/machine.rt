@@ -4,7 +4,7 @@ ghost use Rattle.papaya_call.specs.Search.{IsSize, IsProbed, IsWithin};
 ghost use Rattle.papaya_call.specs.declared.call.Task.{Task};
 ghost use Rattle.papaya_call.specs.Compute.{IsGap};
 ghost use Rattle.papaya_words.specs.Mode.{IsChunked};
-ghost use Rattle.papaya_call.specs.Machine.{IsFit, IsFitAsk, IsStanding, IsStandingState, IsLookup, MayInsert, IsComputer, started, ask_of};
+ghost use Rattle.papaya_call.specs.Machine.{IsFit, IsFitAsk, IsValid, IsValidState, IsLookup, MayInsert, IsComputer, started, ask_of};
 ghost use Rattle.papaya_call.specs.Machine.{kind_of_ask, after, absent, at_root, goes, found, passes, left, beaten, written};
 ghost use Rattle.papaya_call.specs.Machine.{at_yes, state_op, state_told, at_size, state_made, at_ok, at_refused};
 
@@ -93,7 +93,7 @@ impl Machine {
     ) -> Machine
         requires { IsChunked mode }
         ensures value { result ≡ started task hash mode initial limit }
-        ensures standing { IsStanding result }
+        ensures valid { IsValid result }
     {
         Machine {
             task,
@@ -109,7 +109,7 @@ impl Machine {
     /// Returns the next ask of the machine: the same until it is answered.
     #[inline(always)]
     pub fn ask(&self) -> Ask
-        requires { IsStanding self.now }
+        requires { IsValid self.now }
         ensures value { result ≡ ask_of self.now }
         ensures size { IsFitAsk result }
         ensures lookup { self.now.task ≡ Task.Get → IsLookup result }
@@ -160,10 +160,10 @@ impl Machine {
     /// Continues after an answer to the last ask. A machine that has replied does not change.
     #[inline(always)]
     pub fn answer(&mut self, answer: Answer)
-        requires standing { IsStanding self.old }
+        requires valid { IsValid self.old }
         requires fit { IsFit answer }
         ensures after { self.new ≡ after self.old answer }
-        ensures standing { IsStanding self.new }
+        ensures valid { IsValid self.new }
     {
         match answer {
             Answer::Word(word) => self.at_word(word),
@@ -182,9 +182,9 @@ impl Machine {
 impl Machine {
     #[inline(always)]
     fn at_word(&mut self, word: u64)
-        requires { IsStanding self.old }
+        requires { IsValid self.old }
         ensures after { self.new ≡ after self.old (Answer.Word word) }
-        ensures standing { IsStanding self.new }
+        ensures valid { IsValid self.new }
     {
         match self.state {
             State::AtRoot => self.state = self.at_root(word),
@@ -205,9 +205,9 @@ impl Machine {
 
     #[inline(always)]
     fn at_exchanged(&mut self)
-        requires { IsStanding self.old }
+        requires { IsValid self.old }
         ensures after { self.new ≡ after self.old Answer.Exchanged }
-        ensures standing { IsStanding self.new }
+        ensures valid { IsValid self.new }
     {
         match self.state {
             State::Opening(table) => self.state = State::Searching(Search::Sizing(table)),
@@ -225,9 +225,9 @@ impl Machine {
     /// Continues with the count of numbers taken for pairs. If it is the limit, the call ends.
     #[inline]
     fn told(&mut self, count: u64)
-        requires { IsStanding self.old }
+        requires { IsValid self.old }
         ensures after { self.new ≡ state_told self.old count }
-        ensures standing { IsStanding self.new }
+        ensures valid { IsValid self.new }
     {
         match self.made.told(count) {
             Some(made) => self.made = made,
@@ -240,7 +240,7 @@ impl Machine {
     fn written(&self, write: Write, pair: u64) -> State
         requires { MayInsert self.now.task }
         ensures value { result ≡ written write pair }
-        ensures standing { IsStandingState self.now.task result }
+        ensures valid { IsValidState self.now.task result }
     {
         if write.old == 0 {
             State::Counting(Claimed {
@@ -257,9 +257,9 @@ impl Machine {
 
     #[inline(always)]
     fn at_found(&mut self, word: u64)
-        requires { IsStanding self.old }
+        requires { IsValid self.old }
         ensures after { self.new ≡ after self.old (Answer.Found word) }
-        ensures standing { IsStanding self.new }
+        ensures valid { IsValid self.new }
     {
         match self.state {
             State::Opening(_) => self.state = State::Searching(Search::Sizing(word)),
@@ -279,9 +279,9 @@ impl Machine {
     #[inline(always)]
     fn beaten(&self, removal: Removal, word: u64) -> State
         requires within { IsWithin removal.place }
-        requires standing { IsStanding self.now }
+        requires valid { IsValid self.now }
         ensures value { result ≡ beaten self.now removal word }
-        ensures standing { IsStandingState self.now.task result }
+        ensures valid { IsValidState self.now.task result }
     {
         if Word(word).kind() == Kind::Buried && self.task != Task::Compute {
             return State::Ended(Reply::Absent);
@@ -291,9 +291,9 @@ impl Machine {
 
     #[inline(always)]
     fn at_yes(&self, yes: bool) -> State
-        requires { IsStanding self.now }
+        requires { IsValid self.now }
         ensures value { result ≡ at_yes self.now yes self.now.state }
-        ensures standing { IsStandingState self.now.task result }
+        ensures valid { IsValidState self.now.task result }
     {
         match self.state {
             State::Searching(search) => self.goes(search.at_yes(yes)),
@@ -310,9 +310,9 @@ impl Machine {
 
     #[inline(always)]
     fn at_op(&mut self, kind: OpKind)
-        requires { IsStanding self.old }
+        requires { IsValid self.old }
         ensures after { self.new ≡ state_op self.old kind }
-        ensures standing { IsStanding self.new }
+        ensures valid { IsValid self.new }
     {
         match self.state {
             State::Offering(gap) => {
@@ -330,10 +330,10 @@ impl Machine {
 
     #[inline(always)]
     fn at_size(&self, len: usize, limit: usize) -> State
-        requires standing { IsStanding self.now }
+        requires valid { IsValid self.now }
         requires size { IsSize len limit }
         ensures value { result ≡ at_size self.now.hash len limit self.now.state }
-        ensures standing { IsStandingState self.now.task result }
+        ensures valid { IsValidState self.now.task result }
     {
         match self.state {
             State::Searching(search) => State::Searching(search.at_size(self.hash, len, limit)),
@@ -343,10 +343,10 @@ impl Machine {
 
     #[inline(always)]
     fn at_made(&mut self, number: u64)
-        requires standing { IsStanding self.old }
+        requires valid { IsValid self.old }
         requires number { number < 2 ^ 48 }
         ensures after { self.new ≡ state_made self.old number }
-        ensures standing { IsStanding self.new }
+        ensures valid { IsValid self.new }
     {
         match self.state {
             State::Making => self.state = State::Opening(number),
@@ -365,9 +365,9 @@ impl Machine {
 
     #[inline(always)]
     fn at_ok(&self) -> State
-        requires { IsStanding self.now }
+        requires { IsValid self.now }
         ensures value { result ≡ at_ok self.now.state }
-        ensures standing { IsStandingState self.now.task result }
+        ensures valid { IsValidState self.now.task result }
     {
         match self.state {
             State::Counting(claimed) => State::Noting(claimed),
@@ -380,9 +380,9 @@ impl Machine {
     /// Ends because something could not be made. The call has made no change before.
     #[inline(always)]
     fn at_refused(&self, refused: Refused) -> State
-        requires { IsStanding self.now }
+        requires { IsValid self.now }
         ensures value { result ≡ at_refused self.now.made refused self.now.state }
-        ensures standing { IsStandingState self.now.task result }
+        ensures valid { IsValidState self.now.task result }
     {
         match self.state {
             State::Making => State::Ended(Reply::Refused(refused)),
@@ -398,9 +398,9 @@ impl Machine {
     /// Continues with the number of the root, or 0.
     #[inline(always)]
     fn at_root(&self, word: u64) -> State
-        requires { IsStanding self.now }
+        requires { IsValid self.now }
         ensures value { result ≡ at_root self.now.task self.now.remembered.fill word }
-        ensures standing { IsStandingState self.now.task result }
+        ensures valid { IsValidState self.now.task result }
     {
         if word != 0 {
             return State::Searching(Search::Sizing(word));
@@ -415,9 +415,9 @@ impl Machine {
     #[inline(always)]
     fn goes(&self, seen: ProbeStep) -> State
         requires seen { IsProbed seen }
-        requires standing { IsStanding self.now }
+        requires valid { IsValid self.now }
         ensures value { result ≡ goes self.now seen }
-        ensures standing { IsStandingState self.now.task result }
+        ensures valid { IsValidState self.now.task result }
     {
         match seen {
             ProbeStep::On(search) => State::Searching(search),
@@ -438,9 +438,9 @@ impl Machine {
     #[inline(always)]
     fn found(&self, place: Place, word: u64) -> State
         requires within { IsWithin place }
-        requires standing { IsStanding self.now }
+        requires valid { IsValid self.now }
         ensures value { result ≡ found self.now.task self.now.remembered place word }
-        ensures standing { IsStandingState self.now.task result }
+        ensures valid { IsValidState self.now.task result }
     {
         if self.task == Task::Get {
             return State::Ended(Reply::Found(Word(word).pair()));
@@ -459,9 +459,9 @@ impl Machine {
     /// Passes a table in the search for the key. With `Blocking`, no later table has the key.
     #[inline(always)]
     fn passes(&self, table: u64) -> State
-        requires { IsStanding self.now }
+        requires { IsValid self.now }
         ensures value { result ≡ passes self.now.task self.now.mode self.now.remembered.fill table }
-        ensures standing { IsStandingState self.now.task result }
+        ensures valid { IsValidState self.now.task result }
     {
         match self.mode {
             ResizeMode::Incremental(_) => State::Leaving(table),
@@ -472,9 +472,9 @@ impl Machine {
     /// Continues with the number of the next table, or 0.
     #[inline(always)]
     fn left(&self, table: u64, word: u64) -> State
-        requires { IsStanding self.now }
+        requires { IsValid self.now }
         ensures value { result ≡ left self.now.task self.now.remembered.fill table word }
-        ensures standing { IsStandingState self.now.task result }
+        ensures valid { IsValidState self.now.task result }
     {
         if word == 0 {
             self.absent(Gap::After(table))
@@ -487,9 +487,9 @@ impl Machine {
     #[inline(always)]
     fn absent(&self, gap: Gap) -> State
         requires gap { IsGap gap }
-        requires standing { IsStanding self.now }
+        requires valid { IsValid self.now }
         ensures value { result ≡ absent self.now.task self.now.remembered.fill gap }
-        ensures standing { IsStandingState self.now.task result }
+        ensures valid { IsValidState self.now.task result }
     {
         if self.task != Task::Compute {
             return State::Ended(Reply::Absent);

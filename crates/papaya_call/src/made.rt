@@ -1,6 +1,6 @@
 //! The parts that a call has stored for its pairs, and those that the next pair still needs.
 ghost use Rattle.std.specs.Prelude.{◌≡◌, ◌<◌, ◌^◌};
-ghost use Rattle.papaya_call.specs.Made.{IsGrown, IsMade, IsTold, answered, grown, nothing_made, number_kind, pair_ask, serves_at, taken, told, wanted};
+ghost use Rattle.papaya_call.specs.Made.{IsGrown, IsMade, IsMadeOrNone, answered, grown, nothing_made, number_kind, pair_ask, serves_at, taken, told, wanted};
 
 use crate::ask::{Ask, At, OpKind, StepKind};
 use crate::search::Place;
@@ -130,7 +130,7 @@ impl Made {
     pub fn told(self, count: u64) -> Option<Made>
         requires { IsMade self }
         ensures value { result ≡ told self count }
-        ensures made { IsTold result }
+        ensures made { IsMadeOrNone result }
     {
         if let Number::Taken = self.number {
             return Some(self);

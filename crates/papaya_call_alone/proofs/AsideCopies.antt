@@ -47,7 +47,7 @@ use Rattle.papaya_call_alone.specs.Measure.{further, left_of_chunk, left_of_copi
 use Rattle.papaya_call_alone.specs.Prompt.{IsCopyPrompt}
 use Rattle.papaya_call_alone.specs.Rank.{rank, rank_at_root, rank_of, rank_of_copying, rank_of_step}
 use Rattle.papaya_call_alone.proofs.Afters.{copying_settles, copying_steps, settle_after, step_after}
-use Rattle.papaya_call_alone.proofs.AsideRanks.{GoesOn, HasNext, IsBegun, IsMidway, Lowers, begun_rank, next_ranks, step_goes, step_puts}
+use Rattle.papaya_call_alone.proofs.AsideRanks.{Continues, HasNext, IsBegun, IsMidway, Lowers, begun_rank, next_ranks, step_goes, step_puts}
 use Rattle.papaya_call_alone.proofs.CopyEnds.{any_alive, copying_ends, same_aim}
 use Rattle.papaya_call_alone.proofs.Onwards.{AimsAt, aim_read, anew_current, anew_rank, enters_current}
 use Rattle.papaya_call_alone.proofs.SettleEnds.{settle_puts}
@@ -83,7 +83,7 @@ module _ (words words' : At → ℕ) (bare : IsBare words) (bare' : IsBare words
   IsBehind now = (t : ℕ) → IsIncremental mode → left_by m.call.state ≡ Some t → now words_at.Root ≤ t
 
   -- where a chunk goes on, and by how much less is left
-  led_lowers : (aim : Aim) (step : Step) → IsBehind words' → (end : Stepped) → GoesOn end → IsSpent before later
+  led_lowers : (aim : Aim) (step : Step) → IsBehind words' → (end : Stepped) → Continues end → IsSpent before later
       ⊎ ((later ≡ before) × (left_of_copied (leads aim mode end) < left_of_step step)) → IsCopiedRead mode words' (leads aim mode end)
       → Lowers words words' before later m (rank 1 0 (left_of_step step)) (after_copied m (leads aim mode end))
   led_lowers aim step left (stepped.On step') goes nears read = (

@@ -102,10 +102,10 @@ IsMidway (steps.Advancing cursor) = ⊥
 IsMidway (steps.Promoting from to) = ⊥
 IsMidway _ = Unit {0}
 
-abbrev pub GoesOn : Stepped → Type 0
-GoesOn (stepped.On step) = IsBegun step
-GoesOn (stepped.Refused refused) = Unit {0}
-GoesOn _ = ⊥
+abbrev pub Continues : Stepped → Type 0
+Continues (stepped.On step) = IsBegun step
+Continues (stepped.Refused refused) = Unit {0}
+Continues _ = ⊥
 
 -- a chunk that has begun ranks by what is left to it
 pub begun_rank : (root : ℕ) (aim : Aim) (step : Step) → IsBegun step → rank_of_step root aim step ≡ rank 1 0 (left_of_step step)
@@ -138,15 +138,15 @@ HasNext (Incremental chunk) words (steps.Aiming from behind) = 0 < words (words_
 HasNext _ words _ = Unit {0}
 
 -- each answer leads on, until it is over
-linked_goes : (from : ℕ) (end : Linked) → GoesOn (linked_to from end)
+linked_goes : (from : ℕ) (end : Linked) → Continues (linked_to from end)
 linked_goes from (linked.On link) = tt
 linked_goes from (linked.Table table) = tt
 linked_goes from (linked.Refused refused) = tt
 
-settled_goes : (chunk : Chunk) (end : Settled) → GoesOn (settled_to chunk end)
+settled_goes : (chunk : Chunk) (end : Settled) → Continues (settled_to chunk end)
 settled_goes chunk (settled.On settle) = tt
 settled_goes chunk settled.Settled = cond_both (nat_lt (chunk.at + 1) chunk.end) (stepped.On (steps.Settling (next_slot chunk) settles.Looking))
-    (stepped.On (steps.Advancing chunk.cursor)) GoesOn (λ _. tt) (λ _. tt)
+    (stepped.On (steps.Advancing chunk.cursor)) Continues (λ _. tt) (λ _. tt)
 settled_goes chunk (settled.Unfit table) = tt
 settled_goes chunk (settled.Refused refused) = tt
 
@@ -157,12 +157,12 @@ next_goes cursor first =
     (λ _. cond_both (not cursor.wrapped && nat_lt 0 cursor.start) (steps.AtChunk (first_chunk cursor)) (steps.Promoting cursor.from cursor.to) IsBegun
     (λ _. first) (λ _. tt))
 
-chunk_read_goes : (cursor : Cursor) (done : ℕ) → cursor.copied ≡ false → GoesOn (chunk_read cursor done)
+chunk_read_goes : (cursor : Cursor) (done : ℕ) → cursor.copied ≡ false → Continues (chunk_read cursor done)
 chunk_read_goes cursor done first =
     cond_both (not (done == 0)) (stepped.On (next_cursor cursor))
-    (cond cursor.copied (stepped.Further (chunk_at cursor)) (stepped.On (steps.Settling (chunk_at cursor) settles.Looking))) GoesOn
+    (cond cursor.copied (stepped.Further (chunk_at cursor)) (stepped.On (steps.Settling (chunk_at cursor) settles.Looking))) Continues
     (λ _. next_goes cursor first)
-    (λ _. cond_both cursor.copied (stepped.Further (chunk_at cursor)) (stepped.On (steps.Settling (chunk_at cursor) settles.Looking)) GoesOn
+    (λ _. cond_both cursor.copied (stepped.Further (chunk_at cursor)) (stepped.On (steps.Settling (chunk_at cursor) settles.Looking)) Continues
     (λ copied. absurd (cc (copied, first))) (λ _. tt))
 
 -- after a chunk that was copied the next word has a lower rank
@@ -185,33 +185,33 @@ next_ranks root aim cursor =
         (λ _. omega (arith, less)) (λ _. omega (arith, less))
 
 aimed_goes : (mode : ResizeMode) (words : At → ℕ) (from behind : ℕ) → HasNext mode words (steps.Aiming from behind)
-    → GoesOn (aimed from behind mode (words (words_at.Next behind)))
+    → Continues (aimed from behind mode (words (words_at.Next behind)))
 aimed_goes (Incremental chunk) words from behind some =
-    cond_both (words (words_at.Next behind) == 0) (stepped.Last from) (stepped.On (steps.Sizing from (words (words_at.Next behind)))) GoesOn
+    cond_both (words (words_at.Next behind) == 0) (stepped.Last from) (stepped.On (steps.Sizing from (words (words_at.Next behind)))) Continues
     (λ e. let none : words (words_at.Next behind) ≡ 0 = eqb-true (words (words_at.Next behind)) 0 e in absurd (omega (arith, none, some)))
     (λ _. tt)
 aimed_goes Blocking words from behind some =
     cond_both (words (words_at.Next behind) == 0) (stepped.On (steps.Linking from (links.Sizing behind from (not (behind == from)))))
-    (stepped.On (steps.Judging from (words (words_at.Next behind)))) GoesOn (λ _. tt) (λ _. tt)
+    (stepped.On (steps.Judging from (words (words_at.Next behind)))) Continues (λ _. tt) (λ _. tt)
 
 -- so a chunk goes on until it is over
 pub step_goes : (mode : ResizeMode) (initial number : ℕ) (words words' : At → ℕ) (step : Step) (answer : Answer) → IsMidway step
-    → HasNext mode words step → IsCopyPrompt words (step_ask step) answer words' → GoesOn (step_after step mode initial number answer)
+    → HasNext mode words step → IsCopyPrompt words (step_ask step) answer words' → Continues (step_after step mode initial number answer)
 step_goes mode initial number words words' steps.AtRoot answer h next told = absurd h
 step_goes mode initial number words words' (steps.Aiming from behind) answer h next
-    told = subst (λ a. GoesOn (step_after (steps.Aiming from behind) mode initial number a)) (sym told.0.0) (aimed_goes mode words from behind next)
-step_goes mode initial number words words' (steps.Linking from link) answer h next told = subst GoesOn
+    told = subst (λ a. Continues (step_after (steps.Aiming from behind) mode initial number a)) (sym told.0.0) (aimed_goes mode words from behind next)
+step_goes mode initial number words words' (steps.Linking from link) answer h next told = subst Continues
     (sym (step_links mode initial number from link answer)) (linked_goes from (link_after link mode initial answer))
 step_goes mode initial number words words' (steps.Judging from to) answer h next told =
-    subst (λ a. GoesOn (step_after (steps.Judging from to) mode initial number a)) (sym told.0.0)
+    subst (λ a. Continues (step_after (steps.Judging from to) mode initial number a)) (sym told.0.0)
     (cond_both (words (words_at.Aborted to) == 0) (steps.Sizing from to) (steps.Aiming from to) IsBegun (λ _. tt) (λ _. tt))
 step_goes mode initial number words words' (steps.Sizing from to) answer h next told =
     let (slots, limit, size, e) = told.0 in
-    subst (λ a. GoesOn (step_after (steps.Sizing from to) mode initial number a)) (sym e) refl
+    subst (λ a. Continues (step_after (steps.Sizing from to) mode initial number a)) (sym e) refl
 step_goes mode initial number words words' (steps.AtChunk cursor) answer h next
-    told = subst (λ a. GoesOn (step_after (steps.AtChunk cursor) mode initial number a)) (sym told.0.0)
+    told = subst (λ a. Continues (step_after (steps.AtChunk cursor) mode initial number a)) (sym told.0.0)
     (chunk_read_goes cursor (words (words_at.Done cursor.to cursor.at)) h)
-step_goes mode initial number words words' (steps.Settling chunk settle) answer h next told = subst GoesOn
+step_goes mode initial number words words' (steps.Settling chunk settle) answer h next told = subst Continues
     (sym (step_settles mode initial number chunk settle answer)) (settled_goes chunk (settle_after settle (slot_of chunk) mode initial answer))
 step_goes mode initial number words words' (steps.Advancing cursor) answer h next told = absurd h
 step_goes mode initial number words words' (steps.Promoting from to) answer h next told = absurd h

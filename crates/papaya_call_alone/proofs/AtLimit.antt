@@ -60,7 +60,7 @@ use Rattle.papaya_call_law.specs.Alone.{IsNumberRead}
 use Rattle.papaya_call_law.specs.Says.{MakesPair}
 use Rattle.papaya_call_law.proofs.Makings.{IsMakeAsk, make_asks, pair_holds, pair_made}
 use Rattle.papaya_call_law.proofs.Names.{call_asks}
-use Rattle.papaya_call_alone.specs.Limits.{HasNumber, IsLogAsk, IsLogging, IsNumberTaken, IsPairLogged, IsTakeAsk}
+use Rattle.papaya_call_alone.specs.Limits.{HasNumber, IsPartAsk, IsMakingPart, IsNumberTaken, IsPairMade, IsTakeAsk}
 
 -- the number of a call that makes a pair in this stage
 abbrev NumberIs : Number → Made → State → Type 0
@@ -91,8 +91,8 @@ module _ (Holds : Call_ask → Type 0) (key : Holds MakeKey) (value : Holds Make
       (record { loads = λ h. absurd h; takes = λ count h. absurd h; key = λ h. key; value = λ h. value; pair = λ h. pair; pair_of = λ n h. pair_of n })
       (record made { number = Taken }) old (make_asks made old)
 
-make_logs : (made : Made) (old : ℕ) → IsLogAsk (make_ask made old)
-make_logs made old = make_holds IsLogAsk tt tt tt (λ n. tt) made old
+make_logs : (made : Made) (old : ℕ) → IsPartAsk (make_ask made old)
+make_logs made old = make_holds IsPartAsk tt tt tt (λ n. tt) made old
 
 module _ (made : Made) (stage : State) (is : (number : Number) → made.number ≡ number → NumberIs number made stage) where
   number_for : (number : Number) → made.number ≡ number → (old : ℕ) → NumberFor (number_ask number made old) made stage
@@ -147,18 +147,18 @@ module _ (call : Call_machine) where
   free_asks count stage h = absurd h
 
   -- and then something is logged
-  taken_asks : (old : ℕ) (stage : State) → NumberIs (Free old) call.made stage → IsLogAsk (next_ask stage Exchanged)
+  taken_asks : (old : ℕ) (stage : State) → NumberIs (Free old) call.made stage → IsPartAsk (next_ask stage Exchanged)
   taken_asks old (Writing write) h =
       let next : Made = record call.made { number = Taken } in
       let is : taken call.made ≡ next = ap (taken_as call.made) h.1 in
-      subst IsLogAsk
+      subst IsPartAsk
       (sym (ap (λ o. asks (write_taken o call.made) call.hash (exchanged o write)) h.0 ∙ ap (λ made. asks made call.hash (Writing write)) is
       ∙ ap (λ o. served_ask o write next) h.0))
       (make_logs next write.old)
   taken_asks old (Pairing purpose) h =
       let next : Made = record call.made { number = Taken } in
       let is : taken call.made ≡ next = ap (taken_as call.made) h in
-      subst IsLogAsk (sym (ap (λ made. asks made call.hash (Pairing purpose)) is)) (make_logs next (in_place_of purpose))
+      subst IsPartAsk (sym (ap (λ made. asks made call.hash (Pairing purpose)) is)) (make_logs next (in_place_of purpose))
   taken_asks old stage h = absurd h
 
   -- the exchange of a number is of that kind
@@ -223,21 +223,21 @@ module _ (m : Machine) (old new : ℕ) (asking : ask_of m ≡ asked.Call (Exchan
   )
 
   -- and it goes on
-  pub limit_goes_on : IsLogging (ask_of (after m (answers.Call Exchanged)))
-  limit_goes_on = subst IsLogging (sym (stepped_asks m (Exchange Made_word old new) asking Exchanged refl)) (taken_asks m.call old m.call.state takes.0)
+  pub limit_goes_on : IsMakingPart (ask_of (after m (answers.Call Exchanged)))
+  limit_goes_on = subst IsMakingPart (sym (stepped_asks m (Exchange Made_word old new) asking Exchanged refl)) (taken_asks m.call old m.call.state takes.0)
 
 -- what is logged has a number
-log_number : (ask : Call_ask) (made : Made) (stage : State) → IsLogAsk ask → NumberFor ask made stage → made.number ≡ Taken
+log_number : (ask : Call_ask) (made : Made) (stage : State) → IsPartAsk ask → NumberFor ask made stage → made.number ≡ Taken
 log_number MakeKey made stage logs h = number_of Taken made stage h
 log_number MakeValue made stage logs h = number_of Taken made stage h
 log_number MakePair made stage logs h = number_of Taken made stage h
 log_number (MakePairOf n) made stage logs h = number_of Taken made stage h
 log_number ask made stage logs h = absurd logs
 
-pub limit_logs : (m : Machine) → IsLogging (ask_of m) → HasNumber m
+pub limit_logs : (m : Machine) → IsMakingPart (ask_of m) → HasNumber m
 limit_logs m logs = in_phase m.phase logs
   where
-    in_phase : (phase : Phase) → IsLogging (asks_in m.call phase) → HasNumber m
+    in_phase : (phase : Phase) → IsMakingPart (asks_in m.call phase) → HasNumber m
     in_phase Calling h = log_number (call_machine.ask_of m.call) m.call.made m.call.state h (stage_for m.call.made m.call.hash m.call.state)
     in_phase (Linking link) h = absurd h
     in_phase (Copying_root copying) h = absurd h
@@ -295,7 +295,7 @@ module _ (call : Call_machine) (most : ℕ) (limit : call.made.limit ≡ Some mo
   -- a number was taken, or there was one, and no pair was logged
   abbrev Numbered : Call_ask → Call_answer → Type 0
   Numbered ask told = IsNumberTaken (asked.Call ask) (answers.Call told)
-      ⊎ ((call.made.number ≡ Taken) × (IsPairLogged (asked.Call ask) (answers.Call told) → ⊥))
+      ⊎ ((call.made.number ≡ Taken) × (IsPairMade (asked.Call ask) (answers.Call told) → ⊥))
 
   word_number : (count : ℕ) (stage : State) → (made_at_word call.made count stage).number ≡ Taken → call.made.number ≡ Taken
   word_number count (Writing write) h = by_served (serves call.made write) h
@@ -416,7 +416,7 @@ module _ (m : Machine) where
 
     -- of the machine
     phase_number : (answer : Answer) (phase : Phase) → HasNumber (after_in m answer phase) → IsNumberTaken (asks_in m.call phase) answer
-        ⊎ (HasNumber m × (IsPairLogged (asks_in m.call phase) answer → ⊥))
+        ⊎ (HasNumber m × (IsPairMade (asks_in m.call phase) answer → ⊥))
     phase_number (answers.Call told) Calling h = called_number told h
     phase_number (answers.Hash hash) Calling h = inr (h, λ pair. pair)
     phase_number (answers.Count count) Calling h = inr (h, λ pair. pair)
@@ -425,5 +425,5 @@ module _ (m : Machine) where
     phase_number answer (Copying_root copying) h = inr
         (sym (ap (λ (made : Made). made.number) (copied_made (copying_after copying m.call.mode m.call.initial m.number answer))) ∙ h, λ pair. pair)
 
-    pub limit_each : (answer : Answer) → HasNumber (after m answer) → IsNumberTaken (ask_of m) answer ⊎ (HasNumber m × (IsPairLogged (ask_of m) answer → ⊥))
+    pub limit_each : (answer : Answer) → HasNumber (after m answer) → IsNumberTaken (ask_of m) answer ⊎ (HasNumber m × (IsPairMade (ask_of m) answer → ⊥))
     limit_each answer h = phase_number answer m.phase h

@@ -31,7 +31,7 @@ use Rattle.papaya_words_law.proofs.Codes.{code_pair}
 use Rattle.papaya_words_law.proofs.OneMap.{keeping}
 use Rattle.papaya_call_law.specs.Alone.{IsPrompt, IsSame}
 use Rattle.papaya_call_law.specs.Relies.{Relies, ReliesStage}
-use Rattle.papaya_call_law.specs.Told.{IsAsked, IsOwnWord, IsTold, LoadedPairs, word_of}
+use Rattle.papaya_call_law.specs.TrueAnswers.{IsAsked, IsOwnWord, IsTrueOf, LoadedPairs, word_of}
 use Rattle.papaya_call_law.proofs.Makings.{IsPairAsk, IsWriteAsk, pairing_asks, write_asks}
 use Rattle.papaya_call_law.proofs.ReliesExchange.{machine_may}
 use Rattle.papaya_call_law.proofs.ReliesNames.{IsNamed, ask_named}
@@ -143,7 +143,7 @@ module _ {K P : Type 0} (g : Setting K P) (c : Coding K P) (hashed : IsHashed g 
 
     -- a told answer is prompt
     prompt_of : (ask : Ask) → ask_of m ≡ ask → (answer : Answer) (es : List (Exchange P)) (loaded' : LoadedPairs P) → IsServed m.task ask answer
-        → IsTold g c k now (kind_of_ask m) loaded ask answer es loaded' → IsPrompt m.task (word_of g c now) ask answer (word_of g c (run es now))
+        → IsTrueOf g c k now (kind_of_ask m) loaded ask answer es loaded' → IsPrompt m.task (word_of g c now) ask answer (word_of g c (run es now))
     prompt_of (Load at) is answer es loaded' served told = (told.0, same_none es told.1)
     prompt_of (Ask_exchange at old new) is answer es loaded' served told =
         by_each (word_of g c now at == old)
@@ -174,5 +174,5 @@ module _ {K P : Type 0} (g : Setting K P) (c : Coding K P) (hashed : IsHashed g 
 
     -- of the call
     pub call_prompt : (answer : Answer) (es : List (Exchange P)) (loaded' : LoadedPairs P) → IsServed m.task (ask_of m) answer
-        → IsTold g c k now (kind_of_ask m) loaded (ask_of m) answer es loaded' → IsPrompt m.task (word_of g c now) (ask_of m) answer (word_of g c (run es now))
+        → IsTrueOf g c k now (kind_of_ask m) loaded (ask_of m) answer es loaded' → IsPrompt m.task (word_of g c now) (ask_of m) answer (word_of g c (run es now))
     call_prompt answer es loaded' served told = prompt_of (ask_of m) refl answer es loaded' served told

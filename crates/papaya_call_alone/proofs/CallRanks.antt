@@ -49,8 +49,8 @@ use Rattle.papaya_call.specs.Compute.{fills, in_place_of, lacks, offered, chosen
 use Rattle.papaya_call.specs.Made.{answered, serves_at}
 use Rattle.papaya_call.specs.Machine.{after, ask_of, asks, absent, at_root, left as next_or_end, passes, replaces, removes, computes, goes_as, written, agreed}
 use Rattle.papaya_call_law.proofs.Leads.{occupies_leads}
-use Rattle.papaya_call_law.specs.Alone.{IsNumberRead, IsPut, IsMaking, IsSame, IsSaying, IsPrompt}
-use Rattle.papaya_call_law.specs.Alone.{IsRead, left, left_in, left_to_log, left_to_number}
+use Rattle.papaya_call_law.specs.Alone.{IsNumberRead, IsPut, IsMaking, IsSame, IsClosureAnswer, IsPrompt}
+use Rattle.papaya_call_law.specs.Alone.{IsRead, left, left_in, left_to_push, left_to_number}
 use Rattle.papaya_call_law.specs.Alone.{left_to_pair, left_to_serve_with, left_to_write}
 use Rattle.papaya_call_law.proofs.AloneSteps.{by_saying, exchange_done}
 use Rattle.papaya_call_law.proofs.Makings.{HoldsOfPairAsks, pair_holds, pairing_leads, unserved_leads, write_then, write_then_is}
@@ -128,7 +128,7 @@ number_most Wanted = omega arith
 number_most (Free count) = omega arith
 number_most Taken = omega arith
 
-log_most : (logged : Bool) → left_to_log logged ≤ 1
+log_most : (logged : Bool) → left_to_push logged ≤ 1
 log_most true = omega arith
 log_most false = omega arith
 
@@ -136,7 +136,7 @@ pub pair_most : (made : Made) (old : ℕ) → left_to_pair made old ≤ 5
 pair_most made old =
     let a = number_most made.number in
     let b = log_most made.valued in
-    let c = cond_both (old == 0) (left_to_log made.keyed) 0 (λ n. n ≤ 1) (λ _. log_most made.keyed) (λ _. omega arith) in
+    let c = cond_both (old == 0) (left_to_push made.keyed) 0 (λ n. n ≤ 1) (λ _. log_most made.keyed) (λ _. omega arith) in
     omega (arith, a, b, c)
 
 pub write_most : (made : Made) (write : Write) → left_to_write made write ≤ 8
@@ -410,7 +410,7 @@ module _ (words words' : At → ℕ) (m : Machine) where
       stays_less made' (purposes.Again write) less = omega (arith, less)
 
   -- a closure was shown a pair
-  showing_ends : (made : Made) (removal : Removal) (answer : Answer) → IsSaying m.task answer → Ends made (Showing removal) answer
+  showing_ends : (made : Made) (removal : Removal) (answer : Answer) → IsClosureAnswer m.task answer → Ends made (Showing removal) answer
   showing_ends made removal answer told =
       by_saying (λ task said. let m' : Machine = after (record m { task = task; made = made; state = Showing removal }) said in
       (⊥ ⊎ (rank_in m'.made m'.state < rank 1 0 9)) × IsAheadIn m.mode words' m'.state)

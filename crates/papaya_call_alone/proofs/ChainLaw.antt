@@ -23,21 +23,21 @@ use Rattle.papaya_call.specs.declared.chain.ask.Ask.TheVariants as asks
 use Rattle.papaya_call.specs.declared.chain.ask.Answer.TheVariants as answers
 use Rattle.papaya_call.specs.declared.chain.ask.Answer.{Answer}
 use Rattle.papaya_call.specs.declared.chain.machine.Machine.{Machine}
-use Rattle.papaya_call.specs.ChainMachine.{IsStanding, after, ask_of, asks_in, follows_of, kind_of_ask}
+use Rattle.papaya_call.specs.ChainMachine.{IsValid, after, ask_of, asks_in, follows_of, kind_of_ask}
 use Rattle.papaya_words_law.specs.Allows.{AllAllowed}
 use Rattle.papaya_words_law.specs.Code.{Coding, IsHashed}
 use Rattle.papaya_words_law.specs.Exchange.{Setting, Exchange, run, start}
 use Rattle.papaya_words_law.proofs.Moments.{run-append}
 use Rattle.papaya_call_law.proofs.AloneCurrent.{machine_stable}
 use Rattle.papaya_call_law.specs.Alone.{IsNumberRead}
-use Rattle.papaya_call_law.specs.Told.{word_of}
+use Rattle.papaya_call_law.specs.TrueAnswers.{word_of}
 use Rattle.papaya_call_law.specs.Copier.{HasWords}
 use Rattle.papaya_call_law.proofs.Goes.{machine_goes}
 use Rattle.papaya_call_law.proofs.Order.{in_order}
 use Rattle.papaya_call_law.proofs.Replies.{own_told}
 use Rattle.papaya_call_law.specs.Goes.{IsInOrder, IsOwnStep, link_in}
 use Rattle.papaya_call_law.specs.ChainRelies.{Relies, left_by}
-use Rattle.papaya_call_law.specs.ChainTold.{IsTold, LoadedPairs}
+use Rattle.papaya_call_law.specs.ChainAnswers.{IsTrueOf, LoadedPairs}
 use Rattle.papaya_call_alone.specs.Ahead.{IsCallRead, IsCurrent, IsPhaseRead}
 use Rattle.papaya_call_alone.specs.Budget.{Budget, IsSpent, Spends, SpendsCall, SpendsCopy, SpendsExchange}
 use Rattle.papaya_call_alone.specs.Prompt.{IsBounded, IsServedAsk}
@@ -83,7 +83,7 @@ module _ {K P : Type 0} (g : Setting K P) (c : Coding K P) (hashed : IsHashed g 
     (may : AllAllowed g start (begun ++ since)) (bounded : IsBounded g (run (begun ++ since) start)) (k : K) (m : Machine) (loaded : LoadedPairs P)
     (r : Relies g c begun since k m loaded) (made : HasWords g (link_in m.phase)) (current : IsCurrent (word_of g c (run (begun ++ since) start)) m)
     (answer : Answer) (es : List (Exchange P)) (loaded' : LoadedPairs P)
-    (told : IsTold g c k (run (begun ++ since) start) (kind_of_ask m) (follows_of m) loaded (ask_of m) answer es loaded')
+    (told : IsTrueOf g c k (run (begun ++ since) start) (kind_of_ask m) (follows_of m) loaded (ask_of m) answer es loaded')
     (served : IsServedAsk m.call.task (ask_of m) answer) where
   -- the state comes from all exchanges
   reaches : run es (run (begun ++ since) start) ≡ run (begun ++ (since ++ es)) start
@@ -148,10 +148,10 @@ module _ {K P : Type 0} (g : Setting K P) (c : Coding K P) (hashed : IsHashed g 
 
   -- the measure falls
   pub call_nears : (before later : Budget) → Spends (kind_of_ask m) (ask_of m) answer before later → later.exchanges < 2 ^ 128
-      → IsStanding (after m answer) → measure later (run (begun ++ (since ++ es)) start).root (after m answer) < measure before
+      → IsValid (after m answer) → measure later (run (begun ++ (since ++ es)) start).root (after m answer) < measure before
       (run (begun ++ since) start).root m
-  call_nears before later spends few standing =
-      let small = rank_small (run (begun ++ (since ++ es)) start).root (after m answer) standing in
+  call_nears before later spends few valid =
+      let small = rank_small (run (begun ++ (since ++ es)) start).root (after m answer) valid in
       measure_less before later (rank_of (run (begun ++ since) start).root m) (rank_of (run (begun ++ (since ++ es)) start).root (after m answer)) few
       (omega (arith, small)) (falls before later spends).0
 

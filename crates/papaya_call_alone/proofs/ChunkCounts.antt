@@ -40,10 +40,10 @@ use Rattle.papaya_words_law.proofs.OneMap.{keeping_sound}
 use Rattle.papaya_call_law.specs.Alone.{IsPut}
 use Rattle.papaya_call_law.specs.Copier.{HasWords, IsCursor, ReliesStep}
 use Rattle.papaya_call_law.specs.Relies.{IsCutAs, IsModeOf}
-use Rattle.papaya_call_law.specs.Told.{word_of}
+use Rattle.papaya_call_law.specs.TrueAnswers.{word_of}
 use Rattle.papaya_call_law.proofs.AloneSteps.{exchange_done}
-use Rattle.papaya_call_law.specs.Resizers.{IsStageTold, ReliesStage, link_of}
-use Rattle.papaya_call_law.specs.ChainTold.{LoadedPairs}
+use Rattle.papaya_call_law.specs.Resizers.{IsTrueOfStage, ReliesStage, link_of}
+use Rattle.papaya_call_law.specs.ChainAnswers.{LoadedPairs}
 use Rattle.papaya_call_law.proofs.ResizerRelies.{stage_learns, told_of_ask}
 use Rattle.papaya_call_alone.specs.Chunks.{AllFallShort, AllLeaveRoot, IsDue, IsFewer, WillCopyIn, WillCopyStep, chunks_of, due_of}
 use Rattle.papaya_call_alone.specs.Current.{IsStepRead}
@@ -263,7 +263,7 @@ module _ {K P : Type 0} (g : Setting K P) (c : Coding K P) (hashed : IsHashed g 
   -- after each answer
   pub stage_copies : (stage : Stage) → ReliesStage g c s loaded stage → HasWords g (link_of stage)
       → IsStageRead (Incremental slots) (word_of g c s) Chunk stage → WillCopyIn (word_of g c s) from to (chunks_of (g.size from) slots) due stage
-      → (answer : Answer) (es : List (Exchange P)) (loaded' : LoadedPairs P) → IsStageTold g c s stage loaded answer es loaded'
+      → (answer : Answer) (es : List (Exchange P)) (loaded' : LoadedPairs P) → IsTrueOfStage g c s stage loaded answer es loaded'
       → WillCopyIn (word_of g c (run es s)) from to (chunks_of (g.size from) slots) due (after_in Chunk (Incremental slots) initial number answer stage)
   stage_copies (Copying began (copyings.Stepping aims.Chunk step)) (own, r) made read (d, goes) answer es loaded' told =
       let copying = copyings.Stepping aims.Chunk step in

@@ -9,10 +9,10 @@ use Rattle.papaya_words_law.specs.Code.{Coding, IsHashed}
 use Rattle.papaya_words_law.specs.Exchange.{Setting, State, Exchange, run}
 use Rattle.papaya_words_law.specs.Invariant.{IsKeeping}
 use Rattle.papaya_call_law.specs.Copier.{HasWords, ReliesCopying, link_in_copying}
-use Rattle.papaya_call_law.specs.Told.{word_of}
+use Rattle.papaya_call_law.specs.TrueAnswers.{word_of}
 use Rattle.papaya_call_law.proofs.CopierCopies.{copying_there}
 use Rattle.papaya_call_law.proofs.CopierExchange.{copying_may}
-use Rattle.papaya_call_law.specs.ChainTold.{IsCopyTold, LoadedPairs}
+use Rattle.papaya_call_law.specs.ChainAnswers.{IsTrueOfCopy, LoadedPairs}
 use Rattle.papaya_call_alone.specs.Budget.{Budget, IsSpent, SpendsCopy}
 use Rattle.papaya_call_alone.specs.Current.{IsCopiedRead, IsCopyingRead}
 use Rattle.papaya_call_alone.specs.Measure.{left_of_copied, left_of_copying}
@@ -25,7 +25,7 @@ module _ {K P : Type 0} (g : Setting K P) (c : Coding K P) (hashed : IsHashed g 
     (bounded : IsBounded g s) (mode : ResizeMode) (initial number : ℕ) (loaded : LoadedPairs P) (copying : Copying)
     (r : ReliesCopying g c s loaded.call.last loaded.kept copying) (made : HasWords g (link_in_copying copying))
     (read : IsCopyingRead mode (word_of g c s) copying) (answer : Answer) (es : List (Exchange P)) (loaded' : LoadedPairs P)
-    (told : IsCopyTold g c s (copying_kind copying) (copying_follows copying) loaded (copying_ask copying) answer es loaded') where
+    (told : IsTrueOfCopy g c s (copying_kind copying) (copying_follows copying) loaded (copying_ask copying) answer es loaded') where
   -- what is told of the words is what they answer
   pub prompt : IsCopyPrompt (word_of g c s) (copying_ask copying) answer (word_of g c (run es s))
   prompt =

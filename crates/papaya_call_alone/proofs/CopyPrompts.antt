@@ -22,9 +22,9 @@ use Rattle.papaya_words_law.proofs.Codes.{code_kind}
 use Rattle.papaya_words_law.proofs.OneMap.{keeping_sound}
 use Rattle.papaya_call_law.specs.Alone.{IsBare, IsSame}
 use Rattle.papaya_call_law.specs.Copier.{AreThere, IsCopyAsked, IsThere}
-use Rattle.papaya_call_law.specs.Told.{IsWritten, word_of}
+use Rattle.papaya_call_law.specs.TrueAnswers.{IsWritten, word_of}
 use Rattle.papaya_call_law.proofs.CopierExchange.{one_asked}
-use Rattle.papaya_call_law.specs.ChainTold.{IsCopyTold, LoadedPairs}
+use Rattle.papaya_call_law.specs.ChainAnswers.{IsTrueOfCopy, LoadedPairs}
 use Rattle.papaya_call_alone.specs.Prompt.{IsBounded, IsCopyPrompt, IsNumber}
 
 -- by each outcome of a test
@@ -78,7 +78,7 @@ module _ {K P : Type 0} (g : Setting K P) (c : Coding K P) (hashed : IsHashed g 
 
     -- a told answer is prompt
     pub told_prompt : (q : CopyAsk) → AreThere g c s loaded.call.last loaded.kept q → MayAsk q
-        → (answer : Answer) (es : List (Exchange P)) (loaded' : LoadedPairs P) → IsCopyTold g c s kind_asked behind loaded q answer es loaded'
+        → (answer : Answer) (es : List (Exchange P)) (loaded' : LoadedPairs P) → IsTrueOfCopy g c s kind_asked behind loaded q answer es loaded'
         → IsCopyPrompt words q answer (word_of g c (run es s))
     told_prompt (Load at) there may answer es loaded' told = ((told.0, number_there at there), same_none es told.1)
     told_prompt (Ask_exchange at old new) there may answer es loaded' told =

@@ -35,14 +35,14 @@ use Rattle.papaya_call_law.specs.Alone.{IsNumberRead}
 use Rattle.papaya_call_law.specs.Copier.{AreThere, HasWords, IsThere, ReliesCopying, ReliesLinked, aim_of, link_in_copying}
 use Rattle.papaya_call_law.specs.Relies as calls
 use Rattle.papaya_call_law.specs.Relies.{IsCutAs, IsModeOf}
-use Rattle.papaya_call_law.specs.Told.{word_of}
-use Rattle.papaya_call_law.specs.Told as call_told
+use Rattle.papaya_call_law.specs.TrueAnswers.{word_of}
+use Rattle.papaya_call_law.specs.TrueAnswers as call_told
 use Rattle.papaya_call_law.proofs.CopierCopies.{copying_there, link_there}
 use Rattle.papaya_call_law.proofs.CopierExchange.{copying_may, link_may}
 use Rattle.papaya_call_law.proofs.ReliesNames.{come_on}
 use Rattle.papaya_call_law.specs.Goes.{link_in}
 use Rattle.papaya_call_law.specs.ChainRelies.{IsLinking, ReliesPhase, left_by}
-use Rattle.papaya_call_law.specs.ChainTold.{IsCopyTold, IsTold, LoadedPairs}
+use Rattle.papaya_call_law.specs.ChainAnswers.{IsTrueOfCopy, IsTrueOf, LoadedPairs}
 use Rattle.papaya_call_law.proofs.Aside.{left_come}
 use Rattle.papaya_call_law.proofs.Making.{link_learns_all}
 use Rattle.papaya_call_law.proofs.Replies.{aside_asks}
@@ -136,7 +136,7 @@ module _ {K P : Type 0} (g : Setting K P) (c : Coding K P) (hashed : IsHashed g 
 
   -- it asks for itself
   calling_falls : IsNumberRead words call.made.number → IsPhaseRead call.mode words call.state Calling
-      → IsTold g c k now (kind_of_ask (at_phase Calling)) (follows_of (at_phase Calling)) loaded (ask_of (at_phase Calling)) answer es loaded'
+      → IsTrueOf g c k now (kind_of_ask (at_phase Calling)) (follows_of (at_phase Calling)) loaded (ask_of (at_phase Calling)) answer es loaded'
       → IsServedAsk call.task (ask_of (at_phase Calling)) answer
       → Spends (kind_of_ask (at_phase Calling)) (ask_of (at_phase Calling)) answer before later → Falls Calling
   calling_falls known read told served spends =
@@ -156,7 +156,7 @@ module _ {K P : Type 0} (g : Setting K P) (c : Coding K P) (hashed : IsHashed g 
 
   -- its next table is made
   module _ (link : Link) (made : HasWords g (Some link)) (at : IsLinking g c begun since k (at_phase (Linking link)) link)
-      (told : IsCopyTold g c now (link_kind link) (follows link) loaded (link_ask link) answer es loaded') where
+      (told : IsTrueOfCopy g c now (link_kind link) (follows link) loaded (link_ask link) answer es loaded') where
     link_named : AreThere g c now loaded.call.last loaded.kept (link_ask link)
     link_named = link_there g c hashed now (map_left g (begun ++ since)) keeps loaded.call.last loaded.kept link at.relies
 
@@ -187,7 +187,7 @@ module _ {K P : Type 0} (g : Setting K P) (c : Coding K P) (hashed : IsHashed g 
 
   -- the root is copied
   module _ (copying : Copying) (relies : ReliesCopying g c now loaded.call.last loaded.kept copying) (made : HasWords g (link_in_copying copying))
-      (told : IsCopyTold g c now (copying_kind copying) (copying_follows copying) loaded (copying_ask copying) answer es loaded') where
+      (told : IsTrueOfCopy g c now (copying_kind copying) (copying_follows copying) loaded (copying_ask copying) answer es loaded') where
     copy_named : AreThere g c now loaded.call.last loaded.kept (copying_ask copying)
     copy_named = copying_there g c hashed now (map_left g (begun ++ since)) keeps loaded.call.last loaded.kept copying relies
 
@@ -260,7 +260,7 @@ module _ {K P : Type 0} (g : Setting K P) (c : Coding K P) (hashed : IsHashed g 
   helping_falls : (copying : Copying) → HasWords g (link_in_copying copying)
       → ReliesPhase g c begun since k (at_phase (Copying_root copying)) loaded (Copying_root copying)
       → IsPhaseRead call.mode words call.state (Copying_root copying)
-      → IsCopyTold g c now (copying_kind copying) (copying_follows copying) loaded (copying_ask copying) answer es loaded'
+      → IsTrueOfCopy g c now (copying_kind copying) (copying_follows copying) loaded (copying_ask copying) answer es loaded'
       → SpendsCopy (copying_ask copying) answer before later → Falls (Copying_root copying)
   helping_falls copying made (inl at) read told spends =
       let inc : IsIncremental call.mode = incremental call.mode g.blocking r.mode at.mode in
@@ -277,7 +277,7 @@ module _ {K P : Type 0} (g : Setting K P) (c : Coding K P) (hashed : IsHashed g 
   -- in each phase
   pub phase_falls : (phase : Phase) → HasWords g (link_in phase) → ReliesPhase g c begun since k (at_phase phase) loaded phase
       → IsNumberRead words call.made.number → IsPhaseRead call.mode words call.state phase
-      → IsTold g c k now (kind_of_ask (at_phase phase)) (follows_of (at_phase phase)) loaded (ask_of (at_phase phase)) answer es loaded'
+      → IsTrueOf g c k now (kind_of_ask (at_phase phase)) (follows_of (at_phase phase)) loaded (ask_of (at_phase phase)) answer es loaded'
       → IsServedAsk call.task (ask_of (at_phase phase)) answer → Spends (kind_of_ask (at_phase phase)) (ask_of (at_phase phase)) answer before later → Falls phase
   phase_falls Calling made at known read told served spends = calling_falls known read told served spends
   phase_falls (Linking link) made at known read told served spends = linking_falls link made at told read spends
@@ -286,10 +286,10 @@ module _ {K P : Type 0} (g : Setting K P) (c : Coding K P) (hashed : IsHashed g 
   -- where the call is set aside, as many numbers are taken as before
   pub aside_counts : (t : ℕ) → left_by call.state ≡ Some t → (phase : Phase) → HasWords g (link_in phase)
       → ReliesPhase g c begun since k (at_phase phase) loaded phase
-      → IsTold g c k now (kind_of_ask (at_phase phase)) (follows_of (at_phase phase)) loaded (ask_of (at_phase phase)) answer es loaded'
+      → IsTrueOf g c k now (kind_of_ask (at_phase phase)) (follows_of (at_phase phase)) loaded (ask_of (at_phase phase)) answer es loaded'
       → words' words_at.Made ≡ words words_at.Made
   aside_counts t left Calling made at told =
-      let tells = subst (λ a. call_told.IsTold g c k now (call_machine.kind_of_ask call) loaded.call a told.told es told.call)
+      let tells = subst (λ a. call_told.IsTrueOf g c k now (call_machine.kind_of_ask call) loaded.call a told.told es told.call)
       (aside_asks call.made call.hash call.state t left) told.tells in
       ap (λ l. word_of g c (run l now) words_at.Made) tells.1
   aside_counts t left (Linking link) made at told = link_counts link made at told

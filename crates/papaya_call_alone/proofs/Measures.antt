@@ -15,7 +15,7 @@ use Rattle.papaya_call.specs.declared.machine.State.TheVariants.{Pairing, Puttin
 use Rattle.papaya_call.specs.declared.machine.State.TheVariants.{Counting, Noting, Uncounting}
 use Rattle.papaya_call.specs.declared.machine.State.TheVariants.{Leaving, Growing, Ended}
 use Rattle.papaya_call.specs.declared.made.Made.{Made}
-use Rattle.papaya_call.specs.Machine.{IsStandingState}
+use Rattle.papaya_call.specs.Machine.{IsValidState}
 use Rattle.papaya_call.specs.declared.copy.carry.Carry.{Carry}
 use Rattle.papaya_call.specs.declared.copy.carry.Carry.TheVariants as carries
 use Rattle.papaya_call.specs.declared.copy.copying.Aim.{Aim}
@@ -26,14 +26,14 @@ use Rattle.papaya_call.specs.declared.copy.settle.Settle.{Settle}
 use Rattle.papaya_call.specs.declared.copy.settle.Settle.TheVariants as settles
 use Rattle.papaya_call.specs.declared.copy.step.Step.{Step}
 use Rattle.papaya_call.specs.declared.copy.step.Step.TheVariants as steps
-use Rattle.papaya_call.specs.Carry.{IsStandingCarry}
-use Rattle.papaya_call.specs.Copying.{IsStandingCopying}
-use Rattle.papaya_call.specs.Settle.{IsStandingSettle}
-use Rattle.papaya_call.specs.Step.{IsStandingStep}
+use Rattle.papaya_call.specs.Carry.{IsValidCarry}
+use Rattle.papaya_call.specs.Copying.{IsValidCopying}
+use Rattle.papaya_call.specs.Settle.{IsValidSettle}
+use Rattle.papaya_call.specs.Step.{IsValidStep}
 use Rattle.papaya_call.specs.declared.chain.machine.Machine.{Machine}
 use Rattle.papaya_call.specs.declared.chain.machine.Phase.{Phase}
 use Rattle.papaya_call.specs.declared.chain.machine.Phase.TheVariants.{Calling, Linking, Copying as Copying_root}
-use Rattle.papaya_call.specs.ChainMachine.{IsStanding, IsStandingPhase}
+use Rattle.papaya_call.specs.ChainMachine.{IsValid, IsValidPhase}
 use Rattle.papaya_call_alone.specs.Budget.{Budget, IsSpent}
 use Rattle.papaya_call_alone.specs.Measure.{left_of_carry, left_of_copying, left_of_settle, left_of_step}
 use Rattle.papaya_call_alone.specs.Rank.{left_of_search, rank, rank_at_root, rank_in, rank_of, rank_of_phase, rank_to_serve}
@@ -54,7 +54,7 @@ serve_small made (purposes.Fill (gaps.After t)) = omega (arith, pair_most made 0
 serve_small made (purposes.Replace write) = omega (arith, pair_most made write.old)
 serve_small made (purposes.Again write) = omega (arith, pair_most made write.old)
 
-state_small : (task : Task) (made : Made) (state : State) → IsStandingState task state → rank_in made state < 2 ^ 190
+state_small : (task : Task) (made : Made) (state : State) → IsValidState task state → rank_in made state < 2 ^ 190
 state_small task made AtRoot h = omega arith
 state_small task made Making h = omega arith
 state_small task made (Opening t) h = omega arith
@@ -74,7 +74,7 @@ state_small task made (Leaving t) h = omega arith
 state_small task made (Growing need) h = omega arith
 state_small task made (Ended reply) h = omega arith
 
-carry_small : (carry : Carry) → IsStandingCarry carry → left_of_carry carry < 2 ^ 67
+carry_small : (carry : Carry) → IsValidCarry carry → left_of_carry carry < 2 ^ 67
 carry_small (carries.Hashing table) h = omega arith
 carry_small (carries.Sizing hash table) h = omega arith
 carry_small (carries.Looking hash at) h = let few = h.size.few in omega (arith, few)
@@ -86,7 +86,7 @@ carry_small (carries.Passing hash table) h = omega arith
 carry_small (carries.Linking hash link) h = let l = link_most link in omega (arith, l)
 carry_small (carries.Aborting table) h = omega arith
 
-settle_small : (settle : Settle) → IsStandingSettle settle → left_of_settle settle < 2 ^ 68
+settle_small : (settle : Settle) → IsValidSettle settle → left_of_settle settle < 2 ^ 68
 settle_small settles.Looking h = omega arith
 settle_small settles.Closing h = omega arith
 settle_small settles.Shutting h = omega arith
@@ -94,7 +94,7 @@ settle_small (settles.Marking word) h = omega arith
 settle_small (settles.Carrying word carry) h = let c = carry_small carry h in omega (arith, c)
 settle_small (settles.Finishing word) h = omega arith
 
-step_small : (step : Step) → IsStandingStep step → left_of_step step < 2 ^ 104
+step_small : (step : Step) → IsValidStep step → left_of_step step < 2 ^ 104
 step_small steps.AtRoot h = omega arith
 step_small (steps.Aiming from behind) h = omega arith
 step_small (steps.Linking from link) h = let l = link_most link in omega (arith, l)
@@ -110,7 +110,7 @@ step_small (steps.Advancing cursor) h = omega arith
 step_small (steps.Promoting from to) h = omega arith
 
 -- a copy within its tables has little left
-pub copying_small : (copying : Copying) → IsStandingCopying copying → left_of_copying copying < 2 ^ 104
+pub copying_small : (copying : Copying) → IsValidCopying copying → left_of_copying copying < 2 ^ 104
 copying_small (copyings.Stepping aim step) h = step_small step h
 copying_small (copyings.Lone slot settle) h = let s = settle_small settle h in omega (arith, s)
 
@@ -121,7 +121,7 @@ root_small root aims.Chunk = omega arith
 root_small root (aims.All met) = cond_both (met == 0 || met == root) (rank 1 0 (2 * 2 ^ 102)) (rank 3 0 0) (λ r. r < 2 ^ 190) (λ _. omega arith)
     (λ _. omega arith)
 
-phase_small : (root : ℕ) (m : Machine) (phase : Phase) → IsStandingState m.call.task m.call.state → IsStandingPhase phase
+phase_small : (root : ℕ) (m : Machine) (phase : Phase) → IsValidState m.call.task m.call.state → IsValidPhase phase
     → rank_of_phase root m.call phase < 2 ^ 190
 phase_small root m Calling h h' = state_small m.call.task m.call.made m.call.state h
 phase_small root m (Linking link) h h' = let l = link_most link in omega (arith, l)
@@ -141,7 +141,7 @@ phase_small root m (Copying_root (copyings.Stepping aim (steps.Promoting from to
 phase_small root m (Copying_root (copyings.Lone slot settle)) h h' = let s = settle_small settle h' in omega (arith, s)
 
 -- a machine that stands within its tables has a small rank
-pub rank_small : (root : ℕ) (m : Machine) → IsStanding m → rank_of root m < 2 ^ 190
+pub rank_small : (root : ℕ) (m : Machine) → IsValid m → rank_of root m < 2 ^ 190
 rank_small root m h = phase_small root m m.phase h.call.state h.phase
 
 -- two digits below their bases

@@ -16,7 +16,7 @@ use Rattle.papaya_call.specs.declared.copy.copying.Aim.TheVariants as aims
 use Rattle.papaya_call.specs.declared.copy.link.Link.TheVariants as links
 use Rattle.papaya_call.specs.declared.chain.machine.Machine.{Machine}
 use Rattle.papaya_call.specs.declared.chain.machine.Phase.TheVariants.{Linking}
-use Rattle.papaya_call.specs.ChainMachine.{aim_for, begins_anew, enters, goes_on, grows_as, onward}
+use Rattle.papaya_call.specs.ChainMachine.{aim_for, restarted, enters, goes_on, grows_as, onward}
 use Rattle.papaya_call_law.specs.ChainRelies.{left_by}
 use Rattle.papaya_call_law.specs.Alone.{IsRead}
 use Rattle.papaya_call_alone.specs.Ahead.{IsAhead, IsCallRead}
@@ -91,11 +91,11 @@ module _ (words : At → ℕ) where
     onward_rank n t up most = goes_rank m.helped (aim_for m.call.state n) n t (aims_at m.call.state n) up most
 
     -- a call that begins anew is at the root
-    pub anew_current : IsRead words (begins_anew m (words words_at.Root)).call.state → IsCallRead words (begins_anew m (words words_at.Root))
+    pub anew_current : IsRead words (restarted m (words words_at.Root)).call.state → IsCallRead words (restarted m (words words_at.Root))
     anew_current read = (read, (root_leads m.call.made m.call.mode words m.call.task m.call.remembered.fill (words words_at.Root) refl).1)
 
     -- with less left than before
-    pub anew_rank : rank_of (words words_at.Root) (begins_anew m (words words_at.Root)) < rank 3 0 0
+    pub anew_rank : rank_of (words words_at.Root) (restarted m (words words_at.Root)) < rank 3 0 0
     anew_rank = let f = root_leads m.call.made m.call.mode words m.call.task m.call.remembered.fill (words words_at.Root) refl in let l = f.0 in
         omega (arith, l)
 

@@ -33,10 +33,10 @@ use Rattle.papaya_call.specs.Resizer.{after_in, at_last, at_next, copied, copies
 use Rattle.papaya_call.specs.TableSize.{entries_of, room_of, room_of_len}
 use Rattle.papaya_words_law.specs.Code.{Coding}
 use Rattle.papaya_words_law.specs.Exchange.{Setting, State, Exchange, Open, run}
-use Rattle.papaya_call_law.specs.Told.{word_of}
+use Rattle.papaya_call_law.specs.TrueAnswers.{word_of}
 use Rattle.papaya_call_law.proofs.ReliesLearn.{by_test}
-use Rattle.papaya_call_law.specs.Resizers.{IsStageTold, ReliesStage}
-use Rattle.papaya_call_law.specs.ChainTold.{LoadedPairs, Quiet}
+use Rattle.papaya_call_law.specs.Resizers.{IsTrueOfStage, ReliesStage}
+use Rattle.papaya_call_law.specs.ChainAnswers.{LoadedPairs, Quiet}
 use Rattle.papaya_call_law.proofs.ResizerRelies.{told_of_ask}
 use Rattle.papaya_call_alone.specs.Resizers.{HasResized, HasRoom, IsStageRead, IsWhole}
 
@@ -95,7 +95,7 @@ module _ {K P : Type 0} (g : Setting K P) (c : Coding K P) (s : State P) (loaded
   same_word none at = ap (λ l. word_of g c (run l s) at) none
 
   -- the first table is made or opened: more is to come
-  made_open : (resize : Resize) (room : TableSize) → IsStageTold g c s (Making room) loaded answer es loaded'
+  made_open : (resize : Resize) (room : TableSize) → IsTrueOfStage g c s (Making room) loaded answer es loaded'
       → IsDone (after_in resize mode initial number answer (Making room)) → ⊥
   made_open resize room told done =
       let h = told_of_ask g c s loaded (Making room) (MakeTable room.len room.limit 0) refl answer es loaded' told in
@@ -106,7 +106,7 @@ module _ {K P : Type 0} (g : Setting K P) (c : Coding K P) (s : State P) (loaded
       let to = by_answer resize (Making room) (answers.Call (Made_number n.0)) n.2 done in absurd (cc to))
       h.0
 
-  opened_open : (resize : Resize) (table : ℕ) → IsStageTold g c s (Opening table) loaded answer es loaded'
+  opened_open : (resize : Resize) (table : ℕ) → IsTrueOfStage g c s (Opening table) loaded answer es loaded'
       → IsDone (after_in resize mode initial number answer (Opening table)) → ⊥
   opened_open resize table told done =
       by_test (s.root == 0)
@@ -116,14 +116,14 @@ module _ {K P : Type 0} (g : Setting K P) (c : Coding K P) (s : State P) (loaded
       (λ none (a, e, h). let to = by_answer resize (Opening table) (answers.Call Exchanged) a done in absurd (cc to))
       (λ some (a, h). let to = by_answer resize (Opening table) (answers.Call (Found_instead s.root)) a done in absurd (cc to))
 
-  sized_open : (resize : Resize) (root : ℕ) → IsStageTold g c s (Sizing root) loaded answer es loaded'
+  sized_open : (resize : Resize) (root : ℕ) → IsTrueOfStage g c s (Sizing root) loaded answer es loaded'
       → IsDone (after_in resize mode initial number answer (Sizing root)) → ⊥
   sized_open resize root told done =
       let h = told_of_ask g c s loaded (Sizing root) (SizeOf root) refl answer es loaded' told in
       let to = by_answer resize (Sizing root) (answers.Call (Size (g.size root) h.0.0)) h.0.2 done in absurd (cc to)
 
   -- all is copied: there is no root, or it has no next table
-  all_ends : (stage : Stage) → IsStageRead mode words CopyAll stage → IsStageTold g c s stage loaded answer es loaded'
+  all_ends : (stage : Stage) → IsStageRead mode words CopyAll stage → IsTrueOfStage g c s stage loaded answer es loaded'
       → IsDone (after_in CopyAll mode initial number answer stage) → IsWhole later
   all_ends AtRoot read told done =
       let h = told_of_ask g c s loaded AtRoot (Load words_at.Root) refl answer es loaded' told in
@@ -166,7 +166,7 @@ module _ {K P : Type 0} (g : Setting K P) (c : Coding K P) (s : State P) (loaded
         (λ _ d. absurd cc)
 
     reserve_ends : (stage : Stage) → ReliesStage g c s loaded stage → IsStageRead mode words (Reserve more) stage
-        → IsStageTold g c s stage loaded answer es loaded' → IsDone (after_in (Reserve more) mode initial number answer stage) → HasRoom later g.size answer more
+        → IsTrueOfStage g c s stage loaded answer es loaded' → IsDone (after_in (Reserve more) mode initial number answer stage) → HasRoom later g.size answer more
     reserve_ends AtRoot r read told done =
         let h = told_of_ask g c s loaded AtRoot (Load words_at.Root) refl answer es loaded' told in
         absurd
@@ -192,7 +192,7 @@ module _ {K P : Type 0} (g : Setting K P) (c : Coding K P) (s : State P) (loaded
 
   -- what was wanted is done
   pub stage_ends : (resize : Resize) (stage : Stage) → ReliesStage g c s loaded stage → IsStageRead mode words resize stage
-      → IsStageTold g c s stage loaded answer es loaded' → IsDone (after_in resize mode initial number answer stage) → HasResized later g.size answer resize
+      → IsTrueOfStage g c s stage loaded answer es loaded' → IsDone (after_in resize mode initial number answer stage) → HasResized later g.size answer resize
   stage_ends Chunk stage r read told done = tt
   stage_ends CopyAll stage r read told done = all_ends stage read told done
   stage_ends (Reserve more) stage r read told done = reserve_ends more stage r read told done

@@ -38,7 +38,7 @@ use Rattle.papaya_call.specs.declared.chain.resizer.ResizerState.TheVariants.{Co
 use Rattle.papaya_call.specs.declared.chain.resizer.ResizerState.TheVariants.{Copying, Done}
 use Rattle.papaya_call.specs.declared.chain.resizer.ResizerState.TheVariants.{Refused as Ended_refused}
 use Rattle.papaya_call.specs.ChainMachine.{copying_after, link_after}
-use Rattle.papaya_call.specs.Resizer.{IsStandingIn, after_in, asks_in, at_count, at_last, at_next}
+use Rattle.papaya_call.specs.Resizer.{IsValidIn, after_in, asks_in, at_count, at_last, at_next}
 use Rattle.papaya_call.specs.Resizer.{at_root, begun_in, copied, copies, judges, linked, makes}
 use Rattle.papaya_call.specs.Resizer.{over}
 use Rattle.papaya_call.specs.TableSize.{room_of}
@@ -48,12 +48,12 @@ use Rattle.papaya_words_law.specs.Invariant.{IsKeeping}
 use Rattle.papaya_words_law.proofs.Later.{later_run}
 use Rattle.papaya_call_law.specs.Copier.{HasWords, IsAimed, IsCopyAsked, ReliesCopying, ReliesLinked, last_after, told_last}
 use Rattle.papaya_call_law.specs.Relies.{IsCutAs, IsModeOf}
-use Rattle.papaya_call_law.specs.Told.{word_of}
+use Rattle.papaya_call_law.specs.TrueAnswers.{word_of}
 use Rattle.papaya_call_law.proofs.CopierCopies.{link_there}
 use Rattle.papaya_call_law.proofs.CopierExchange.{link_may}
 use Rattle.papaya_call_law.proofs.ReliesLearn.{by_test, more_than_none}
-use Rattle.papaya_call_law.specs.Resizers.{IsStageTold, ReliesStage, link_of}
-use Rattle.papaya_call_law.specs.ChainTold.{IsCopyTold, LoadedPairs, Quiet, told_of}
+use Rattle.papaya_call_law.specs.Resizers.{IsTrueOfStage, ReliesStage, link_of}
+use Rattle.papaya_call_law.specs.ChainAnswers.{IsTrueOfCopy, LoadedPairs, Quiet, told_of}
 use Rattle.papaya_call_law.proofs.Making.{link_learns}
 use Rattle.papaya_call_law.proofs.ResizerRelies.{stage_learns, told_of_ask}
 use Rattle.papaya_call_alone.specs.Budget.{Budget, IsSpent, SpendsCopy}
@@ -96,7 +96,7 @@ from_other from root left some other =
     (λ _. refl)
 
 -- a resizer within its tables has little left
-pub stage_small : (root : ℕ) (stage : Stage) → IsStandingIn stage → left_of_stage root stage < 2 ^ 192
+pub stage_small : (root : ℕ) (stage : Stage) → IsValidIn stage → left_of_stage root stage < 2 ^ 192
 stage_small root AtRoot h = omega arith
 stage_small root (Making room) h = omega arith
 stage_small root (Opening table) h = omega arith
@@ -266,7 +266,7 @@ module _ (mode : ResizeMode) (words : At → ℕ) where
 module _ {K P : Type 0} (g : Setting K P) (c : Coding K P) (s : State P) (kind : Option StepKind) (behind : ℕ) (loaded : LoadedPairs P) where
   -- nothing was exchanged where nothing was spent
   told_none : (ask : CopyAsk) (answer : Answer) (es : List (Exchange P)) (loaded' : LoadedPairs P)
-      → IsCopyTold g c s kind behind loaded ask answer es loaded' → (IsSpending answer → ⊥) → es ≡ []
+      → IsTrueOfCopy g c s kind behind loaded ask answer es loaded' → (IsSpending answer → ⊥) → es ≡ []
   told_none (Load at) answer es loaded' told spends = told.1
   told_none (Ask_exchange at old new) answer es loaded' told spends =
       by_test (word_of g c s at == old)
@@ -318,7 +318,7 @@ module _ {K P : Type 0} (g : Setting K P) (c : Coding K P) (hashed : IsHashed g 
   -- what the words answer to the making of a table
   link_prompt : (link : Link) → ReliesStage g c s loaded (Linking link) → HasWords g (Some link)
       → (answer : Answer) (es : List (Exchange P)) (loaded' : LoadedPairs P)
-      → IsCopyTold g c s (link_kind link) (follows link) loaded (link_ask link) answer es loaded' → IsCopyPrompt words (link_ask link) answer (words_after es)
+      → IsTrueOfCopy g c s (link_kind link) (follows link) loaded (link_ask link) answer es loaded' → IsCopyPrompt words (link_ask link) answer (words_after es)
   link_prompt link r made answer es loaded' h =
       told_prompt g c hashed s m keeps bounded loaded (link_kind link) (follows link) (link_ask link)
       (link_there g c hashed s m keeps loaded.call.last loaded.kept link r)
@@ -345,7 +345,7 @@ module _ {K P : Type 0} (g : Setting K P) (c : Coding K P) (hashed : IsHashed g 
     spends_as ask ask' answer answer' q a spends = subst (λ y. SpendsCopy ask' y before later) a (subst (λ y. SpendsCopy y answer before later) q spends)
 
     pub stage_nears : (stage : Stage) → ReliesStage g c s loaded stage → HasWords g (link_of stage) → IsStageRead mode words resize stage
-        → (answer : Answer) (es : List (Exchange P)) (loaded' : LoadedPairs P) → IsStageTold g c s stage loaded answer es loaded' → (ask : CopyAsk)
+        → (answer : Answer) (es : List (Exchange P)) (loaded' : LoadedPairs P) → IsTrueOfStage g c s stage loaded answer es loaded' → (ask : CopyAsk)
         → asks_in stage ≡ Some ask → SpendsCopy ask answer before later
         → HasNeared stage answer es
     stage_nears AtRoot r made read answer es loaded' told ask asks spends =
@@ -446,7 +446,7 @@ module _ {K P : Type 0} (g : Setting K P) (c : Coding K P) (hashed : IsHashed g 
   linked_read es loaded' root is some (linked_to.Refused refused) read relies = tt
 
   pub stage_current : (stage : Stage) → ReliesStage g c s loaded stage → HasWords g (link_of stage) → IsStageRead mode words resize stage
-      → (answer : Answer) (es : List (Exchange P)) (loaded' : LoadedPairs P) → IsStageTold g c s stage loaded answer es loaded' → IsStill stage answer es
+      → (answer : Answer) (es : List (Exchange P)) (loaded' : LoadedPairs P) → IsTrueOfStage g c s stage loaded answer es loaded' → IsStill stage answer es
   stage_current AtRoot r made read answer es loaded' told =
       let h = told_of_ask g c s loaded AtRoot (Load words_at.Root) refl answer es loaded' told in
       quiet_read AtRoot answer (answers.Call (Word_read s.root)) es h.0 h.1 (root_read mode words s.root refl resize)

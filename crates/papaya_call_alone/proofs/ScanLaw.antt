@@ -30,7 +30,7 @@ use Rattle.papaya_words_law.proofs.Moments.{run-append}
 use Rattle.papaya_words_law.proofs.OneMap.{keeping_sound}
 use Rattle.papaya_call_law.specs.Copier.{HasWords}
 use Rattle.papaya_call_law.specs.Relies.{IsCutAs, IsModeOf}
-use Rattle.papaya_call_law.specs.Told.{word_of}
+use Rattle.papaya_call_law.specs.TrueAnswers.{word_of}
 use Rattle.papaya_call_law.proofs.ReliesLearn.{by_test, more_than_none}
 use Rattle.papaya_call_law.specs.Resizers.{link_of}
 use Rattle.papaya_call_law.proofs.ResizerRelies.{told_of_ask}
@@ -47,7 +47,7 @@ use Rattle.papaya_call.specs.declared.chain.scanner.Scan.{Scan}
 use Rattle.papaya_call.specs.declared.chain.scanner.Scan.TheVariants.{Clear, Retain, Walk}
 use Rattle.papaya_call.specs.declared.chain.scanner.Scanner.{Scanner}
 use Rattle.papaya_call.specs.Scanner.{after_in, asks_in, copied, copy_asks, buries, first_in, meets, next, shown}
-use Rattle.papaya_call_law.specs.ScanTold.{IsCopyAnswer, IsBuried, IsFoundThere, IsScanTold, LoadedPairs}
+use Rattle.papaya_call_law.specs.ScanAnswers.{IsCopyAnswer, IsBuried, IsFoundThere, IsTrueOfScan, LoadedPairs}
 use Rattle.papaya_call_law.specs.Scans.{IsOfAll, ReliesState, link_in_scan}
 use Rattle.papaya_call_law.proofs.ScanAsks.{keeps_since}
 use Rattle.papaya_call_law.proofs.ScanOutcomes.{asked}
@@ -236,7 +236,7 @@ module _ {K P : Type 0} (g : Setting K P) (c : Coding K P) (hashed : IsHashed g 
 
   -- in each state
   pub state_nearer : (state : ScannerState) → ReliesState g c s m since scanner.scan loaded state → HasWords g (link_in_scan state)
-      → IsScanRead scanner.mode words state → IsScanTold g c now since state loaded answer es loaded' → IsNearer state
+      → IsScanRead scanner.mode words state → IsTrueOfScan g c now since state loaded answer es loaded' → IsNearer state
   state_nearer (Copying stage) r made read told = copy_nearer stage r made read told
   state_nearer AtRoot r made read told =
       let h = asked g c s m since scanner loaded answer es loaded' AtRoot (since ++ es) (Load words_at.Root) refl told in

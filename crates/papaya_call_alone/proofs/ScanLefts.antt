@@ -16,7 +16,7 @@ use Rattle.papaya_call_alone.proofs.Measures.{copying_small}
 use Rattle.papaya_call.specs.declared.chain.scanner.Spot.{Spot}
 use Rattle.papaya_call.specs.declared.chain.scanner.ScannerState.{ScannerState}
 use Rattle.papaya_call.specs.declared.chain.scanner.ScannerState.TheVariants.{Copying, AtRoot, Sizing, Looking, Giving, Showing, Burying, Uncounting, Done, Refused}
-use Rattle.papaya_call.specs.Scanner.{IsStandingIn, at_root, copied, found_by, looks, next}
+use Rattle.papaya_call.specs.Scanner.{IsValidIn, at_root, copied, found_by, looks, next}
 use Rattle.papaya_call_alone.specs.Scanners.{IsScanRead, left_in_table, left_of_scan, left_of_slot, left_of_spot}
 use Rattle.papaya_words.specs.declared.resize_mode.ResizeMode.{ResizeMode}
 
@@ -25,7 +25,7 @@ from_little : (from root left : ℕ) → left < 2 ^ 104 → left_of_from from ro
 from_little from root left small = cond_both (from == 0 || root == from) left (left + 2 ^ 121) (λ y. y < 2 ^ 122) (λ _. omega (arith, small))
     (λ _. omega (arith, small))
 
-stage_little : (root : ℕ) (stage : Stage) → resizers.IsStandingIn stage → left_of_stage root stage < 2 ^ 122
+stage_little : (root : ℕ) (stage : Stage) → resizers.IsValidIn stage → left_of_stage root stage < 2 ^ 122
 stage_little root stages.AtRoot h = omega arith
 stage_little root (stages.Making room) h = omega arith
 stage_little root (stages.Opening table) h = omega arith
@@ -101,7 +101,7 @@ module _ (words : At → ℕ) where
   slot_small : (spot : Spot) (here : ℕ) → spot.len ≤ 2 ^ 32 → here ≤ 4 → left_of_spot words spot here < 2 ^ 192
   slot_small spot here most few = let l = table_most spot.table (left_of_slot spot here) in omega (arith, l, most, few)
 
-  pub scan_small : (mode : ResizeMode) (state : ScannerState) → IsStandingIn state → IsScanRead mode words state → left_of_scan words state < 2 ^ 192
+  pub scan_small : (mode : ResizeMode) (state : ScannerState) → IsValidIn state → IsScanRead mode words state → left_of_scan words state < 2 ^ 192
   scan_small mode (Copying stage) h read = let l = stage_little (words words_at.Root) stage h in omega (arith, l)
   scan_small mode AtRoot h read = omega arith
   scan_small mode (Sizing table) h read = let l = table_most table (2 ^ 40) in omega (arith, l)

@@ -13,25 +13,25 @@ use Rattle.papaya_call.specs.declared.chain.machine.Machine.{Machine}
 use Rattle.papaya_call_law.specs.Says.{MakesPair}
 
 -- the ask makes something for the call's next pair: its key, its value, or the pair
-abbrev pub IsLogAsk : Call_ask → Type 0
-IsLogAsk MakeKey = Unit {0}
-IsLogAsk MakeValue = Unit {0}
-IsLogAsk MakePair = Unit {0}
-IsLogAsk (MakePairOf n) = Unit {0}
-IsLogAsk _ = ⊥
+abbrev pub IsPartAsk : Call_ask → Type 0
+IsPartAsk MakeKey = Unit {0}
+IsPartAsk MakeValue = Unit {0}
+IsPartAsk MakePair = Unit {0}
+IsPartAsk (MakePairOf n) = Unit {0}
+IsPartAsk _ = ⊥
 
-abbrev pub IsLogging : Ask → Type 0
-IsLogging (asks.Call ask) = IsLogAsk ask
-IsLogging (asks.Copy ask) = ⊥
+abbrev pub IsMakingPart : Ask → Type 0
+IsMakingPart (asks.Call ask) = IsPartAsk ask
+IsMakingPart (asks.Copy ask) = ⊥
 
 -- it has taken a number for its next pair
 abbrev pub HasNumber : Machine → Type 0
 HasNumber m = m.call.made.number ≡ Taken
 
 -- the answer says that a pair was made
-abbrev pub IsPairLogged : Ask → Answer → Type 0
-IsPairLogged (asks.Call ask) (answers.Call (Made_number n)) = MakesPair ask
-IsPairLogged _ _ = ⊥
+abbrev pub IsPairMade : Ask → Answer → Type 0
+IsPairMade (asks.Call ask) (answers.Call (Made_number n)) = MakesPair ask
+IsPairMade _ _ = ⊥
 
 -- the ask takes a number; `IsNumberTaken` says that the answer is that it was taken
 abbrev pub IsTakeAsk : Call_ask → Type 0

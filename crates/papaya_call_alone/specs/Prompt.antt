@@ -21,7 +21,7 @@ use Rattle.papaya_call.specs.declared.chain.ask.Answer.{Answer}
 use Rattle.papaya_call.specs.declared.chain.ask.Answer.TheVariants as answers
 use Rattle.papaya_words_law.specs.Class.{IsOn}
 use Rattle.papaya_words_law.specs.Exchange.{Setting, State}
-use Rattle.papaya_call_law.specs.Alone.{IsPut, IsSame, IsSaying}
+use Rattle.papaya_call_law.specs.Alone.{IsPut, IsSame, IsClosureAnswer}
 use Rattle.papaya_call_law.specs.Alone as calls
 
 -- the tables that were opened or linked have numbers up to 2^32, and sizes that tables may have
@@ -67,8 +67,8 @@ IsCopyPrompt words (MakeTable slots limit chunks) answer words' = IsMaking answe
 -- What a call asks to be made is made or refused, its closure returns a result of the kind that its
 -- task needs, and a call that has replied asks nothing more.
 abbrev pub IsServed : Task → Call_ask → Call_answer → Type 0
-IsServed task call_asks.ShowNone answer = IsSaying Compute answer
-IsServed task (call_asks.ShowPair n) answer = IsSaying task answer
+IsServed task call_asks.ShowNone answer = IsClosureAnswer Compute answer
+IsServed task (call_asks.ShowPair n) answer = IsClosureAnswer task answer
 IsServed task call_asks.MakeKey answer = calls.IsMaking answer
 IsServed task call_asks.MakeValue answer = calls.IsMaking answer
 IsServed task call_asks.MakePair answer = calls.IsMaking answer

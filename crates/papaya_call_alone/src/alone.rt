@@ -10,14 +10,14 @@ ghost use Rattle.papaya_words_law.specs.Code.{Coding, IsHashed};
 ghost use Rattle.papaya_words_law.specs.Exchange.{Setting, State, Exchange, run, start};
 ghost use Rattle.papaya_words_law.specs.Invariant.{IsKeeping};
 ghost use Rattle.papaya_call_law.specs.Copier.{HasWords, ReliesCopying, link_in_copying};
-ghost use Rattle.papaya_call_law.specs.Told.{word_of};
-ghost use Rattle.papaya_call.specs.Resizer.{IsStandingResizer, after as resizer_after};
+ghost use Rattle.papaya_call_law.specs.TrueAnswers.{word_of};
+ghost use Rattle.papaya_call.specs.Resizer.{IsValidResizer, after as resizer_after};
 ghost use Rattle.papaya_call.specs.Resizer.{ask_of as resizer_ask, begun, reply_of};
-ghost use Rattle.papaya_call.specs.ChainMachine.{IsStanding, after, ask_of, copying_after, follows_of, kind_of_ask, started};
+ghost use Rattle.papaya_call.specs.ChainMachine.{IsValid, after, ask_of, copying_after, follows_of, kind_of_ask, started};
 ghost use Rattle.papaya_call_law.specs.Goes.{link_in};
-ghost use Rattle.papaya_call_law.specs.Resizers.{IsStageTold, ReliesResizer, link_of};
+ghost use Rattle.papaya_call_law.specs.Resizers.{IsTrueOfStage, ReliesResizer, link_of};
 ghost use Rattle.papaya_call_law.specs.ChainRelies.{Relies};
-ghost use Rattle.papaya_call_law.specs.ChainTold.{IsCopyTold, IsTold, LoadedPairs};
+ghost use Rattle.papaya_call_law.specs.ChainAnswers.{IsTrueOfCopy, IsTrueOf, LoadedPairs};
 ghost use Rattle.papaya_call_alone.specs.Ahead.{IsCurrent};
 ghost use Rattle.papaya_call_alone.specs.Budget.{Budget, IsSpent, Spends, SpendsCopy};
 ghost use Rattle.papaya_call_alone.specs.Resizers.{HasResized, IsResizerRead, resizer_measure};
@@ -43,7 +43,7 @@ pub fn alone_copiers<K, P>()
         → HasWords g (link_in_copying copying)
         → IsCopyingRead mode (word_of g c s) copying
         → (answer : Answer) (es : List (Exchange P)) (loaded' : LoadedPairs P)
-        → IsCopyTold g c s (copying_kind copying) (copying_follows copying) loaded
+        → IsTrueOfCopy g c s (copying_kind copying) (copying_follows copying) loaded
         (copying_ask copying) answer es loaded' → (before later : Budget)
         → SpendsCopy (copying_ask copying) answer before later
         → IsSpent before later ⊎ ((later ≡ before)
@@ -56,7 +56,7 @@ pub fn alone_copiers<K, P>()
         → HasWords g (link_in_copying copying)
         → IsCopyingRead mode (word_of g c s) copying
         → (answer : Answer) (es : List (Exchange P)) (loaded' : LoadedPairs P)
-        → IsCopyTold g c s (copying_kind copying) (copying_follows copying) loaded
+        → IsTrueOfCopy g c s (copying_kind copying) (copying_follows copying) loaded
         (copying_ask copying) answer es loaded' → IsCopiedRead mode (word_of g c (run es s))
         (copying_after copying mode initial number answer) }
 {}
@@ -75,10 +75,10 @@ pub fn alone_calls<K, P>()
         → Relies g c begun since k m loaded → HasWords g (link_in m.phase)
         → IsCurrent (word_of g c (run (begun ++ since) start)) m
         → (answer : Answer) (es : List (Exchange P)) (loaded' : LoadedPairs P)
-        → IsTold g c k (run (begun ++ since) start) (kind_of_ask m) (follows_of m) loaded (ask_of m)
+        → IsTrueOf g c k (run (begun ++ since) start) (kind_of_ask m) (follows_of m) loaded (ask_of m)
         answer es loaded' → IsServedAsk m.call.task (ask_of m) answer → (before later : Budget)
         → Spends (kind_of_ask m) (ask_of m) answer before later → later.exchanges < 2 ^ 128
-        → IsStanding (after m answer)
+        → IsValid (after m answer)
         → measure later (run (begun ++ (since ++ es)) start).root (after m answer)
         < measure before (run (begun ++ since) start).root m }
     ensures current { (g : Setting K P) (c : Coding K P) → IsHashed g c
@@ -87,7 +87,7 @@ pub fn alone_calls<K, P>()
         → Relies g c begun since k m loaded → HasWords g (link_in m.phase)
         → IsCurrent (word_of g c (run (begun ++ since) start)) m
         → (answer : Answer) (es : List (Exchange P)) (loaded' : LoadedPairs P)
-        → IsTold g c k (run (begun ++ since) start) (kind_of_ask m) (follows_of m) loaded (ask_of m)
+        → IsTrueOf g c k (run (begun ++ since) start) (kind_of_ask m) (follows_of m) loaded (ask_of m)
         answer es loaded' → IsServedAsk m.call.task (ask_of m) answer
         → IsCurrent (word_of g c (run (begun ++ (since ++ es)) start)) (after m answer) }
 {}
@@ -103,10 +103,10 @@ pub fn alone_resizers<K, P>()
         → HasWords g (link_of resizer.state)
         → IsResizerRead (word_of g c s) resizer
         → (answer : Answer) (es : List (Exchange P)) (loaded' : LoadedPairs P)
-        → IsStageTold g c s resizer.state loaded answer es loaded' → (ask : CopyAsk)
+        → IsTrueOfStage g c s resizer.state loaded answer es loaded' → (ask : CopyAsk)
         → resizer_ask resizer ≡ Some ask → (before later : Budget)
         → SpendsCopy ask answer before later → later.exchanges < 2 ^ 128
-        → IsStandingResizer (resizer_after resizer answer)
+        → IsValidResizer (resizer_after resizer answer)
         → resizer_measure later (run es s).root (resizer_after resizer answer)
         < resizer_measure before s.root resizer }
     ensures current { (g : Setting K P) (c : Coding K P) → IsHashed g c
@@ -115,14 +115,14 @@ pub fn alone_resizers<K, P>()
         → HasWords g (link_of resizer.state)
         → IsResizerRead (word_of g c s) resizer
         → (answer : Answer) (es : List (Exchange P)) (loaded' : LoadedPairs P)
-        → IsStageTold g c s resizer.state loaded answer es loaded'
+        → IsTrueOfStage g c s resizer.state loaded answer es loaded'
         → IsResizerRead (word_of g c (run es s)) (resizer_after resizer answer) }
     ensures ends { (g : Setting K P) (c : Coding K P) → IsHashed g c
         → (s : State P) (m : K → Option P) → IsKeeping g s m → IsBounded g s
         → (resizer : Resizer) (loaded : LoadedPairs P) → ReliesResizer g c s resizer loaded
         → IsResizerRead (word_of g c s) resizer
         → (answer : Answer) (es : List (Exchange P)) (loaded' : LoadedPairs P)
-        → IsStageTold g c s resizer.state loaded answer es loaded'
+        → IsTrueOfStage g c s resizer.state loaded answer es loaded'
         → reply_of (resizer_after resizer answer) ≡ Some Reply_done
         → HasResized (word_of g c (run es s)) g.size answer resizer.resize }
 {}

@@ -7,11 +7,11 @@ ghost use Rattle.papaya_words_law.specs.Code.{Coding, IsHashed};
 ghost use Rattle.papaya_words_law.specs.Exchange.{Setting, State, Exchange, run};
 ghost use Rattle.papaya_words_law.specs.Invariant.{IsKeeping};
 ghost use Rattle.papaya_call_law.specs.Copier.{HasWords};
-ghost use Rattle.papaya_call_law.specs.Told.{word_of};
+ghost use Rattle.papaya_call_law.specs.TrueAnswers.{word_of};
 ghost use Rattle.papaya_call.specs.declared.chain.resizer.Resize.TheVariants.{Chunk};
 ghost use Rattle.papaya_call.specs.Resizer.{after, begun, reply_of};
-ghost use Rattle.papaya_call_law.specs.Resizers.{IsStageTold, ReliesResizer, link_of};
-ghost use Rattle.papaya_call_law.specs.ChainTold.{LoadedPairs};
+ghost use Rattle.papaya_call_law.specs.Resizers.{IsTrueOfStage, ReliesResizer, link_of};
+ghost use Rattle.papaya_call_law.specs.ChainAnswers.{LoadedPairs};
 ghost use Rattle.papaya_call_alone.specs.Chunks.{AllFallShort, AllLeaveRoot, HasCopied, IsDue};
 ghost use Rattle.papaya_call_alone.specs.Chunks.{WillCopy, chunks_of};
 ghost use Rattle.papaya_call_alone.specs.Prompt.{IsBounded};
@@ -35,7 +35,7 @@ pub fn alone_chunks<K, P>()
         → IsResizerRead (word_of g c s) resizer → (from to slots due : ℕ)
         → WillCopy (word_of g c s) g.size from to slots due resizer
         → (answer : Answer) (es : List (Exchange P)) (loaded' : LoadedPairs P)
-        → IsStageTold g c s resizer.state loaded answer es loaded'
+        → IsTrueOfStage g c s resizer.state loaded answer es loaded'
         → WillCopy (word_of g c (run es s)) g.size from to slots due (after resizer answer) }
     ensures ends { (words : At → ℕ) (size : ℕ → ℕ) (from to slots due : ℕ) (resizer : Resizer)
         → WillCopy words size from to slots due resizer → reply_of resizer ≡ Some Reply_done

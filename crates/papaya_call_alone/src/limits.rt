@@ -5,7 +5,7 @@ ghost use Rattle.papaya_words.specs.declared.resize_mode.ResizeMode.{ResizeMode}
 ghost use Rattle.papaya_call.specs.declared.ask.StepKind.TheVariants.{Take};
 ghost use Rattle.papaya_call.specs.ChainMachine.{after, ask_of, kind_of_ask, started};
 ghost use Rattle.papaya_call_alone.specs.Ahead.{IsCurrent};
-ghost use Rattle.papaya_call_alone.specs.Limits.{HasNumber, IsLogging, IsNumberTaken, IsPairLogged};
+ghost use Rattle.papaya_call_alone.specs.Limits.{HasNumber, IsMakingPart, IsNumberTaken, IsPairMade};
 
 use papaya_call::ask::{Answer as CallAnswer, Ask as CallAsk, At};
 use papaya_call::call::{Reply, Task};
@@ -33,11 +33,11 @@ pub fn alone_limits()
         → (words At.Made ≡ old) × (new ≡ old + 1) × (kind_of_ask m ≡ Some Take) }
     ensures goes_on { (m : Machine) (old new : ℕ)
         → ask_of m ≡ Ask.Call (CallAsk.Exchange At.Made old new)
-        → IsLogging (ask_of (after m (Answer.Call CallAnswer.Exchanged))) }
+        → IsMakingPart (ask_of (after m (Answer.Call CallAnswer.Exchanged))) }
     ensures begins { (task : Task) (hash : ℕ) (mode : ResizeMode) (initial number most : ℕ)
         → HasNumber (started task hash mode initial number (Some most)) → ⊥ }
-    ensures logs { (m : Machine) → IsLogging (ask_of m) → HasNumber m }
+    ensures stores { (m : Machine) → IsMakingPart (ask_of m) → HasNumber m }
     ensures each { (m : Machine) (answer : Answer) (most : ℕ) → m.call.made.limit ≡ Some most
         → HasNumber (after m answer) → IsNumberTaken (ask_of m) answer
-        ⊎ (HasNumber m × (IsPairLogged (ask_of m) answer → ⊥)) }
+        ⊎ (HasNumber m × (IsPairMade (ask_of m) answer → ⊥)) }
 {}

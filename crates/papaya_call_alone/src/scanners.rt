@@ -7,11 +7,11 @@ ghost use Rattle.papaya_words_law.specs.Code.{Coding, IsHashed};
 ghost use Rattle.papaya_words_law.specs.Exchange.{Setting, State, Exchange, run};
 ghost use Rattle.papaya_words_law.specs.Invariant.{IsKeeping};
 ghost use Rattle.papaya_call_law.specs.Copier.{HasWords};
-ghost use Rattle.papaya_call_law.specs.Told.{word_of};
+ghost use Rattle.papaya_call_law.specs.TrueAnswers.{word_of};
 ghost use Rattle.papaya_call_alone.specs.Budget.{Budget};
 ghost use Rattle.papaya_call_alone.specs.Prompt.{IsBounded};
-ghost use Rattle.papaya_call.specs.Scanner.{IsStandingScanner, after, ask_of, begun};
-ghost use Rattle.papaya_call_law.specs.ScanTold.{IsScanTold, LoadedPairs};
+ghost use Rattle.papaya_call.specs.Scanner.{IsValidScanner, after, ask_of, begun};
+ghost use Rattle.papaya_call_law.specs.ScanAnswers.{IsTrueOfScan, LoadedPairs};
 ghost use Rattle.papaya_call_law.specs.Scans.{ReliesScanner, link_in_scan};
 ghost use Rattle.papaya_call_alone.specs.Scanners.{IsScannerRead, SpendsScan, scanner_measure};
 
@@ -32,10 +32,10 @@ pub fn alone_scanners<K, P>()
         → ReliesScanner g c s m since scanner loaded → HasWords g (link_in_scan scanner.state)
         → IsScannerRead (word_of g c (run since s)) scanner
         → (answer : Answer) (es : List (Exchange P)) (loaded' : LoadedPairs P)
-        → IsScanTold g c (run since s) since scanner.state loaded answer es loaded'
+        → IsTrueOfScan g c (run since s) since scanner.state loaded answer es loaded'
         → (ask : ScanAsk) → ask_of scanner ≡ Some ask → (before later : Budget)
         → SpendsScan ask answer before later → later.exchanges < 2 ^ 128
-        → IsStandingScanner (after scanner answer)
+        → IsValidScanner (after scanner answer)
         → scanner_measure later (word_of g c (run (since ++ es) s)) (after scanner answer)
         < scanner_measure before (word_of g c (run since s)) scanner }
     ensures current { (g : Setting K P) (c : Coding K P) → IsHashed g c
@@ -45,6 +45,6 @@ pub fn alone_scanners<K, P>()
         → ReliesScanner g c s m since scanner loaded → HasWords g (link_in_scan scanner.state)
         → IsScannerRead (word_of g c (run since s)) scanner
         → (answer : Answer) (es : List (Exchange P)) (loaded' : LoadedPairs P)
-        → IsScanTold g c (run since s) since scanner.state loaded answer es loaded'
+        → IsTrueOfScan g c (run since s) since scanner.state loaded answer es loaded'
         → IsScannerRead (word_of g c (run (since ++ es) s)) (after scanner answer) }
 {}

@@ -57,7 +57,7 @@ use Rattle.papaya_call.specs.Machine.{after, ask_of, asks, absent, at_root, exch
 use Rattle.papaya_call.specs.Machine.{left as next_or_end, made_to_pair, number_told, passes}
 use Rattle.papaya_call.specs.Machine.{refuses, replaces, removes, computes, goes_as, write_made}
 use Rattle.papaya_call.specs.Machine.{write_taken, write_told, written, agreed}
-use Rattle.papaya_call_law.specs.Alone.{IsSame, IsPut, IsMaking, IsSaying, IsPrompt, IsBare, IsRead}
+use Rattle.papaya_call_law.specs.Alone.{IsSame, IsPut, IsMaking, IsClosureAnswer, IsPrompt, IsBare, IsRead}
 use Rattle.papaya_call_law.specs.Alone.{IsGapRead, IsPurposeRead, IsCurrent, IsNumberRead}
 use Rattle.papaya_call_law.specs.Alone.{word_of_place}
 use Rattle.papaya_call_law.proofs.AloneSteps.{exchange_done, by_saying}
@@ -314,7 +314,7 @@ module _ (words words' : At → ℕ) (m : Machine) (bare : IsBare words) where
 
     -- a closure was shown a pair
     showing_stable : (removal : Removal) (answer : Answer) → IsSame words words' → word_of_place words' removal.place ≡ removal.word
-        → IsSaying m.task answer → Stable made (Showing removal) answer
+        → IsClosureAnswer m.task answer → Stable made (Showing removal) answer
     showing_stable removal answer same read told =
         by_saying (λ task said. IsCurrent words' (after (record m { task = task; made = made; state = Showing removal }) said))
         (λ agrees. record { bare = same_bare words words' bare same; number = known same; read = agreed_read words' removal agrees read })

@@ -57,8 +57,8 @@ use Rattle.papaya_call.specs.Machine.{after, ask_of, asks, absent, at_root, exch
 use Rattle.papaya_call.specs.Machine.{left as next_or_end, made_to_pair, number_told, numbered}
 use Rattle.papaya_call.specs.Machine.{paired, passes, refuses, replaces, removes, computes, goes_as}
 use Rattle.papaya_call.specs.Machine.{write_made, write_taken, write_told, written, agreed}
-use Rattle.papaya_call_law.specs.Alone.{IsPut, IsMaking, IsNumberRead, IsSaying, IsPrompt, IsRead}
-use Rattle.papaya_call_law.specs.Alone.{left, left_in, left_to_log, left_to_number, left_to_search}
+use Rattle.papaya_call_law.specs.Alone.{IsPut, IsMaking, IsNumberRead, IsClosureAnswer, IsPrompt, IsRead}
+use Rattle.papaya_call_law.specs.Alone.{left, left_in, left_to_push, left_to_number, left_to_search}
 use Rattle.papaya_call_law.specs.Alone.{left_to_serve_with, left_to_write, left_to_pair}
 use Rattle.papaya_call_law.specs.Alone.{left_to_fill, left_to_serve}
 use Rattle.papaya_call_law.proofs.Leads.{occupies_leads}
@@ -70,7 +70,7 @@ exchange_done P Q word old same told = when_true P Q (eq-eqb word old same) told
 
 -- what holds of each answer of the closure of a removal, and of that of a compute, holds of what a closure says
 pub by_saying : (P : Task → Answer → Type 0) → ((agrees : Bool) → P RemoveIf (Yes agrees)) → ((kind : OpKind) → P Compute (Op kind))
-    → (task : Task) (answer : Answer) → IsSaying task answer → P task answer
+    → (task : Task) (answer : Answer) → IsClosureAnswer task answer → P task answer
 by_saying P by_yes by_op Get answer told = absurd told
 by_saying P by_yes by_op (Insert replace) answer told = absurd told
 by_saying P by_yes by_op RemoveIf answer (agrees, e) = subst (P RemoveIf) (sym e) (by_yes agrees)
@@ -125,12 +125,12 @@ module _ (made : Made) where
   number_left (Free count) = omega arith
   number_left Taken = omega arith
 
-  log_left : (logged : Bool) → left_to_log logged ≤ 1
+  log_left : (logged : Bool) → left_to_push logged ≤ 1
   log_left true = omega arith
   log_left false = omega arith
 
-  key_left : (m : Made) (old : ℕ) → (if old == 0 then left_to_log m.keyed else 0) ≤ 1
-  key_left m old = cond_both (old == 0) (left_to_log m.keyed) 0 (λ n. n ≤ 1) (λ _. log_left m.keyed) (λ _. omega arith)
+  key_left : (m : Made) (old : ℕ) → (if old == 0 then left_to_push m.keyed else 0) ≤ 1
+  key_left m old = cond_both (old == 0) (left_to_push m.keyed) 0 (λ n. n ≤ 1) (λ _. log_left m.keyed) (λ _. omega arith)
 
   -- a pair is made in five steps at most
   pair_left : (m : Made) (old : ℕ) → left_to_pair m old ≤ 5
@@ -318,14 +318,14 @@ module _ (words words' : At → ℕ) (m : Machine) where
     IsNearerGrown (Pair next) = Unit {0}
 
     own_nears : (old == 0) ≡ true → (keyed valued : Bool) → made.keyed ≡ keyed → made.valued ≡ valued → IsNearerGrown (own_grown keyed valued made)
-    own_nears empty false valued k v = let a : left_to_log made.keyed ≡ 1 = ap left_to_log k in
-        subst (λ b. left_to_number made.number + left_to_log made.valued + cond b 0 0 + 1 + s < left_to_number made.number + left_to_log made.valued +
-        cond b (left_to_log made.keyed) 0 + 1 + s) (sym empty) (omega (arith, a))
-    own_nears empty true false k v = let a : left_to_log made.valued ≡ 1 = ap left_to_log v in omega (arith, a)
+    own_nears empty false valued k v = let a : left_to_push made.keyed ≡ 1 = ap left_to_push k in
+        subst (λ b. left_to_number made.number + left_to_push made.valued + cond b 0 0 + 1 + s < left_to_number made.number + left_to_push made.valued +
+        cond b (left_to_push made.keyed) 0 + 1 + s) (sym empty) (omega (arith, a))
+    own_nears empty true false k v = let a : left_to_push made.valued ≡ 1 = ap left_to_push v in omega (arith, a)
     own_nears empty true true k v = tt
 
     of_nears : (valued : Bool) → made.valued ≡ valued → IsNearerGrown (of_grown valued made)
-    of_nears false v = let a : left_to_log made.valued ≡ 1 = ap left_to_log v in omega (arith, a)
+    of_nears false v = let a : left_to_push made.valued ≡ 1 = ap left_to_push v in omega (arith, a)
     of_nears true v = tt
 
     grown_nears : made.number ≡ Taken → IsNearerGrown (grown made old)
@@ -424,7 +424,7 @@ module _ (words words' : At → ℕ) (m : Machine) where
       number told_so
 
   -- a closure was shown a pair
-  showing_nears : (made : Made) (removal : Removal) (answer : Answer) → IsSaying m.task answer → Nears made (Showing removal) answer
+  showing_nears : (made : Made) (removal : Removal) (answer : Answer) → IsClosureAnswer m.task answer → Nears made (Showing removal) answer
   showing_nears made removal answer told =
       by_saying (λ task said. left (after (record m { task = task; made = made; state = Showing removal }) said) < 10)
       (agreed_left made removal) (chosen_left made removal) m.task answer told

@@ -14,7 +14,7 @@ use Rattle.papaya_words_law.specs.Exchange.{Setting, State, Exchange, run, start
 use Rattle.papaya_words_law.specs.View.{look, IsPassed}
 use Rattle.papaya_call_law.specs.Copier.{IsMoving}
 use Rattle.papaya_call_law.specs.Relies.{HasComeTo, IsMovingFrom, ReliesLeaving, ReliesStage, Relies}
-use Rattle.papaya_call_law.specs.Told.{LoadedPairs}
+use Rattle.papaya_call_law.specs.TrueAnswers.{LoadedPairs}
 use Rattle.papaya_call_law.specs.ChainRelies.{left_by}
 use Rattle.papaya_words_law.proofs.CopierFacts.{moved}
 use Rattle.papaya_words_law.proofs.Slots.{view_gone, view_leaving}

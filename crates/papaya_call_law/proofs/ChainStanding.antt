@@ -23,30 +23,30 @@ use Rattle.papaya_call.specs.declared.copy.copying.Copied.TheVariants as copied
 use Rattle.papaya_call.specs.declared.copy.link.Link.TheVariants as links
 use Rattle.papaya_call.specs.declared.copy.link.Linked.{Linked}
 use Rattle.papaya_call.specs.declared.copy.link.Linked.TheVariants as linked
-use Rattle.papaya_call.specs.Copying.{IsStandingCopied}
-use Rattle.papaya_call.specs.Link.{IsStandingLinked}
+use Rattle.papaya_call.specs.Copying.{IsValidCopied}
+use Rattle.papaya_call.specs.Link.{IsValidLinked}
 use Rattle.papaya_call.specs.declared.chain.ask.Answer.{Answer}
 use Rattle.papaya_call.specs.declared.chain.ask.Answer.TheVariants as answers
 use Rattle.papaya_call.specs.declared.chain.machine.Machine.{Machine}
 use Rattle.papaya_call.specs.declared.chain.machine.Phase.{Phase}
 use Rattle.papaya_call.specs.declared.chain.machine.Phase.TheVariants.{Calling, Linking, Copying as Copying_root}
 use Rattle.papaya_call.specs.Made.{IsLimit, IsNumber, wanted}
-use Rattle.papaya_call.specs.ChainMachine.{IsFit, IsFitAsk, IsStanding, IsStandingPhase, after}
+use Rattle.papaya_call.specs.ChainMachine.{IsFit, IsFitAsk, IsValid, IsValidPhase, after}
 use Rattle.papaya_call.specs.ChainMachine.{after_copied, after_in, after_linked, aim_for, ask_of}
-use Rattle.papaya_call.specs.ChainMachine.{asks_in, begins_anew, called, copying_after, enters, goes_on}
+use Rattle.papaya_call.specs.ChainMachine.{asks_in, restarted, called, copying_after, enters, goes_on}
 use Rattle.papaya_call.specs.ChainMachine.{grows_as, leaves, link_after, onward, refuses, started}
 use Rattle.papaya_call.specs.ChainMachine.{stepped, told_next}
 use Rattle.papaya_call.proofs.Settings.{settings_stable}
 use Rattle.papaya_call_law.proofs.Standing.{machine_ask_fits, machine_stands}
 use Rattle.papaya_call_law.proofs.CopyStanding.{copying_fits, copying_stands, link_fits, link_stands}
 
-module _ (m : Machine) (stands : IsStanding m) where
+module _ (m : Machine) (stands : IsValid m) where
   -- another phase, and another state of its call that stands anywhere
-  in_phase : (phase : Phase) → IsStandingPhase phase → IsStanding (record m { phase = phase })
+  in_phase : (phase : Phase) → IsValidPhase phase → IsValid (record m { phase = phase })
   in_phase phase is = record { call = stands.call; chunked = stands.chunked; initial = stands.initial; phase = is }
 
   -- the call goes on for itself, looks in a next table, begins anew, or is refused
-  steps_stand : (told : Call_answer) → calls.IsFit told → IsStanding (stepped m told)
+  steps_stand : (told : Call_answer) → calls.IsFit told → IsValid (stepped m told)
   steps_stand told fit =
       let same = settings_stable m.call told in
       record {
@@ -57,7 +57,7 @@ module _ (m : Machine) (stands : IsStanding m) where
         phase = stands.phase;
       }
 
-  enters_stand : (table : ℕ) → IsStanding (enters m table)
+  enters_stand : (table : ℕ) → IsValid (enters m table)
   enters_stand table = record {
     call = record { made = stands.call.made; remembered = stands.call.remembered; state = tt };
     chunked = stands.chunked;
@@ -65,7 +65,7 @@ module _ (m : Machine) (stands : IsStanding m) where
     phase = tt;
   }
 
-  anew_stand : (root : ℕ) → IsStanding (begins_anew m root)
+  anew_stand : (root : ℕ) → IsValid (restarted m root)
   anew_stand root = record {
     call = machine_stands (record m.call { state = AtRoot }) (Word_read root)
         (record { made = stands.call.made; remembered = stands.call.remembered; state = tt }) tt;
@@ -74,7 +74,7 @@ module _ (m : Machine) (stands : IsStanding m) where
     phase = tt;
   }
 
-  refuses_stand : (refused : Refused) → IsStanding (refuses m refused)
+  refuses_stand : (refused : Refused) → IsValid (refuses m refused)
   refuses_stand refused = record {
     call = record { made = stands.call.made; remembered = stands.call.remembered; state = tt };
     chunked = stands.chunked;
@@ -83,50 +83,50 @@ module _ (m : Machine) (stands : IsStanding m) where
   }
 
   -- it goes on in the next table
-  goes_stand : (helped : Bool) (aim : Aim) (next : ℕ) → IsStanding (goes_on m helped aim next)
+  goes_stand : (helped : Bool) (aim : Aim) (next : ℕ) → IsValid (goes_on m helped aim next)
   goes_stand false aim next = record { call = stands.call; chunked = stands.chunked; initial = stands.initial; phase = tt }
   goes_stand true (aims.Settle slot) next = in_phase _ tt
   goes_stand true (aims.Search table) next = enters_stand next
   goes_stand true aims.Chunk next = enters_stand next
   goes_stand true (aims.All met) next = enters_stand next
 
-  onward_stand : (next : ℕ) → IsStanding (onward m next)
+  onward_stand : (next : ℕ) → IsValid (onward m next)
   onward_stand next = goes_stand m.helped (aim_for m.call.state next) next
 
-  grows_stand : (mode : ResizeMode) (need : Need) (next : ℕ) → IsStanding (grows_as m mode need next)
+  grows_stand : (mode : ResizeMode) (need : Need) (next : ℕ) → IsValid (grows_as m mode need next)
   grows_stand Blocking need next = in_phase _ tt
   grows_stand (Incremental chunk) need next = cond_both (next == 0) (record m { phase = Linking (links.Sizing (needed need) (needed need) false) })
-      (onward m next) IsStanding (λ _. in_phase _ tt) (λ _. onward_stand next)
+      (onward m next) IsValid (λ _. in_phase _ tt) (λ _. onward_stand next)
 
   -- it was told the number of the next table
-  leaves_stand : (task : Task) (next : ℕ) → IsStanding (leaves m task next)
+  leaves_stand : (task : Task) (next : ℕ) → IsValid (leaves m task next)
   leaves_stand Get next = steps_stand (Word_read next) tt
-  leaves_stand task next = cond_both (next == 0) (stepped m (Word_read next)) (onward m next) IsStanding (λ _. steps_stand (Word_read next) tt)
+  leaves_stand task next = cond_both (next == 0) (stepped m (Word_read next)) (onward m next) IsValid (λ _. steps_stand (Word_read next) tt)
       (λ _. onward_stand next)
 
-  next_stand : (state : State) (next : ℕ) → IsStanding (told_next m state next)
+  next_stand : (state : State) (next : ℕ) → IsValid (told_next m state next)
   next_stand (Leaving t) next = leaves_stand m.call.task next
   next_stand (Growing need) next = grows_stand m.call.mode need next
   next_stand state next = steps_stand (Word_read next) tt
 
-  called_stand : (told : Call_answer) → calls.IsFit told → IsStanding (called m told)
+  called_stand : (told : Call_answer) → calls.IsFit told → IsValid (called m told)
   called_stand (Word_read word) fit = next_stand m.call.state word
   called_stand told fit = steps_stand told fit
 
   -- the making of a table, or the copy of the root, led here
-  linked_stand : (end : Linked) → IsStandingLinked end → IsStanding (after_linked m end)
+  linked_stand : (end : Linked) → IsValidLinked end → IsValid (after_linked m end)
   linked_stand (linked.On link) is = in_phase (Linking link) is
   linked_stand (linked.Table table) is = onward_stand table
   linked_stand (linked.Refused refused) is = refuses_stand refused
 
-  copied_stand : (end : Copied) → IsStandingCopied end → IsStanding (after_copied m end)
+  copied_stand : (end : Copied) → IsValidCopied end → IsValid (after_copied m end)
   copied_stand (copied.On copying) is = in_phase (Copying_root copying) is
   copied_stand (copied.Search table) is = enters_stand table
   copied_stand (copied.Root root) is = anew_stand root
   copied_stand copied.Chunk is = in_phase Calling tt
   copied_stand (copied.Refused refused) is = refuses_stand refused
 
-  after_stand : (answer : Answer) → IsFit answer → (phase : Phase) → IsStandingPhase phase → IsStanding (after_in m answer phase)
+  after_stand : (answer : Answer) → IsFit answer → (phase : Phase) → IsValidPhase phase → IsValid (after_in m answer phase)
   after_stand (answers.Call told) fit Calling is = called_stand told fit
   after_stand (answers.Hash hash) fit Calling is = stands
   after_stand (answers.Count count) fit Calling is = stands
@@ -136,11 +136,11 @@ module _ (m : Machine) (stands : IsStanding m) where
       (copying_stands copying m.call.mode m.call.initial m.number answer stands.initial fit is)
 
   -- it stands after an answer
-  pub chain_stands : (answer : Answer) → IsFit answer → IsStanding (after m answer)
+  pub chain_stands : (answer : Answer) → IsFit answer → IsValid (after m answer)
   chain_stands answer fit = after_stand answer fit m.phase stands.phase
 
   -- and asks for no other tables
-  fits_in : (phase : Phase) → IsStandingPhase phase → IsFitAsk (asks_in m.call phase)
+  fits_in : (phase : Phase) → IsValidPhase phase → IsFitAsk (asks_in m.call phase)
   fits_in Calling is = machine_ask_fits m.call
   fits_in (Linking link) is = link_fits link is
   fits_in (Copying_root copying) is = copying_fits copying is
@@ -155,7 +155,7 @@ wanted_stands (Some most) = tt
 
 -- a call that begins stands
 pub started_stands : (task : Task) (hash : ℕ) (mode : ResizeMode) (initial number : ℕ) (limit : Option ℕ) → IsLimit limit → IsChunked mode
-    → IsPowerOfTwo initial → IsStanding (started task hash mode initial number limit)
+    → IsPowerOfTwo initial → IsValid (started task hash mode initial number limit)
 started_stands task hash mode initial number limit fits chunked
     power = record {
       call = record {

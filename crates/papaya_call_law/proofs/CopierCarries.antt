@@ -42,7 +42,7 @@ use Rattle.papaya_words_law.proofs.OneMap.{keeping_sound}
 use Rattle.papaya_words_law.proofs.Later.{later_itself}
 use Rattle.papaya_call_law.specs.Copier.{IsCarrying, IsFor, ReliesCarried, ReliesCarry, ReliesLinked, carried_to, told_last}
 use Rattle.papaya_call_law.specs.Relies.{IsCutAs, IsModeOf}
-use Rattle.papaya_call_law.specs.Told.{or_last, word_of}
+use Rattle.papaya_call_law.specs.TrueAnswers.{or_last, word_of}
 use Rattle.papaya_call_law.proofs.CopierExchange.{aborted_some}
 use Rattle.papaya_call_law.proofs.CopierLinks.{link_counted, link_found, link_made, link_refused, link_sized, made_follows, sized_follows}
 use Rattle.papaya_call_law.proofs.CopierGuarantee.{compared_no, compared_yes, passes_place}

@@ -59,7 +59,7 @@ use Rattle.papaya_call_law.specs.Copier.{IsStillAimed, ReliesAim, ReliesCarry, R
 use Rattle.papaya_call_law.specs.Copier.{ReliesCopying, ReliesLink, ReliesSettle, ReliesSettled}
 use Rattle.papaya_call_law.specs.Copier.{ReliesStep, ReliesStepped, aim_of, last_after, told_last}
 use Rattle.papaya_call_law.specs.Relies.{IsCutAs, IsModeOf}
-use Rattle.papaya_call_law.specs.Told.{word_of}
+use Rattle.papaya_call_law.specs.TrueAnswers.{word_of}
 use Rattle.papaya_call_law.proofs.CopierCarries.{above}
 use Rattle.papaya_call_law.proofs.CopierExchange.{IsKnown, carried_number, moving_known}
 use Rattle.papaya_call_law.proofs.CopierGuarantee.{cursor_word, root_on}

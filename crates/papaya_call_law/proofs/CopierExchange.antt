@@ -44,7 +44,7 @@ use Rattle.papaya_call_law.specs.Copier.{HasWords, IsCopyAsked, IsMoving, IsSour
 use Rattle.papaya_call_law.specs.Copier.{ReliesCopying, ReliesLink, ReliesSettle, ReliesStep}
 use Rattle.papaya_call_law.specs.Copier.{link_in_carry, link_in_copying, link_in_settle}
 use Rattle.papaya_call_law.specs.Copier.{link_in_step}
-use Rattle.papaya_call_law.specs.Told.{IsWritten, word_of}
+use Rattle.papaya_call_law.specs.TrueAnswers.{IsWritten, word_of}
 use Rattle.papaya_call_law.proofs.CopierGuarantee.{advances, aborts, finishes, links_on, places, promotes, root_on}
 
 -- what was put there stands there

@@ -19,7 +19,7 @@ use Rattle.papaya_words_law.specs.Code.{Coding}
 use Rattle.papaya_words_law.specs.Exchange.{Setting, State, Exchange, after}
 use Rattle.papaya_call_law.specs.Copier.{IsCopyAsked, IsCutInto, ReliesLink, ReliesLinked}
 use Rattle.papaya_call_law.specs.Relies.{IsCutAs}
-use Rattle.papaya_call_law.specs.Told.{word_of}
+use Rattle.papaya_call_law.specs.TrueAnswers.{word_of}
 use Rattle.papaya_call_law.proofs.CopierExchange.{put_here}
 
 -- a table of this length has each slot in one of its chunks

@@ -48,7 +48,7 @@ use Rattle.papaya_words_law.proofs.OneMap.{keeping_sound, step_keeps}
 use Rattle.papaya_words_law.proofs.Slots.{put_there}
 use Rattle.papaya_call_law.specs.Copier.{IsCarrying, IsCopyAsked, ReliesCarried, ReliesCarry, ReliesSettle, ReliesSettled, carried_to, last_after, told_last}
 use Rattle.papaya_call_law.specs.Relies.{IsCutAs, IsModeOf}
-use Rattle.papaya_call_law.specs.Told.{or_last, word_of}
+use Rattle.papaya_call_law.specs.TrueAnswers.{or_last, word_of}
 use Rattle.papaya_call_law.proofs.CopierCarries.{carry_compared, carry_counted, carry_found}
 use Rattle.papaya_call_law.proofs.CopierCarries.{carry_hashed, carry_hinted, carry_loaded}
 use Rattle.papaya_call_law.proofs.CopierCarries.{carry_made, carry_noted, carry_refused}

@@ -20,7 +20,7 @@ use Rattle.papaya_words_law.proofs.Later.{lasts}
 use Rattle.papaya_words_law.proofs.Slots.{put_there}
 use Rattle.papaya_call_law.specs.Copier.{IsCopyAsked, ReliesSettle, ReliesSettled, last_after}
 use Rattle.papaya_call_law.specs.Relies.{IsModeOf}
-use Rattle.papaya_call_law.specs.Told.{word_of}
+use Rattle.papaya_call_law.specs.TrueAnswers.{word_of}
 use Rattle.papaya_call_law.proofs.CopierExchange.{IsKnown, marked_of}
 use Rattle.papaya_call_law.proofs.CopierSettles.{by_carried, carry_exchanged, keeps', later, to_carry, zero_next}
 

@@ -46,7 +46,7 @@ use Rattle.papaya_words_law.proofs.CopierFacts.{target_on}
 use Rattle.papaya_words_law.proofs.OneMap.{keeping_sound}
 use Rattle.papaya_call_law.specs.Copier.{IsAimed, IsChunk, IsCopyAsked, IsCursor, ReliesLinked, ReliesSettled, ReliesStep, ReliesStepped, last_after, told_last}
 use Rattle.papaya_call_law.specs.Relies.{IsCutAs, IsModeOf}
-use Rattle.papaya_call_law.specs.Told.{word_of}
+use Rattle.papaya_call_law.specs.TrueAnswers.{word_of}
 use Rattle.papaya_call_law.proofs.CopierCarries.{above, links_next, no_hash, no_hint, no_load, no_note, no_same}
 use Rattle.papaya_call_law.proofs.CopierExchange.{IsKnown, aborted_some, chunk_known, done_here}
 use Rattle.papaya_call_law.proofs.CopierLinks.{link_counted, link_exchanged, link_found, link_made, link_refused, link_sized, made_follows, sized_follows}

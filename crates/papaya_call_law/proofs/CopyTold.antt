@@ -28,7 +28,7 @@ use Rattle.papaya_call_law.specs.Copier.{AreThere, HasWords, IsCopyAsked, IsStil
 use Rattle.papaya_call_law.specs.Copier.{ReliesCopied, ReliesCopying, aim_of, last_after}
 use Rattle.papaya_call_law.specs.Copier.{link_in_copying, told_last}
 use Rattle.papaya_call_law.specs.Relies.{IsCutAs, IsModeOf}
-use Rattle.papaya_call_law.specs.Told.{word_of}
+use Rattle.papaya_call_law.specs.TrueAnswers.{word_of}
 use Rattle.papaya_call_law.proofs.CopierCopies.{copying_compared, copying_counted}
 use Rattle.papaya_call_law.proofs.CopierCopies.{copying_exchanged, copying_found, copying_hashed}
 use Rattle.papaya_call_law.proofs.CopierCopies.{copying_hinted, copying_loaded, copying_made}
@@ -36,7 +36,7 @@ use Rattle.papaya_call_law.proofs.CopierCopies.{copying_noted, copying_refused, 
 use Rattle.papaya_call_law.proofs.CopierCopies.{copying_there}
 use Rattle.papaya_call_law.proofs.CopierExchange.{asked_allowed}
 use Rattle.papaya_call_law.proofs.ReliesLearn.{by_test}
-use Rattle.papaya_call_law.specs.ChainTold.{IsCopyTold, LoadedPairs, told_of}
+use Rattle.papaya_call_law.specs.ChainAnswers.{IsTrueOfCopy, LoadedPairs, told_of}
 
 -- it goes on copying for the same
 same_still : (aim aim' : Aim) → aim' ≡ aim → IsStillAimed aim aim'
@@ -89,7 +89,7 @@ module _ {K P : Type 0} (g : Setting K P) (c : Coding K P) (hashed : IsHashed g 
     -- after each answer
     learns_of : (answer : Answer) → (answer ≡ answers.Call Exchanged → HasWords g (link_in_copying copying))
         → (es : List (Exchange P)) (loaded' : LoadedPairs P) (ask : CopyAsk) → copying_ask copying ≡ ask
-        → IsCopyTold g c s (copying_kind copying) (copying_follows copying) loaded ask answer es loaded' → HasCopied copying answer es loaded'
+        → IsTrueOfCopy g c s (copying_kind copying) (copying_follows copying) loaded ask answer es loaded' → HasCopied copying answer es loaded'
     learns_of answer words es loaded' (Load at) is h =
         quiet copying answer (answers.Call (Word_read (word_of g c s at))) es loaded' (told_of (told_last s at last) loaded) h.0 h.1 h.2
         (copying_loaded g c hashed s m keeps mode moded last kept copying r at is)
@@ -142,5 +142,5 @@ module _ {K P : Type 0} (g : Setting K P) (c : Coding K P) (hashed : IsHashed g 
 
     pub copying_learns : (answer : Answer) → (answer ≡ answers.Call Exchanged → HasWords g (link_in_copying copying))
         → (es : List (Exchange P)) (loaded' : LoadedPairs P)
-        → IsCopyTold g c s (copying_kind copying) (copying_follows copying) loaded (copying_ask copying) answer es loaded' → HasCopied copying answer es loaded'
+        → IsTrueOfCopy g c s (copying_kind copying) (copying_follows copying) loaded (copying_ask copying) answer es loaded' → HasCopied copying answer es loaded'
     copying_learns answer words es loaded' h = learns_of answer words es loaded' (copying_ask copying) refl h

@@ -50,7 +50,7 @@ use Rattle.papaya_call.specs.declared.made.Number.TheVariants.{Wanted, Free, Tak
 use Rattle.papaya_call.specs.Made.{grown, number_ask, number_kind, of_ask, own_ask, serves_at, told}
 use Rattle.papaya_call.specs.Compute.{chosen, fills, in_place_of, lacks, offered, provides, recalled, recalls}
 use Rattle.papaya_call_law.specs.Followed.{IsAtTable, IsCounting, IsGapAt, IsPurposeAt, MayAsk, table_asked, table_of, told_table}
-use Rattle.papaya_call.specs.Machine.{HasClosure, IsChanger, IsStanding, IsStandingState, MayInsert}
+use Rattle.papaya_call.specs.Machine.{HasClosure, IsChanger, IsValid, IsValidState, MayInsert}
 use Rattle.papaya_call.specs.Machine.{after, absent, ask_of, asks, at_root, beaten_as, beaten_by}
 use Rattle.papaya_call.specs.Machine.{computes, decided, goes_as, judged, kind_asked, kind_of_ask}
 use Rattle.papaya_call.specs.Machine.{left, needed, passes, removes, served_kind, replaces, written}
@@ -515,7 +515,7 @@ write_may : (task : Task) (made : Made) (write : Write) → MayInsert task → (
 write_may task made write may None = number_may task made.number made write.old may
 write_may task made write may (Some i) = inl (may, write_kinds write)
 
-asks_in : (task : Task) (made : Made) (hash : ℕ) (s : State) → IsStandingState task s → MayAsk task (kind_asked made s) (asks made hash s)
+asks_in : (task : Task) (made : Made) (hash : ℕ) (s : State) → IsValidState task s → MayAsk task (kind_asked made s) (asks made hash s)
 asks_in task made hash AtRoot stands = tt
 asks_in task made hash Making stands = stands
 asks_in task made hash (Opening u) stands = (stands, refl, refl)
@@ -537,7 +537,7 @@ asks_in task made hash (Growing u) stands = tt
 asks_in task made hash (Ended reply) stands = tt
 
 -- a machine asks what its task asks
-pub asked_of_task : (m : Machine) → IsStanding m → MayAsk m.task (kind_of_ask m) (ask_of m)
+pub asked_of_task : (m : Machine) → IsValid m → MayAsk m.task (kind_of_ask m) (ask_of m)
 asked_of_task m stands = asks_in m.task m.made m.hash m.state stands.state
 
 -- it opens a table once

@@ -6,7 +6,7 @@ use Rattle.papaya_words_law.specs.Exchange.{Setting, State}
 use Rattle.papaya_words_law.specs.Code.{Coding}
 use Rattle.papaya_words_law.specs.Further.{with_key, coding_with}
 use Rattle.papaya_words_law.proofs.Further.{key_code}
-use Rattle.papaya_call_law.specs.Told.{word_of}
+use Rattle.papaya_call_law.specs.TrueAnswers.{word_of}
 
 module _ {K P : Type 0} (g : Setting K P) (matches : K → Bool) (hash : ℕ) where
   -- what stands at a place has the number that it had

@@ -29,7 +29,7 @@ use Rattle.papaya_call.specs.declared.chain.machine.Machine.{Machine}
 use Rattle.papaya_call.specs.declared.chain.machine.Phase.{Phase}
 use Rattle.papaya_call.specs.declared.chain.machine.Phase.TheVariants.{Calling, Linking, Copying as Copying_root}
 use Rattle.papaya_call.specs.ChainMachine.{after, after_copied, after_in, after_linked, aim_for}
-use Rattle.papaya_call.specs.ChainMachine.{answered, begins_anew, called, copying_after, enters}
+use Rattle.papaya_call.specs.ChainMachine.{answered, restarted, called, copying_after, enters}
 use Rattle.papaya_call.specs.ChainMachine.{goes_on, grows_as, leaves, link_after, onward, refuses}
 use Rattle.papaya_call.specs.ChainMachine.{stepped, told_next}
 use Rattle.papaya_call_law.specs.Goes.{Goes, IsInOrder}
@@ -40,7 +40,7 @@ abbrev Leaves : Machine → Answer → Machine → Type 0
 Leaves m answer m' = ((t : ℕ) × (left_by m.call.state ≡ Some t) × (m'.call ≡ m.call))
     ⊎ ((told : Call_answer) × (m.phase ≡ Calling) × (answer ≡ answers.Call told) × (m'.call ≡ call_machine.after m.call told) × (m'.phase ≡ Calling))
     ⊎ ((t : ℕ) × (left_by m.call.state ≡ Some t) × ((table : ℕ) × (m'.call ≡ (enters m table).call)))
-    ⊎ ((t : ℕ) × (left_by m.call.state ≡ Some t) × ((root : ℕ) × (m'.call ≡ (begins_anew m root).call)))
+    ⊎ ((t : ℕ) × (left_by m.call.state ≡ Some t) × ((root : ℕ) × (m'.call ≡ (restarted m root).call)))
     ⊎ ((t : ℕ) × (left_by m.call.state ≡ Some t) × ((refused : Refused) × (m'.call ≡ (refuses m refused).call)))
 
 module _ (m : Machine) (answer : Answer) where

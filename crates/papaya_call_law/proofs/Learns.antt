@@ -46,8 +46,8 @@ use Rattle.papaya_words_law.proofs.OneMap.{keeping}
 use Rattle.papaya_words_law.specs.Exchange.{Setting, State, Exchange, run, start}
 use Rattle.papaya_call_law.specs.Copier.{HasWords, IsCopyAsked, ReliesCopied, ReliesCopying, aim_of, last_after, link_in_copying, told_last}
 use Rattle.papaya_call_law.specs.Relies as calls
-use Rattle.papaya_call_law.specs.Told.{word_of}
-use Rattle.papaya_call_law.specs.Told as call_told
+use Rattle.papaya_call_law.specs.TrueAnswers.{word_of}
+use Rattle.papaya_call_law.specs.TrueAnswers as call_told
 use Rattle.papaya_call_law.proofs.ReliesLearn.{by_test, machine_learns, more_than_none}
 use Rattle.papaya_call_law.proofs.ReliesLearnLoaded.{loaded_told}
 use Rattle.papaya_call_law.proofs.ReliesNames.{come_on}
@@ -55,7 +55,7 @@ use Rattle.papaya_call_law.proofs.ReliesStable.{relies_stable}
 use Rattle.papaya_call.proofs.Settings.{settings_stable}
 use Rattle.papaya_call_law.specs.Goes.{link_in}
 use Rattle.papaya_call_law.specs.ChainRelies.{IsCopyingAll, IsHelping, IsLinking, Relies, ReliesPhase, left_by}
-use Rattle.papaya_call_law.specs.ChainTold.{IsCopyTold, IsTold, LoadedPairs, told_of}
+use Rattle.papaya_call_law.specs.ChainAnswers.{IsTrueOfCopy, IsTrueOf, LoadedPairs, told_of}
 use Rattle.papaya_call_law.proofs.Aside.{left_come}
 use Rattle.papaya_call_law.proofs.CopyTold.{copying_learns}
 use Rattle.papaya_call_law.proofs.Making.{link_learns_all}
@@ -73,7 +73,7 @@ aside_stage g c begun since k loaded loaded' task stage t e r = absurd cc
 
 -- an answer of a copy tells of a pair at most
 copy_loaded : {K P : Type 0} (g : Setting K P) (c : Coding K P) (s : State P) (kind : Option StepKind) (n : ℕ) (loaded : LoadedPairs P)
-    (ask : CopyAsk) (answer : Answer) (es : List (Exchange P)) (loaded' : LoadedPairs P) → IsCopyTold g c s kind n loaded ask answer es loaded'
+    (ask : CopyAsk) (answer : Answer) (es : List (Exchange P)) (loaded' : LoadedPairs P) → IsTrueOfCopy g c s kind n loaded ask answer es loaded'
     → (last : Option P) × (loaded'.call ≡ record loaded.call { last = last })
 copy_loaded g c s kind n loaded (Load at) answer es loaded' h = (told_last s at loaded.call.last, ap (λ y. y.call) h.2)
 copy_loaded {P = P} g c s kind n loaded (Ask_exchange at old new) answer es loaded' h =
@@ -218,7 +218,7 @@ module _ {K P : Type 0} (g : Setting K P) (c : Coding K P) (hashed : IsHashed g 
     -- the call was answered, in each stage
     called_learns : (stage : Stage) → calls.Relies g c begun since k (record call { state = stage }) loaded.call
         → (told : Call_answer) (es : List (Exchange P)) (call' : call_told.LoadedPairs P) (loaded' : LoadedPairs P) → loaded' ≡ record loaded { call = call' }
-        → call_told.IsTold g c k now (call_machine.kind_asked call.made stage) loaded.call (call_machine.asks call.made call.hash stage) told es call'
+        → call_told.IsTrueOf g c k now (call_machine.kind_asked call.made stage) loaded.call (call_machine.asks call.made call.hash stage) told es call'
         → ((answer : Call_answer) → told ≡ answer → Learned (stepped (in_stage stage) answer) es loaded') → Learned (called (in_stage stage) told) es loaded'
     called_learns stage r Exchanged es call' loaded' handed h inner = inner Exchanged refl
     called_learns stage r (Found_instead word) es call' loaded' handed h inner = inner (Found_instead word) refl
@@ -257,7 +257,7 @@ module _ {K P : Type 0} (g : Setting K P) (c : Coding K P) (hashed : IsHashed g 
 
       link_relies : (link : Link) → IsLinking g c begun since k (at_phase call (Linking link)) link → (answer : Answer)
           → (answer ≡ answers.Call Exchanged → HasWords g (Some link))
-          → IsCopyTold g c now (link_kind link) (follows link) loaded (link_ask link) answer es loaded'
+          → IsTrueOfCopy g c now (link_kind link) (follows link) loaded (link_ask link) answer es loaded'
           → Learned (after (at_phase call (Linking link)) answer) es loaded'
       link_relies link at answer words h =
           let out = link_learns_all g c hashed begun since may call.mode cut call.initial loaded link at.relies answer words es loaded' h in
@@ -270,7 +270,7 @@ module _ {K P : Type 0} (g : Setting K P) (c : Coding K P) (hashed : IsHashed g 
       -- what a copier learns, after all exchanges
       copied_in_all : (copying : Copying) → ReliesCopying g c now loaded.call.last loaded.kept copying → (answer : Answer)
           → (answer ≡ answers.Call Exchanged → HasWords g (link_in_copying copying))
-          → IsCopyTold g c now (copying_kind copying) (copying_follows copying) loaded (copying_ask copying) answer es loaded'
+          → IsTrueOfCopy g c now (copying_kind copying) (copying_follows copying) loaded (copying_ask copying) answer es loaded'
           → AllAllowed g start (begun ++ (since ++ es))
           × ReliesCopied g c (run (begun ++ (since ++ es)) start) loaded'.call.last loaded'.kept (aim_of copying)
           (copying_after copying call.mode call.initial number answer)
@@ -286,7 +286,7 @@ module _ {K P : Type 0} (g : Setting K P) (c : Coding K P) (hashed : IsHashed g 
 
       helping_relies : (copying : Copying) → IsHelping g c begun since k (at_phase call (Copying_root copying)) loaded copying → (answer : Answer)
           → (answer ≡ answers.Call Exchanged → HasWords g (link_in_copying copying))
-          → IsCopyTold g c now (copying_kind copying) (copying_follows copying) loaded (copying_ask copying) answer es loaded'
+          → IsTrueOfCopy g c now (copying_kind copying) (copying_follows copying) loaded (copying_ask copying) answer es loaded'
           → Learned (after (at_phase call (Copying_root copying)) answer) es loaded'
       helping_relies copying at answer words h =
           let out = copied_in_all copying at.relies answer words h in
@@ -303,7 +303,7 @@ module _ {K P : Type 0} (g : Setting K P) (c : Coding K P) (hashed : IsHashed g 
 
       copying_all_relies : (copying : Copying) → IsCopyingAll g c begun since k (at_phase call (Copying_root copying)) loaded copying
           → (answer : Answer) → (answer ≡ answers.Call Exchanged → HasWords g (link_in_copying copying))
-          → IsCopyTold g c now (copying_kind copying) (copying_follows copying) loaded (copying_ask copying) answer es loaded'
+          → IsTrueOfCopy g c now (copying_kind copying) (copying_follows copying) loaded (copying_ask copying) answer es loaded'
           → Learned (after (at_phase call (Copying_root copying)) answer) es loaded'
       copying_all_relies copying at answer words h =
           let out = copied_in_all copying at.relies answer words h in
@@ -320,14 +320,14 @@ module _ {K P : Type 0} (g : Setting K P) (c : Coding K P) (hashed : IsHashed g 
   learns_in : (call : Call_machine) → calls.IsCutAs call.mode g.chunk_of → calls.Relies g c begun since k call loaded.call → (phase : Phase)
       → ReliesPhase g c begun since k (at_phase call phase) loaded phase → (answer : Answer)
       → (answer ≡ answers.Call Exchanged → HasWords g (link_in phase)) → (es : List (Exchange P)) (loaded' : LoadedPairs P)
-      → IsTold g c k now (kind_in call phase) (follows_in phase) loaded (asks_in call phase) answer es loaded'
+      → IsTrueOf g c k now (kind_in call phase) (follows_in phase) loaded (asks_in call phase) answer es loaded'
       → Learned (after (at_phase call phase) answer) es loaded'
   learns_in call cut r Calling at answer words es loaded' h =
       subst (λ a. Learned (answered (at_phase call Calling) a) es loaded') (sym h.is)
       (called_learns call cut call.state r h.told es h.call loaded' h.handed h.tells
       (λ told is. steps_on call cut call.state told es h.call loaded' h.handed
       (machine_learns g c hashed begun since may k call loaded.call r told es h.call
-      (subst (λ a. call_told.IsTold g c k now (call_machine.kind_of_ask call) loaded.call (call_machine.ask_of call) a es h.call) is h.tells))))
+      (subst (λ a. call_told.IsTrueOf g c k now (call_machine.kind_of_ask call) loaded.call (call_machine.ask_of call) a es h.call) is h.tells))))
   learns_in call cut r (Linking link) at answer words es loaded' h = link_relies call cut r es loaded' link at answer words h
   learns_in call cut r (Copying_root copying) (inl at) answer words es loaded' h = helping_relies call cut r es loaded' copying at answer words h
   learns_in call cut r (Copying_root copying) (inr at) answer words es loaded' h = copying_all_relies call cut r es loaded' copying at answer words h
@@ -337,7 +337,7 @@ module _ {K P : Type 0} (g : Setting K P) (c : Coding K P) (hashed : IsHashed g 
   -- of the machine
   pub all_learns : (m : Machine) (loaded : LoadedPairs P) → Relies g c begun since k m loaded → (answer : Answer)
       → (answer ≡ answers.Call Exchanged → HasWords g (link_in m.phase)) → (es : List (Exchange P)) (loaded' : LoadedPairs P)
-      → IsTold g c k (run (begun ++ since) start) (kind_of_ask m) (follows_of m) loaded (ask_of m) answer es loaded'
+      → IsTrueOf g c k (run (begun ++ since) start) (kind_of_ask m) (follows_of m) loaded (ask_of m) answer es loaded'
       → AllAllowed g start (begun ++ (since ++ es)) × Relies g c begun (since ++ es) k (after m answer) loaded'
   all_learns m loaded r answer words es loaded' h = learns_in g c hashed begun since may k loaded m.number m.helped m.call r.cut r.call m.phase
       r.phase answer words es loaded' h

@@ -34,8 +34,8 @@ use Rattle.papaya_call.specs.declared.search.Place.{Place}
 
 module _ (limit : ℕ → ℕ) (hash initial : ℕ) (mode : ResizeMode) where
   -- the lookup in a state
-  abbrev pub standing : Made → State → Machine
-  standing made s = lookup hash initial mode made s
+  abbrev pub valid : Made → State → Machine
+  valid made s = lookup hash initial mode made s
 
   -- a hint leads to its word, or past it
   hint_step : (at : Place) (hint : ℕ) → at.probe.len ≤ at.limit
@@ -50,10 +50,10 @@ module _ (limit : ℕ → ℕ) (hash initial : ℕ) (mode : ResizeMode) where
   record IsStepBy (made : Made) (s : State) (answer : Answer) : Type 0 where
     pub then_made : Made
     pub to : State
-    pub is : after (standing made s) answer ≡ standing then_made to
-    pub step : IsStep limit s to (ask_of (standing made s))
+    pub is : after (valid made s) answer ≡ valid then_made to
+    pub step : IsStep limit s to (ask_of (valid made s))
 
-  step_by : (made : Made) (s : State) (answer : Answer) → IsReader s → IsAnswer limit (ask_of (standing made s)) answer → IsStepBy made s answer
+  step_by : (made : Made) (s : State) (answer : Answer) → IsReader s → IsAnswer limit (ask_of (valid made s)) answer → IsStepBy made s answer
   step_by made AtRoot answer reader (word, e, _) =
       subst (IsStepBy made AtRoot) (sym e) (record { then_made = made; to = at_root Get None word; is = refl; step = step_root limit word })
   step_by made (Searching (Sizing u)) answer reader (slots, e) =
@@ -84,7 +84,7 @@ module _ (limit : ℕ → ℕ) (hash initial : ℕ) (mode : ResizeMode) where
       subst (IsStepBy made (Leaving u)) (sym e) (record { then_made = made; to = state_left Get None u word; is = refl; step = step_next limit u word rises })
   step_by made (Ended reply) answer reader fits = record { then_made = made; to = Ended reply; is = stable answer; step = step_ended limit reply }
     where
-      stable : (answer : Answer) → after (standing made (Ended reply)) answer ≡ standing made (Ended reply)
+      stable : (answer : Answer) → after (valid made (Ended reply)) answer ≡ valid made (Ended reply)
       stable (answers.Word word) = refl
       stable answers.Exchanged = refl
       stable (answers.Found word) = refl
@@ -126,7 +126,7 @@ module _ (limit : ℕ → ℕ) (hash initial : ℕ) (mode : ResizeMode) where
     quiet = All-cons IsLookup ask asks step.quiet run.quiet;
   }
 
-  runs : (given : List Answer) (made : Made) (s : State) → IsReader s → AreAnswers limit (standing made s) given → IsRun s (asked (standing made s) given)
+  runs : (given : List Answer) (made : Made) (s : State) → IsReader s → AreAnswers limit (valid made s) given → IsRun s (asked (valid made s) given)
   runs [] made s reader fit = record {
     loads = λ t. omega arith;
     hints = λ t. omega arith;
@@ -137,16 +137,16 @@ module _ (limit : ℕ → ℕ) (hash initial : ℕ) (mode : ResizeMode) where
   }
   runs (answer ∷ given) made s reader (fits, fit) =
       let by = step_by made s answer reader fits in
-      let further : IsRun by.to (asked (standing by.then_made by.to) given) = runs given by.then_made by.to by.step.reader
+      let further : IsRun by.to (asked (valid by.then_made by.to) given) = runs given by.then_made by.to by.step.reader
       (subst (λ m. AreAnswers limit m given) by.is fit) in
-      run_more s by.to (ask_of (standing made s)) (asked (after (standing made s) answer) given) by.step
+      run_more s by.to (ask_of (valid made s)) (asked (after (valid made s) answer) given) by.step
       (subst (λ m. IsRun by.to (asked m given)) (sym by.is) further)
 
   -- a lookup from its start
   pub lookup_bounded : (most : Option ℕ) (given : List Answer) → AreAnswers limit (started Get hash mode initial most) given
       → IsBounded limit (asked (started Get hash mode initial most) given)
   lookup_bounded most given fit =
-      let run : IsRun AtRoot (asked (standing (nothing_made most) AtRoot) given) = runs given (nothing_made most) AtRoot tt fit in
+      let run : IsRun AtRoot (asked (valid (nothing_made most) AtRoot) given) = runs given (nothing_made most) AtRoot tt fit in
       record {
         loads = run.loads;
         hints = run.hints;

@@ -24,7 +24,7 @@ use Rattle.papaya_call_law.specs.Relies.{IsCutAs}
 use Rattle.papaya_call_law.proofs.CopierLinks.{link_counted, link_exchanged, link_found, link_made, link_refused, link_sized, sized_follows}
 use Rattle.papaya_call_law.proofs.CopierGuarantee.{links_on}
 use Rattle.papaya_call_law.proofs.ReliesLearn.{by_test}
-use Rattle.papaya_call_law.specs.ChainTold.{IsCopyTold, LoadedPairs, told_of}
+use Rattle.papaya_call_law.specs.ChainAnswers.{IsTrueOfCopy, LoadedPairs, told_of}
 
 module _ {K P : Type 0} (g : Setting K P) (c : Coding K P) (s : State P) (m : K → Option P) (keeps : IsKeeping g s m) (mode : ResizeMode)
     (cut : IsCutAs mode g.chunk_of) (initial : ℕ) (loaded : LoadedPairs P) where
@@ -57,7 +57,7 @@ module _ {K P : Type 0} (g : Setting K P) (c : Coding K P) (s : State P) (m : K 
   -- after each answer
   pub link_learns : (link : Link) → ReliesLink g c s link → (answer : Answer) → (answer ≡ answers.Call Exchanged → HasWords g (Some link))
       → (es : List (Exchange P)) (loaded' : LoadedPairs P)
-      → IsCopyTold g c s (link_kind link) (follows link) loaded (link_ask link) answer es loaded' → HasLinked link answer es loaded'
+      → IsTrueOfCopy g c s (link_kind link) (follows link) loaded (link_ask link) answer es loaded' → HasLinked link answer es loaded'
   link_learns (links.Sizing behind copied unfit) r answer words es loaded' h =
       quiet (links.Sizing behind copied unfit) answer (answers.Call (Size (g.size behind) h.0.0)) es loaded' loaded h.0.2 h.1.0 h.1.1 (
         sized_follows g c s loaded.call.last loaded.kept (links.Sizing behind copied unfit) (g.size behind),
@@ -97,7 +97,7 @@ module _ {K P : Type 0} (g : Setting K P) (c : Coding K P) (hashed : IsHashed g 
   -- the same after all exchanges
   pub link_learns_all : (link : Link) → ReliesLink g c (run (begun ++ since) start) link → (answer : Answer)
       → (answer ≡ answers.Call Exchanged → HasWords g (Some link)) → (es : List (Exchange P)) (loaded' : LoadedPairs P)
-      → IsCopyTold g c (run (begun ++ since) start) (link_kind link) (follows link) loaded (link_ask link) answer es loaded'
+      → IsTrueOfCopy g c (run (begun ++ since) start) (link_kind link) (follows link) loaded (link_ask link) answer es loaded'
       → AllAllowed g start (begun ++ (since ++ es))
       × ReliesLinked g c (run (begun ++ (since ++ es)) start) loaded'.call.last loaded'.kept (follows link) (link_after link mode initial answer)
   link_learns_all link r answer words es loaded' h =

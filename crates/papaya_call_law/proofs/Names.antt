@@ -21,12 +21,12 @@ use Rattle.papaya_words_law.specs.Invariant.{IsKeeping}
 use Rattle.papaya_words_law.specs.Meaning.{map_left}
 use Rattle.papaya_words_law.proofs.OneMap.{keeping}
 use Rattle.papaya_call_law.specs.Copier.{AreThere, HasWords, IsCopyAsked, ReliesCopying}
-use Rattle.papaya_call_law.specs.Told.{IsWritten, word_of}
+use Rattle.papaya_call_law.specs.TrueAnswers.{IsWritten, word_of}
 use Rattle.papaya_call_law.proofs.CopierCopies.{copying_there, link_there, copying_noted}
 use Rattle.papaya_call_law.proofs.CopierExchange.{copying_may, link_may}
 use Rattle.papaya_call_law.specs.Goes.{link_in}
 use Rattle.papaya_call_law.specs.ChainRelies.{Relies, ReliesPhase}
-use Rattle.papaya_call_law.specs.ChainTold.{LoadedPairs}
+use Rattle.papaya_call_law.specs.ChainAnswers.{LoadedPairs}
 use Rattle.papaya_call_law.proofs.CopierCarries.{no_note}
 use Rattle.papaya_words_law.specs.Hints.{IsHint}
 

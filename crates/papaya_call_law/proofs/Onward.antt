@@ -15,7 +15,7 @@ use Rattle.papaya_call_law.specs.Copier.{ReliesAim}
 use Rattle.papaya_call_law.specs.Relies.{ReliesStage}
 use Rattle.papaya_call_law.specs.Relies as calls
 use Rattle.papaya_call_law.specs.ChainRelies.{Relies, left_by}
-use Rattle.papaya_call_law.specs.ChainTold.{LoadedPairs}
+use Rattle.papaya_call_law.specs.ChainAnswers.{LoadedPairs}
 use Rattle.papaya_call_law.proofs.Aside.{enters_relies, met_moving}
 
 module _ {K P : Type 0} (g : Setting K P) (c : Coding K P) (hashed : IsHashed g c) (begun since : List (Exchange P))

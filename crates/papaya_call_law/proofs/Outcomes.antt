@@ -18,7 +18,7 @@ use Rattle.papaya_call.specs.declared.copy.copying.Copied.TheVariants as copied
 use Rattle.papaya_call.specs.declared.copy.link.Linked.{Linked}
 use Rattle.papaya_call.specs.declared.copy.link.Linked.TheVariants as linked
 use Rattle.papaya_call.specs.declared.chain.machine.Machine.{Machine}
-use Rattle.papaya_call.specs.ChainMachine.{aim_for, after_copied, after_linked, begins_anew, enters, onward, refuses}
+use Rattle.papaya_call.specs.ChainMachine.{aim_for, after_copied, after_linked, restarted, enters, onward, refuses}
 use Rattle.papaya_words_law.specs.Allows.{AllAllowed}
 use Rattle.papaya_words_law.specs.Code.{Coding, IsHashed}
 use Rattle.papaya_words_law.specs.Copying.{IsSettled}
@@ -26,9 +26,9 @@ use Rattle.papaya_words_law.specs.Exchange.{Setting, State, Exchange, run, start
 use Rattle.papaya_call_law.specs.Copier.{IsLedTo, IsStillAimed, ReliesCopied, ReliesLinked, aim_of}
 use Rattle.papaya_call_law.specs.Relies.{ReliesStage}
 use Rattle.papaya_call_law.specs.Relies as calls
-use Rattle.papaya_call_law.specs.Told as call_loaded
+use Rattle.papaya_call_law.specs.TrueAnswers as call_loaded
 use Rattle.papaya_call_law.specs.ChainRelies.{Relies, left_by}
-use Rattle.papaya_call_law.specs.ChainTold.{LoadedPairs}
+use Rattle.papaya_call_law.specs.ChainAnswers.{LoadedPairs}
 use Rattle.papaya_call_law.proofs.ReliesLearn.{machine_learns}
 use Rattle.papaya_call.proofs.Settings.{settings_stable}
 use Rattle.papaya_call_law.proofs.Aside.{enters_relies}
@@ -76,8 +76,8 @@ module _ {K P : Type 0} (g : Setting K P) (c : Coding K P) (hashed : IsHashed g 
     }
 
     -- with blocking the call begins anew at the root
-    anew_relies : (root : ℕ) → now.root ≡ root → Relies g c begun since k (begins_anew m root) loaded
-    anew_relies root is = subst (λ n. Relies g c begun since k (begins_anew m n) loaded) is
+    anew_relies : (root : ℕ) → now.root ≡ root → Relies g c begun since k (restarted m root) loaded
+    anew_relies root is = subst (λ n. Relies g c begun since k (restarted m n) loaded) is
         (record {
           cut = subst (λ mode. calls.IsCutAs mode g.chunk_of) (sym (settings_stable (record m.call { state = At_root }) (Word_read now.root)).0) cut;
           call = subst (λ l. calls.Relies g c begun l k (call_machine.after (record m.call { state = At_root }) (Word_read now.root)) loaded.call)

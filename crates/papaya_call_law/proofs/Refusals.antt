@@ -46,14 +46,14 @@ use Rattle.papaya_call.specs.ChainMachine.{goes_on, grows_as, kind_in, kind_of_a
 use Rattle.papaya_call.specs.ChainMachine.{onward, stepped, told_next}
 use Rattle.papaya_call_law.proofs.ReliesReplyRefused.{IsMaking, IsReason, machine_reason}
 use Rattle.papaya_call_law.proofs.Makings.{HoldsOfPairAsks, pair_holds, write_holds}
-use Rattle.papaya_call_law.specs.Told as call_told
+use Rattle.papaya_call_law.specs.TrueAnswers as call_told
 use Rattle.papaya_call_law.proofs.ReliesLearn.{by_test}
 use Rattle.papaya_words_law.specs.Code.{Coding}
 use Rattle.papaya_words_law.specs.Exchange.{Setting, State, Exchange as Exchange_made}
 use Rattle.papaya_call_law.specs.Copier.{link_in_copying}
 use Rattle.papaya_call_law.specs.Goes.{IsCause, IsInOrder, IsOwnRefusal, IsOwnStep, IsToMake, WasNotMade, WouldBeTooLong, link_in}
 use Rattle.papaya_call_law.specs.ChainRelies.{left_by}
-use Rattle.papaya_call_law.specs.ChainTold.{IsTold, LoadedPairs}
+use Rattle.papaya_call_law.specs.ChainAnswers.{IsTrueOf, LoadedPairs}
 use Rattle.papaya_call_law.proofs.CopyRefusals.{copying_asks, of_copied, of_link, of_linked}
 use Rattle.papaya_call_law.proofs.LinkRefusals.{HasCountedTooMany, HasNotMade, copying_ends, link_why}
 use Rattle.papaya_call_law.proofs.Names.{call_asks}
@@ -241,11 +241,11 @@ module _ (m : Machine) (answer : Answer) (refused : Refused) where
 
 module _ {K P : Type 0} (g : Setting K P) (c : Coding K P) (k : K) (s : State P) (m : Machine) (answer : Answer) (refused : Refused)
     (loaded : LoadedPairs P) (es : List (Exchange_made P)) (loaded' : LoadedPairs P)
-    (tells : IsTold g c k s (kind_of_ask m) (follows_of m) loaded (ask_of m) answer es loaded') where
+    (tells : IsTrueOf g c k s (kind_of_ask m) (follows_of m) loaded (ask_of m) answer es loaded') where
   -- what is refused was to be made
   abbrev IsMadeAsk : Call_ask → Type 0
   IsMadeAsk ask = (kind : Option StepKind) (call' : call_told.LoadedPairs P)
-      → call_told.IsTold g c k s kind loaded.call ask (Was_refused refused) es call' → IsToMake ask
+      → call_told.IsTrueOf g c k s kind loaded.call ask (Was_refused refused) es call' → IsToMake ask
 
   -- no exchange is refused
   exchange_told : (at : At) (old new : ℕ) → IsMadeAsk (Exchange at old new)
@@ -267,7 +267,7 @@ module _ {K P : Type 0} (g : Setting K P) (c : Coding K P) (k : K) (s : State P)
   }
 
   making_told : (made : Made) (hash : ℕ) (kind : Option StepKind) (call' : call_told.LoadedPairs P) (stage : Stage) → IsMaking stage
-      → call_told.IsTold g c k s kind loaded.call (asks made hash stage) (Was_refused refused) es call' → IsToMake (asks made hash stage)
+      → call_told.IsTrueOf g c k s kind loaded.call (asks made hash stage) (Was_refused refused) es call' → IsToMake (asks made hash stage)
   making_told made hash kind call' Making makes h = tt
   making_told made hash kind call' (Writing write) makes h = write_holds IsMadeAsk each_told write
       (λ n. exchange_told (Slot write.place.table write.place.probe.i) write.old (live_word n)) made kind call' h
@@ -276,10 +276,10 @@ module _ {K P : Type 0} (g : Setting K P) (c : Coding K P) (k : K) (s : State P)
 
   makes_told : Makes m answer refused
   makes_told told phase is refuses making =
-      let h = subst (λ phase. IsTold g c k s (kind_in m.call phase) (follows_of m) loaded (asks_in m.call phase) answer es loaded') phase tells in
+      let h = subst (λ phase. IsTrueOf g c k s (kind_in m.call phase) (follows_of m) loaded (asks_in m.call phase) answer es loaded') phase tells in
       let same : h.told ≡ Was_refused refused = cc (h.is, is, refuses) in
       making_told m.call.made m.call.hash (call_machine.kind_of_ask m.call) h.call m.call.state making
-      (subst (λ a. call_told.IsTold g c k s (call_machine.kind_of_ask m.call) loaded.call (call_machine.ask_of m.call) a es h.call) same h.tells)
+      (subst (λ a. call_told.IsTrueOf g c k s (call_machine.kind_of_ask m.call) loaded.call (call_machine.ask_of m.call) a es h.call) same h.tells)
 
   -- of a machine that is told
   pub chain_refused : IsInOrder m answer m.phase → ((reply : Reply) → ask_of m ≡ asked.Call (Ask_done reply) → ⊥)

@@ -35,7 +35,7 @@ use Rattle.papaya_words_law.specs.Exchange.{Setting, Exchange}
 use Rattle.papaya_words_law.specs.View.{look, IsPassed}
 use Rattle.papaya_words_law.specs.Code.{Coding}
 use Rattle.papaya_words_law.specs.Later.{IsOfKey}
-use Rattle.papaya_call_law.specs.Told.{LoadedPairs}
+use Rattle.papaya_call_law.specs.TrueAnswers.{LoadedPairs}
 use Rattle.papaya_call_law.specs.Relies.{now, IsModeOf, HasComeTo, IsAt, HasMet, MayRemove}
 use Rattle.papaya_call_law.specs.Relies.{MayWrite, WasAtMoment, IsOwnPair, IsPairAt, IsPairFor}
 use Rattle.papaya_call_law.specs.Relies.{ReliesWriting, ReliesNumber, ReliesFill, ReliesOf}

@@ -25,7 +25,7 @@ use Rattle.papaya_call.specs.Machine.{asks, ask_of}
 use Rattle.papaya_call.specs.Write.{served_ask, serves}
 use Rattle.papaya_words_law.specs.Exchange.{Setting, Exchange}
 use Rattle.papaya_words_law.specs.Code.{Coding, IsHashed}
-use Rattle.papaya_call_law.specs.Told.{LoadedPairs}
+use Rattle.papaya_call_law.specs.TrueAnswers.{LoadedPairs}
 use Rattle.papaya_call_law.specs.Relies.{MayRemove, Relies, ReliesPurpose, ReliesStage, ReliesWriting}
 use Rattle.papaya_call_law.proofs.ReliesLearnPairs.{removal_number}
 

@@ -37,7 +37,7 @@ use Rattle.papaya_call.specs.Machine.{after, agreed, ask_of, asks, decided, goes
 use Rattle.papaya_call_law.specs.Owed.{owed_by, grows_by, grows_of}
 use Rattle.papaya_call.specs.Remove.{grave_word}
 use Rattle.papaya_call.specs.Search.{hinted, look as look_seen, at_yes as search_compared}
-use Rattle.papaya_call_law.specs.Told.{IsAsked, IsTold, IsUnmade, IsSaying, LoadedPairs, told_of}
+use Rattle.papaya_call_law.specs.TrueAnswers.{IsAsked, IsTrueOf, IsUnmade, IsClosureAnswer, LoadedPairs, told_of}
 use Rattle.papaya_call.specs.declared.write.Write.{Write}
 use Rattle.papaya_call.specs.Write.{claimed_by, served_ask, serves}
 use Rattle.papaya_call.specs.declared.ask.Ask.TheVariants.{Exchange as Ask_exchange}
@@ -167,7 +167,7 @@ module _ {K P : Type 0} (g : Setting K P) (c : Coding K P) (k : K) (s : State P)
       h
 
   -- where a closure was asked
-  said_owes : (made : Made) (stage : Stage) (answer : Answer) → IsSaying g c k answer → ((agrees : Bool) → Owes made stage (Yes agrees))
+  said_owes : (made : Made) (stage : Stage) (answer : Answer) → IsClosureAnswer g c k answer → ((agrees : Bool) → Owes made stage (Yes agrees))
       → ((kind : OpKind) → Owes made stage (Op kind)) → Owes made stage Ok_done → Owes made stage answer
   said_owes made stage answer h judged decided ok =
       ⊎_elim
@@ -208,7 +208,7 @@ module _ {K P : Type 0} (g : Setting K P) (c : Coding K P) (k : K) (s : State P)
 
   -- a write owes what its exchange lets the map grow by
   write_owes : (made : Made) (write : Write) (served : Option ℕ) (answer : Answer)
-      → IsTold g c k s (served_kind served made write) loaded (served_ask served write made) answer es loaded'
+      → IsTrueOf g c k s (served_kind served made write) loaded (served_ask served write made) answer es loaded'
       → owed_in (write_then m served made write answer) ≡ grows_by (served_kind served made write) (served_ask served write made) answer
   write_owes made write None answer h = unserved_leads m OwesNone (λ refused. refl) made write refl answer
       ∙ sym (number_grows made.number made write.old answer)
@@ -227,7 +227,7 @@ module _ {K P : Type 0} (g : Setting K P) (c : Coding K P) (k : K) (s : State P)
       (λ _ h'. subst Is (sym h'.0) (goes_owes m.task m.mode m.remembered (look_seen write.place word)))
 
   -- in each stage
-  owes_in : (made : Made) (stage : Stage) (answer : Answer) → IsTold g c k s (kind_asked made stage) loaded (asks made m.hash stage) answer es loaded'
+  owes_in : (made : Made) (stage : Stage) (answer : Answer) → IsTrueOf g c k s (kind_asked made stage) loaded (asks made m.hash stage) answer es loaded'
       → Owes made stage answer
   owes_in made AtRoot answer h = subst (Owes made AtRoot) (sym h.0) (root_leads (λ stage. owed_in stage ≡ pos 0) leads_owe m.task m.remembered.fill s.root)
   owes_in made Making answer h = ⊎_elim (λ u. unmade_owes made Making answer u (λ refused. refl) refl) (λ t. subst (Owes made Making) (sym t.2) refl) h.0
@@ -284,6 +284,6 @@ module _ {K P : Type 0} (g : Setting K P) (c : Coding K P) (k : K) (s : State P)
   owes_in made (Ended reply) answer h = subst (Owes made (Ended reply)) (sym h.0) refl
 
   -- of the machine
-  pub machine_owes : (answer : Answer) → IsTold g c k s (kind_of_ask m) loaded (ask_of m) answer es loaded'
+  pub machine_owes : (answer : Answer) → IsTrueOf g c k s (kind_of_ask m) loaded (ask_of m) answer es loaded'
       → owed_by (ask_of (after m answer)) ≡ grows_by (kind_of_ask m) (ask_of m) answer
   machine_owes answer h = asked_in (after m answer).made (after m answer).hash (after m answer).state ∙ owes_in m.made m.state answer h

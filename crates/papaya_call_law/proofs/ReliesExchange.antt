@@ -40,7 +40,7 @@ use Rattle.papaya_call.specs.Compute.{in_place_of}
 use Rattle.papaya_call.specs.Made.{number_ask, number_kind}
 use Rattle.papaya_call.specs.Machine.{asks, kind_asked, served_kind}
 use Rattle.papaya_call.specs.Write.{served_ask, serves}
-use Rattle.papaya_call_law.specs.Told.{IsAsked, IsWritten, LoadedPairs, word_of}
+use Rattle.papaya_call_law.specs.TrueAnswers.{IsAsked, IsWritten, LoadedPairs, word_of}
 use Rattle.papaya_words_law.specs.Code.{IsHashed}
 use Rattle.papaya_call.specs.Remove.{grave_word}
 use Rattle.papaya_call_law.specs.Relies.{IsAt, IsOwnPair, IsPairAt, IsPairFor, MayRemove, MayWrite}

@@ -48,13 +48,13 @@ use Rattle.papaya_call.specs.declared.made.Grown.TheVariants.{On, Pair}
 use Rattle.papaya_call.specs.Made.{grown, paired as pair_done}
 use Rattle.papaya_call.specs.Compute.{in_place_of, provides}
 use Rattle.papaya_words.specs.declared.refused.Refused.{Refused as Cause}
-use Rattle.papaya_call.specs.Machine.{HasClosure, IsComputer, IsStanding, IsStandingState, IsWriter, after, ask_of, asks, paired}
-use Rattle.papaya_call_law.specs.Says.{HasShownNone, Inserts, MakesPair, StandsOn, said_in, said_to_choose, said_to_fill, show}
+use Rattle.papaya_call.specs.Machine.{HasClosure, IsComputer, IsValid, IsValidState, IsWriter, after, ask_of, asks, paired}
+use Rattle.papaya_call_law.specs.Says.{HasCalledNone, Inserts, MakesPair, ActsOn, result_in, result_to_choose, result_to_fill, show}
 use Rattle.papaya_call.specs.declared.compute.Choice.{Choice}
 use Rattle.papaya_call.specs.declared.compute.Choice.TheVariants.{Replace as To_replace, Remove as To_remove}
 use Rattle.papaya_call_law.specs.Relies.{Relies, ReliesLoaded, ReliesStage}
 use Rattle.papaya_call.specs.declared.compute.Remembered.{Remembered}
-use Rattle.papaya_call_law.specs.Told.{IsOneOf, LoadedPairs}
+use Rattle.papaya_call_law.specs.TrueAnswers.{IsOneOf, LoadedPairs}
 
 module _ {K P : Type 0} (g : Setting K P) (c : Coding K P) (begun since : List (Exchange P)) (k : K) (loaded : LoadedPairs P) where
   -- the pair that a call made
@@ -237,15 +237,15 @@ machine_offers g c begun since k loaded m r e = let at = offering_in m.made m.ha
     (subst (λ s. ReliesStage g c begun since k loaded m.task s) at.1 r.stage).2
 
 offered_shown : (m : Machine) (gap : Gap) (kind : OpKind)
-    → HasShownNone (after (record m { state = Offering gap }) (Op kind)).remembered.fill (after (record m { state = Offering gap }) (Op kind)).state
+    → HasCalledNone (after (record m { state = Offering gap }) (Op kind)).remembered.fill (after (record m { state = Offering gap }) (Op kind)).state
 offered_shown m gap ops.Insert = tt
 offered_shown m gap ops.Remove = tt
 offered_shown m gap (ops.Abort with) = tt
 
 -- and it never shows that again
-pub machine_offered : (m : Machine) (kind : OpKind) → ask_of m ≡ ShowNone → HasShownNone (after m (Op kind)).remembered.fill (after m (Op kind)).state
+pub machine_offered : (m : Machine) (kind : OpKind) → ask_of m ≡ ShowNone → HasCalledNone (after m (Op kind)).remembered.fill (after m (Op kind)).state
 machine_offered m kind e = let at = offering_in m.made m.hash m.state e in
-    subst (λ s. HasShownNone (after (record m { state = s }) (Op kind)).remembered.fill (after (record m { state = s }) (Op kind)).state) (sym at.1)
+    subst (λ s. HasCalledNone (after (record m { state = s }) (Op kind)).remembered.fill (after (record m { state = s }) (Op kind)).state) (sym at.1)
     (offered_shown m at.0 kind)
 
 -- a machine that shows a pair has found it
@@ -270,26 +270,26 @@ showing_in made hash (Leaving u) n e = absurd cc
 showing_in made hash (Growing u) n e = absurd cc
 showing_in made hash (Ended reply) n e = absurd cc
 
-fill_is_made : (fill shown : Option ℕ) → said_to_fill fill ≡ Some (Inserts shown) → ⊥
+fill_is_made : (fill shown : Option ℕ) → result_to_fill fill ≡ Some (Inserts shown) → ⊥
 fill_is_made None shown e = cc e
 fill_is_made (Some n) shown e = cc e
 
-choice_is_made : (choice : Option Choice) (shown : Option ℕ) → said_to_choose choice ≡ Some (Inserts shown) → ⊥
+choice_is_made : (choice : Option Choice) (shown : Option ℕ) → result_to_choose choice ≡ Some (Inserts shown) → ⊥
 choice_is_made None shown e = cc e
 choice_is_made (Some (To_replace old new)) shown e = cc e
 choice_is_made (Some (To_remove old)) shown e = cc e
 
 -- so no value of its closure's waits to be made a pair of
-pub machine_unpaired : (m : Machine) (shown other : Option ℕ) → ask_of m ≡ show other → StandsOn m (Inserts shown) → ⊥
+pub machine_unpaired : (m : Machine) (shown other : Option ℕ) → ask_of m ≡ show other → ActsOn m (Inserts shown) → ⊥
 machine_unpaired m shown other e (inr (inl h)) = fill_is_made m.remembered.fill shown h
 machine_unpaired m shown other e (inr (inr h)) = choice_is_made m.remembered.choice shown h
 machine_unpaired m shown None e (inl h) = let at = offering_in m.made m.hash m.state e in
-    let none : None ≡ Some (Inserts shown) = ap (said_in m.task) (sym at.1) ∙ h in cc none
+    let none : None ≡ Some (Inserts shown) = ap (result_in m.task) (sym at.1) ∙ h in cc none
 machine_unpaired m shown (Some n) e (inl h) = let at = showing_in m.made m.hash m.state n e in
-    let none : None ≡ Some (Inserts shown) = ap (said_in m.task) (sym at.1) ∙ h in cc none
+    let none : None ≡ Some (Inserts shown) = ap (result_in m.task) (sym at.1) ∙ h in cc none
 
 -- a compute that makes a pair makes it of its closure's value
-pairing_in : (made : Made) (hash : ℕ) (s : Stage) → IsStandingState Compute s → MakesPair (asks made hash s) → (purpose : Purpose) × (s ≡ Pairing purpose)
+pairing_in : (made : Made) (hash : ℕ) (s : Stage) → IsValidState Compute s → MakesPair (asks made hash s) → (purpose : Purpose) × (s ≡ Pairing purpose)
 pairing_in made hash AtRoot stands e = absurd e
 pairing_in made hash Making stands e = absurd e
 pairing_in made hash (Opening u) stands e = absurd e
@@ -311,21 +311,21 @@ pairing_in made hash (Growing u) stands e = absurd e
 pairing_in made hash (Ended reply) stands e = absurd e
 
 refused_unpaired : (m : Machine) (purpose : Purpose) (cause : Cause) (shown : Option ℕ) → m.task ≡ Compute
-    → StandsOn (after (record m { state = Pairing purpose }) (Was_refused cause)) (Inserts shown) → ⊥
-refused_unpaired m purpose cause shown task (inl h) = let none : None ≡ Some (Inserts shown) = ap (λ t. said_in t (Ended (Reply_refused cause)))
+    → ActsOn (after (record m { state = Pairing purpose }) (Was_refused cause)) (Inserts shown) → ⊥
+refused_unpaired m purpose cause shown task (inl h) = let none : None ≡ Some (Inserts shown) = ap (λ t. result_in t (Ended (Reply_refused cause)))
     (sym task) ∙ h in cc none
 refused_unpaired m purpose cause shown task (inr (inl h)) = fill_is_made m.remembered.fill shown h
 refused_unpaired m purpose cause shown task (inr (inr h)) = choice_is_made m.remembered.choice shown h
 
 -- where that was refused, no value waits any more
-pub machine_refused_pair : (m : Machine) (cause : Cause) (shown : Option ℕ) → m.task ≡ Compute → IsStanding m → MakesPair (ask_of m)
-    → StandsOn (after m (Was_refused cause)) (Inserts shown) → ⊥
-machine_refused_pair m cause shown task standing e h =
-    let at = pairing_in m.made m.hash m.state (subst (λ t. IsStandingState t m.state) task standing.state) e in
-    refused_unpaired m at.0 cause shown task (subst (λ s. StandsOn (after (record m { state = s }) (Was_refused cause)) (Inserts shown)) at.1 h)
+pub machine_refused_pair : (m : Machine) (cause : Cause) (shown : Option ℕ) → m.task ≡ Compute → IsValid m → MakesPair (ask_of m)
+    → ActsOn (after m (Was_refused cause)) (Inserts shown) → ⊥
+machine_refused_pair m cause shown task valid e h =
+    let at = pairing_in m.made m.hash m.state (subst (λ t. IsValidState t m.state) task valid.state) e in
+    refused_unpaired m at.0 cause shown task (subst (λ s. ActsOn (after (record m { state = s }) (Was_refused cause)) (Inserts shown)) at.1 h)
 
 -- nothing waits where a pair goes to its place
-provided_waits : (task : Task) (purpose : Purpose) (n : ℕ) (shown : Option ℕ) → said_in task (provides purpose n) ≡ Some (Inserts shown) → ⊥
+provided_waits : (task : Task) (purpose : Purpose) (n : ℕ) (shown : Option ℕ) → result_in task (provides purpose n) ≡ Some (Inserts shown) → ⊥
 provided_waits task (Fill NoRoot) n shown e = cc e
 provided_waits task (Fill (At place)) n shown e = cc e
 provided_waits task (Fill (After t)) n shown e = cc e
@@ -333,12 +333,12 @@ provided_waits task (Replace write) n shown e = cc e
 provided_waits task (Again write) n shown e = cc e
 
 paired_waits : (task : Task) (purpose : Purpose) (n : ℕ) (shown : Option ℕ) (done : Made) (G : Grown) → G ≡ Pair done
-    → said_in task (paired G purpose n) ≡ Some (Inserts shown) → ⊥
+    → result_in task (paired G purpose n) ≡ Some (Inserts shown) → ⊥
 paired_waits task purpose n shown done (On made) is e = cc is
 paired_waits task purpose n shown done (Pair made) is e = provided_waits task purpose n shown e
 
 pair_waits_in : (m : Machine) (made : Made) (s : Stage) (n : ℕ) (shown : Option ℕ) → MakesPair (asks made m.hash s)
-    → said_in m.task (after (record m { made = made; state = s }) (Made_number n)).state ≡ Some (Inserts shown) → ⊥
+    → result_in m.task (after (record m { made = made; state = s }) (Made_number n)).state ≡ Some (Inserts shown) → ⊥
 pair_waits_in m made AtRoot n shown makes e = makes
 pair_waits_in m made Making n shown makes e = makes
 pair_waits_in m made (Opening u) n shown makes e = makes
@@ -361,7 +361,7 @@ pair_waits_in m made (Growing u) n shown makes e = makes
 pair_waits_in m made (Ended reply) n shown makes e = makes
 
 -- once a pair was made no value waits
-pub machine_made_waits : (m : Machine) (n : ℕ) (shown : Option ℕ) → MakesPair (ask_of m) → StandsOn (after m (Made_number n)) (Inserts shown) → ⊥
+pub machine_made_waits : (m : Machine) (n : ℕ) (shown : Option ℕ) → MakesPair (ask_of m) → ActsOn (after m (Made_number n)) (Inserts shown) → ⊥
 machine_made_waits m n shown makes (inl h) = pair_waits_in m m.made m.state n shown makes h
 machine_made_waits m n shown makes (inr (inl h)) = fill_is_made (after m (Made_number n)).remembered.fill shown h
 machine_made_waits m n shown makes (inr (inr h)) = choice_is_made (after m (Made_number n)).remembered.choice shown h

@@ -17,7 +17,7 @@ use Rattle.papaya_call.specs.Machine.{asks, ask_of}
 use Rattle.papaya_words_law.specs.Exchange.{Setting, Exchange}
 use Rattle.papaya_words_law.specs.Code.{Coding}
 use Rattle.papaya_words_law.specs.Hints.{IsHint}
-use Rattle.papaya_call_law.specs.Told.{LoadedPairs}
+use Rattle.papaya_call_law.specs.TrueAnswers.{LoadedPairs}
 use Rattle.papaya_call_law.specs.Relies.{now, Relies, ReliesStage}
 
 module _ {K P : Type 0} (g : Setting K P) (c : Coding K P) (begun since : List (Exchange P)) (k : K) where

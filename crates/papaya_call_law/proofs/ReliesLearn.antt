@@ -50,7 +50,7 @@ use Rattle.papaya_call.specs.Machine.{numbered, paired as paired_state, paired_h
 use Rattle.papaya_call.specs.Machine.{served_kind, write_lost, write_made, write_taken, write_told}
 use Rattle.papaya_call.specs.Machine.{written}
 use Rattle.papaya_call.specs.Search.{first_place, hinted, look as look_seen, at_yes}
-use Rattle.papaya_call_law.specs.Told.{IsAsked, IsOfLast, IsSaying, IsTold, IsUnmade, LoadedPairs}
+use Rattle.papaya_call_law.specs.TrueAnswers.{IsAsked, IsOfLast, IsClosureAnswer, IsTrueOf, IsUnmade, LoadedPairs}
 use Rattle.papaya_words_law.specs.Code.{IsHashed}
 use Rattle.papaya_call.specs.Write.{made_to_write, served_ask, serves, with_pair_at, write_grown, write_kind}
 use Rattle.papaya_call.specs.Remove.{grave_word}
@@ -246,7 +246,7 @@ module _ {K P : Type 0} (g : Setting K P) (c : Coding K P) (hashed : IsHashed g 
         h
 
     -- a closure answered, or there was none
-    said : (made : Made) (stage : Stage) (answer : Answer) (es : List (Exchange P)) (loaded' : LoadedPairs P) → IsSaying g c k answer → es ≡ []
+    said : (made : Made) (stage : Stage) (answer : Answer) (es : List (Exchange P)) (loaded' : LoadedPairs P) → IsClosureAnswer g c k answer → es ≡ []
         → loaded' ≡ loaded
         → ((agrees : Bool) → Relies g c begun since k (after (in_stage made stage) (Yes agrees)) loaded)
         → ((kind : OpKind) → Relies g c begun since k (after (in_stage made stage) (Op kind)) loaded)
@@ -276,7 +276,7 @@ module _ {K P : Type 0} (g : Setting K P) (c : Coding K P) (hashed : IsHashed g 
     -- a slot's word was exchanged, or another one was found there
     slot_exchanged : (made : Made) → Own loaded made → (stage : Stage) (kind : Option StepKind) (at : Place) (old new : ℕ) → IsAt g c begun since k at
         → (answer : Answer) (es : List (Exchange P)) (loaded' : LoadedPairs P)
-        → IsTold g c k now kind loaded (Ask_exchange (Slot at.table at.probe.i) old new) answer es loaded'
+        → IsTrueOf g c k now kind loaded (Ask_exchange (Slot at.table at.probe.i) old new) answer es loaded'
         → (word_at at ≡ old → IsSlotAsked g c hashed begun since may k kind at new loaded es → AllAllowed g start (begun ++ (since ++ es))
         × Relies g c begun (since ++ es) k (after (in_stage made stage) Exchanged) loaded)
         → (ReliesStage g c begun since k (told_at at loaded) m.task (goes_as m.task m.mode m.remembered (look_seen at (word_at at)))
@@ -364,7 +364,7 @@ module _ {K P : Type 0} (g : Setting K P) (c : Coding K P) (hashed : IsHashed g 
 
         -- for the call's own key
         own_learns : made.number ≡ Taken → (old == 0) ≡ true → (keyed valued : Bool) → made.keyed ≡ keyed → made.valued ≡ valued
-            → IsTold g c k now (number_kind made.number) loaded (own_ask keyed valued) answer es loaded' → Learned (in_stage made stage) answer es loaded'
+            → IsTrueOf g c k now (number_kind made.number) loaded (own_ask keyed valued) answer es loaded' → Learned (in_stage made stage) answer es loaded'
         own_learns t b false valued ke va h = logs (record made { keyed = true }) (grown_is made old true false valued t b ke va)
             (loaded_keyed g c begun since k loaded made m.remembered own) h
         own_learns t b true false ke va h = logs (record made { valued = true }) (grown_is made old true true false t b ke va)
@@ -374,21 +374,21 @@ module _ {K P : Type 0} (g : Setting K P) (c : Coding K P) (hashed : IsHashed g 
 
         -- for the key of a pair that was met
         of_learns : made.number ≡ Taken → (old == 0) ≡ false → (valued : Bool) → made.valued ≡ valued
-            → IsTold g c k now (number_kind made.number) loaded (of_ask valued old) answer es loaded' → Learned (in_stage made stage) answer es loaded'
+            → IsTrueOf g c k now (number_kind made.number) loaded (of_ask valued old) answer es loaded' → Learned (in_stage made stage) answer es loaded'
         of_learns t b false va h = logs (record made { valued = true }) (grown_is made old false made.keyed false t b refl va)
             (loaded_valued g c begun since k loaded made m.remembered own) h
         of_learns t b true va h = pairs (grown_is made old false made.keyed true t b refl va) (λ q. IsOfLast g c k loaded (pair_of old) q)
             (λ q last. subst (λ y. MatchBool y (g.key q ≡ k) (IsOfLast g c k loaded (pair_of old) q)) (sym b) last) h
 
         make_learns : made.number ≡ Taken → (b : Bool) → (old == 0) ≡ b
-            → IsTold g c k now (number_kind made.number) loaded (cond b (own_ask made.keyed made.valued) (of_ask made.valued old)) answer es loaded'
+            → IsTrueOf g c k now (number_kind made.number) loaded (cond b (own_ask made.keyed made.valued) (of_ask made.valued old)) answer es loaded'
             → Learned (in_stage made stage) answer es loaded'
         make_learns t true b h = own_learns t b made.keyed made.valued refl refl h
         make_learns t false b h = of_learns t b made.valued refl h
 
         -- the number is taken first
         number_learns : (number : Number) → made.number ≡ number → ReliesNumber g c begun since k number
-            → IsTold g c k now (number_kind number) loaded (number_ask number made old) answer es loaded' → Learned (in_stage made stage) answer es loaded'
+            → IsTrueOf g c k now (number_kind number) loaded (number_ask number made old) answer es loaded' → Learned (in_stage made stage) answer es loaded'
         number_learns Wanted t f h = quiet (in_stage made stage) answer (Word_read now.made) es loaded' loaded h.0 h.1 h.2 (as_loaded now.made)
         number_learns (Free count) t f h =
             by_test (now.made == count)
@@ -401,16 +401,16 @@ module _ {K P : Type 0} (g : Setting K P) (c : Coding K P) (hashed : IsHashed g 
             f) (after (in_stage made stage) Exchanged) took))
             (λ other h'. quiet (in_stage made stage) answer (Found_instead now.made) es loaded' loaded h'.0 h'.1 h'.2 (found now.made))
         number_learns Taken t f h = make_learns t (old == 0) refl
-            (subst (λ n. IsTold g c k now (number_kind n) loaded (cond (old == 0) (own_ask made.keyed made.valued) (of_ask made.valued old)) answer es
+            (subst (λ n. IsTrueOf g c k now (number_kind n) loaded (cond (old == 0) (own_ask made.keyed made.valued) (of_ask made.valued old)) answer es
             loaded') (sym t) h)
 
-        pair_learns : IsTold g c k now (number_kind made.number) loaded (pair_ask made old) answer es loaded' → Learned (in_stage made stage) answer es loaded'
+        pair_learns : IsTrueOf g c k now (number_kind made.number) loaded (pair_ask made old) answer es loaded' → Learned (in_stage made stage) answer es loaded'
         pair_learns h = number_learns made.number refl own.number_is h
 
     -- a compute makes a pair of what its closure answered
     pairing_learns : (made : Made) → Own loaded made → (purpose : Purpose) → ReliesStage g c begun since k loaded m.task (Pairing purpose)
         → (answer : Answer) (es : List (Exchange P)) (loaded' : LoadedPairs P)
-        → IsTold g c k now (number_kind made.number) loaded (pair_ask made (in_place_of purpose)) answer es loaded'
+        → IsTrueOf g c k now (number_kind made.number) loaded (pair_ask made (in_place_of purpose)) answer es loaded'
         → Learned (in_stage made (Pairing purpose)) answer es loaded'
     pairing_learns made own purpose r answer es loaded' h =
         pair_learns made own (Pairing purpose) r (computer m.task r.0) (in_place_of purpose) answer es loaded'
@@ -437,7 +437,7 @@ module _ {K P : Type 0} (g : Setting K P) (c : Coding K P) (hashed : IsHashed g 
     -- an insertion makes its pair and writes it
     write_learns : (made : Made) → Own loaded made → (write : Write) → ReliesWriting g c begun since k loaded m.task write → (served : Option ℕ)
         → serves made write ≡ served → (answer : Answer) (es : List (Exchange P)) (loaded' : LoadedPairs P)
-        → IsTold g c k now (kind_asked made (Writing write)) loaded (asks made m.hash (Writing write)) answer es loaded'
+        → IsTrueOf g c k now (kind_asked made (Writing write)) loaded (asks made m.hash (Writing write)) answer es loaded'
         → Learned (in_stage made (Writing write)) answer es loaded'
     write_learns made own write r None is answer es loaded' h =
         let inserts : MayInsert m.task = writer loaded m.task write r in
@@ -463,11 +463,11 @@ module _ {K P : Type 0} (g : Setting K P) (c : Coding K P) (hashed : IsHashed g 
         (relies told_loaded (with_pair_at (paired made) write n)
         (writing_paired g c hashed begun since k loaded q (paired made) m.remembered (paired_relies g c begun since k loaded made m.remembered own)
         m.task write r new) (Writing write) (writing_more g c hashed begun since k loaded q m.task write r))))
-        (subst (λ o. IsTold g c k now (served_kind o made write) loaded (served_ask o write made) answer es loaded') is h)
+        (subst (λ o. IsTrueOf g c k now (served_kind o made write) loaded (served_ask o write made) answer es loaded') is h)
     write_learns made own write r (Some i) is answer es loaded' h =
         slot_exchanged made own (Writing write) (Some (write_kind write)) write.place write.old (live_word i) (write_stands loaded m.task write r)
         answer es loaded'
-        (subst (λ o. IsTold g c k now (served_kind o made write) loaded (served_ask o write made) answer es loaded') is h)
+        (subst (λ o. IsTrueOf g c k now (served_kind o made write) loaded (served_ask o write made) answer es loaded') is h)
         (λ there asked.
         let done = writes g c hashed begun since may k loaded i (live_word i) m.task write
         (served_pair g c begun since k loaded made m.remembered own write i is) r there es asked in (
@@ -486,7 +486,7 @@ module _ {K P : Type 0} (g : Setting K P) (c : Coding K P) (hashed : IsHashed g 
     -- in each stage
     learns_in : (made : Made) → Own loaded made → (stage : Stage) → ReliesStage g c begun since k loaded m.task stage
         → (answer : Answer) (es : List (Exchange P)) (loaded' : LoadedPairs P)
-        → IsTold g c k now (kind_asked made stage) loaded (asks made m.hash stage) answer es loaded' → Learned (in_stage made stage) answer es loaded'
+        → IsTrueOf g c k now (kind_asked made stage) loaded (asks made m.hash stage) answer es loaded' → Learned (in_stage made stage) answer es loaded'
     learns_in made n AtRoot r answer es loaded' h =
         quiet (in_stage made AtRoot) answer (Word_read now.root) es loaded' loaded h.0 h.1 h.2
         (relies loaded made n (at_root m.task m.remembered.fill now.root) (root_relies loaded m.remembered.fill n.fill_is m.task))
@@ -581,6 +581,6 @@ module _ {K P : Type 0} (g : Setting K P) (c : Coding K P) (hashed : IsHashed g 
 
   -- of the machine
   pub machine_learns : (m : Machine) (loaded : LoadedPairs P) → Relies g c begun since k m loaded
-      → (answer : Answer) (es : List (Exchange P)) (loaded' : LoadedPairs P) → IsTold g c k now (kind_of_ask m) loaded (ask_of m) answer es loaded'
+      → (answer : Answer) (es : List (Exchange P)) (loaded' : LoadedPairs P) → IsTrueOf g c k now (kind_of_ask m) loaded (ask_of m) answer es loaded'
       → Learned m answer es loaded'
   machine_learns m loaded r answer es loaded' h = learns_in m r.hash r.mode loaded m.made r.made m.state r.stage answer es loaded' h

@@ -24,7 +24,7 @@ use Rattle.papaya_words_law.specs.Code.{Coding, IsHashed}
 use Rattle.papaya_words.specs.Word.{pair_of}
 use Rattle.papaya_call.specs.Compute.{chosen, fills, in_place_of, lacks, offered, provides, recalled, recalls, with_choice, with_pair}
 use Rattle.papaya_call.specs.Machine.{HasClosure, IsComputer, decided, decided_held}
-use Rattle.papaya_call_law.specs.Told.{IsOfLast, LoadedPairs}
+use Rattle.papaya_call_law.specs.TrueAnswers.{IsOfLast, LoadedPairs}
 use Rattle.papaya_call_law.specs.Relies.{IsOwnPair, IsPairAt, IsPairFor, MayRemove, MayWrite}
 use Rattle.papaya_call_law.specs.Relies.{ReliesChoice, ReliesFill, ReliesGap, ReliesLoaded}
 use Rattle.papaya_call_law.specs.Relies.{ReliesOf, ReliesPurpose, ReliesStage, WasAtMoment}

@@ -16,7 +16,7 @@ use Rattle.papaya_words_law.specs.View.{Foreign, Here, Leaving, Gone, own, held,
 use Rattle.papaya_words_law.specs.Allows.{AllAllowed}
 use Rattle.papaya_words_law.specs.Code.{Coding, code}
 use Rattle.papaya_call.specs.Machine.{goes_as, computes, found, occupies, removes, replaces}
-use Rattle.papaya_call_law.specs.Told.{LoadedPairs}
+use Rattle.papaya_call_law.specs.TrueAnswers.{LoadedPairs}
 use Rattle.papaya_words_law.specs.Code.{IsHashed}
 use Rattle.papaya_call_law.specs.Relies.{HadPair, HasMet, IsAt, IsMovingFrom, IsModeOf, MayRemove, ReliesChoice, ReliesFill, ReliesStage, WasAtMoment}
 use Rattle.papaya_words_law.proofs.Codes.{code_kind, code_pair}

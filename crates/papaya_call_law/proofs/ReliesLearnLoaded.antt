@@ -12,7 +12,7 @@ use Rattle.papaya_call.specs.Made.{answered}
 use Rattle.papaya_words_law.specs.Exchange.{Setting, Exchange}
 use Rattle.papaya_words_law.specs.Code.{Coding}
 use Rattle.papaya_words_law.specs.Later.{IsOfKey}
-use Rattle.papaya_call_law.specs.Told.{IsOneOf, LoadedPairs}
+use Rattle.papaya_call_law.specs.TrueAnswers.{IsOneOf, LoadedPairs}
 use Rattle.papaya_call_law.specs.Relies.{now, IsOwnPair, IsPairAt, ReliesChoice, ReliesFill, ReliesLoaded, ReliesNumber, ReliesOf}
 
 module _ {K P : Type 0} (g : Setting K P) (c : Coding K P) (begun since : List (Exchange P)) (k : K) where

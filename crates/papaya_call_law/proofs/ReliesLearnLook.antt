@@ -14,7 +14,7 @@ use Rattle.papaya_words_law.specs.Code.{Coding, code, kind}
 use Rattle.papaya_words_law.specs.Invariant.{named}
 use Rattle.papaya_words_law.specs.Later.{Becomes}
 use Rattle.papaya_call.specs.Search.{go_on, hinted, look_at, look as look_seen, match_at, at_yes}
-use Rattle.papaya_call_law.specs.Told.{LoadedPairs, or_last}
+use Rattle.papaya_call_law.specs.TrueAnswers.{LoadedPairs, or_last}
 use Rattle.papaya_words_law.specs.Code.{IsHashed}
 use Rattle.papaya_call_law.specs.Relies.{HasMet, IsAt}
 use Rattle.papaya_words_law.proofs.Codes.{code_kind}

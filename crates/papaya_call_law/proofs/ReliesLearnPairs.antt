@@ -20,7 +20,7 @@ use Rattle.papaya_words_law.specs.Code.{Coding, IsHashed}
 use Rattle.papaya_words_law.specs.Later.{IsOfKey}
 use Rattle.papaya_words_law.proofs.Codes.{code_pair}
 use Rattle.papaya_words_law.proofs.Kept.{becomes_keeps}
-use Rattle.papaya_call_law.specs.Told.{IsOfLast, LoadedPairs}
+use Rattle.papaya_call_law.specs.TrueAnswers.{IsOfLast, LoadedPairs}
 use Rattle.papaya_call_law.specs.Relies.{IsPairAt, MayRemove, MayWrite, ReliesLoaded, ReliesNumber, ReliesWriting}
 use Rattle.papaya_call_law.proofs.ReliesLearnLoaded.{at_newest, loaded_more, loaded_number, loaded_of, loaded_own, own_newest}
 

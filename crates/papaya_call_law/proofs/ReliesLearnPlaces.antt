@@ -12,7 +12,7 @@ use Rattle.papaya_words_law.specs.Exchange.{Word, Empty, Live, Marked, Setting, 
 use Rattle.papaya_words_law.specs.View.{look, beyond, view, IsPassed}
 use Rattle.papaya_words_law.specs.Code.{Coding}
 use Rattle.papaya_call.specs.Search.{first_place, next_place, go_on}
-use Rattle.papaya_call_law.specs.Told.{LoadedPairs}
+use Rattle.papaya_call_law.specs.TrueAnswers.{LoadedPairs}
 use Rattle.papaya_words_law.specs.Code.{IsHashed}
 use Rattle.papaya_call_law.specs.Relies.{HasComeTo, HasMet, IsAt, ReliesSearch}
 

@@ -19,7 +19,7 @@ use Rattle.papaya_words_law.specs.Invariant.{named}
 use Rattle.papaya_words_law.specs.Later.{Becomes}
 use Rattle.papaya_call.specs.Machine.{HasClosure, agreed, beaten_as, beaten_by, goes, judged}
 use Rattle.papaya_call.specs.Search.{look as look_seen}
-use Rattle.papaya_call_law.specs.Told.{LoadedPairs}
+use Rattle.papaya_call_law.specs.TrueAnswers.{LoadedPairs}
 use Rattle.papaya_words_law.specs.Code.{IsHashed}
 use Rattle.papaya_call_law.specs.Relies.{MayRemove, ReliesStage, WasAtMoment}
 use Rattle.papaya_words_law.proofs.CodeViews.{word_of_kind}

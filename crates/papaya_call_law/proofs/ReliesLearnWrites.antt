@@ -17,7 +17,7 @@ use Rattle.papaya_words_law.specs.Exchange.{Live, Setting, State, Exchange, Open
 use Rattle.papaya_words_law.specs.Allows.{AllAllowed, Allows}
 use Rattle.papaya_words_law.specs.Code.{Coding, code}
 use Rattle.papaya_call.specs.Machine.{IsComputer, written}
-use Rattle.papaya_call_law.specs.Told.{IsAsked, LoadedPairs}
+use Rattle.papaya_call_law.specs.TrueAnswers.{IsAsked, LoadedPairs}
 use Rattle.papaya_words_law.specs.Code.{IsHashed}
 use Rattle.papaya_call_law.specs.Relies.{HasClaimed, HasComeTo, IsOwnPair, IsPairAt, IsPairFor, MayWrite, ReliesStage, ReliesWriting}
 use Rattle.papaya_call.specs.Write.{claimed_by, write_kind}

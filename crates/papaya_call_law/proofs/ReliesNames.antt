@@ -23,7 +23,7 @@ use Rattle.papaya_words_law.specs.Class.{IsOn}
 use Rattle.papaya_words_law.specs.Allows.{AllAllowed}
 use Rattle.papaya_words_law.specs.Code.{Coding}
 use Rattle.papaya_call.specs.Machine.{asks}
-use Rattle.papaya_call_law.specs.Told.{LoadedPairs}
+use Rattle.papaya_call_law.specs.TrueAnswers.{LoadedPairs}
 use Rattle.papaya_words_law.specs.Code.{IsHashed}
 use Rattle.papaya_call_law.specs.Relies.{now, HasComeTo, IsAt, ReliesNeed, ReliesWriting, ReliesLeaving, ReliesStage}
 use Rattle.papaya_words_law.proofs.Chain.{walk_on}

@@ -24,7 +24,7 @@ use Rattle.papaya_words_law.specs.Invariant.{IsKeeping}
 use Rattle.papaya_words_law.specs.Meaning.{IsLawful, map_left}
 use Rattle.papaya_call.specs.Machine.{after, ask_of}
 use Rattle.papaya_call_law.specs.Relies.{IsMovingFrom, Relies, ReliesStage}
-use Rattle.papaya_call_law.specs.Told.{LoadedPairs}
+use Rattle.papaya_call_law.specs.TrueAnswers.{LoadedPairs}
 use Rattle.papaya_words_law.proofs.OneMap.{keeping}
 use Rattle.papaya_words_law.proofs.Onward.{leaving_further, gone_further}
 use Rattle.papaya_call_law.proofs.ReliesReplyRefused.{IsMaking, IsOver, machine_reason}

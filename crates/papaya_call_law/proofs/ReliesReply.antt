@@ -37,7 +37,7 @@ use Rattle.papaya_call.specs.Made.{number_ask, number_kind, of_ask, own_ask}
 use Rattle.papaya_call.specs.Compute.{in_place_of, offered}
 use Rattle.papaya_call.specs.Machine.{after, ask_of, asks, decided, goes_as, judged, kind_asked, kind_of_ask, served_kind}
 use Rattle.papaya_call.specs.Search.{hinted, look as look_seen, at_yes as search_compared}
-use Rattle.papaya_call_law.specs.Told.{IsAsked, IsSaying, IsTold, IsUnmade, LoadedPairs, told_of}
+use Rattle.papaya_call_law.specs.TrueAnswers.{IsAsked, IsClosureAnswer, IsTrueOf, IsUnmade, LoadedPairs, told_of}
 use Rattle.papaya_words_law.specs.Code.{IsHashed}
 use Rattle.papaya_call.specs.Remove.{grave_word}
 use Rattle.papaya_call_law.specs.Relies.{IsReply, Relies, ReliesStage, change_in, change_after, change_of_kind, change_of_reply}
@@ -112,7 +112,7 @@ module _ {K P : Type 0} (g : Setting K P) (c : Coding K P) (hashed : IsHashed g 
       (asks made m.hash stage) answer (change_in stage)
 
   -- nothing changes by what a closure answers
-  said_changes : (made : Made) (stage : Stage) (answer : Answer) → IsSaying g c k answer → ((agrees : Bool) → Changes made stage (Yes agrees))
+  said_changes : (made : Made) (stage : Stage) (answer : Answer) → IsClosureAnswer g c k answer → ((agrees : Bool) → Changes made stage (Yes agrees))
       → ((kind : OpKind) → Changes made stage (Op kind)) → Changes made stage Ok_done → Changes made stage answer
   said_changes made stage answer (inl (agrees, e)) agreed op ok = subst (Changes made stage) (sym e) (agreed agrees)
   said_changes made stage answer (inr (inl (kind, e))) agreed op ok = subst (Changes made stage) (sym e) (op kind)
@@ -156,7 +156,7 @@ module _ {K P : Type 0} (g : Setting K P) (c : Coding K P) (hashed : IsHashed g 
 
   -- a write changes the map by its exchange alone
   write_changes : (made : Made) (write : Write) (served : Option ℕ) (answer : Answer)
-      → IsTold g c k s (served_kind served made write) loaded (served_ask served write made) answer es loaded'
+      → IsTrueOf g c k s (served_kind served made write) loaded (served_ask served write made) answer es loaded'
       → change_in (write_then m served made write answer) ≡ change_after (served_kind served made write) (served_ask served write made) answer None
   write_changes made write None answer h = unserved_leads m IsUnchanged (λ refused. refl) made write refl answer
       ∙ sym (number_changes made.number made write.old answer)
@@ -176,7 +176,7 @@ module _ {K P : Type 0} (g : Setting K P) (c : Coding K P) (hashed : IsHashed g 
 
   -- in each stage
   changes_in : (made : Made) (stage : Stage) (answer : Answer)
-      → IsTold g c k s (kind_asked made stage) loaded (asks made m.hash stage) answer es loaded' → Changes made stage answer
+      → IsTrueOf g c k s (kind_asked made stage) loaded (asks made m.hash stage) answer es loaded' → Changes made stage answer
   changes_in made AtRoot answer h = subst (Changes made AtRoot) (sym h.0) (root_leads IsUnchanged leads_unchanged m.task m.remembered.fill s.root)
   changes_in made Making answer h = ⊎_elim (λ u. unmade_changes made Making answer u (λ refused. refl) refl)
       (λ t. subst (Changes made Making) (sym t.2) refl) h.0
@@ -234,7 +234,7 @@ module _ {K P : Type 0} (g : Setting K P) (c : Coding K P) (hashed : IsHashed g 
   changes_in made (Ended reply) answer h = subst (Changes made (Ended reply)) (sym h.0) refl
 
   -- of the machine
-  pub machine_changes : (answer : Answer) → IsTold g c k s (kind_of_ask m) loaded (ask_of m) answer es loaded'
+  pub machine_changes : (answer : Answer) → IsTrueOf g c k s (kind_of_ask m) loaded (ask_of m) answer es loaded'
       → change_in (after m answer).state ≡ change_after (kind_of_ask m) (ask_of m) answer (change_in m.state)
   machine_changes answer h = changes_in m.made m.state answer h
 

@@ -11,7 +11,7 @@ use Rattle.papaya_call.specs.Made.{serves_at}
 use Rattle.papaya_call.specs.Write.{served_of, serves}
 use Rattle.papaya_words_law.specs.Exchange.{Setting, Exchange}
 use Rattle.papaya_words_law.specs.Code.{Coding}
-use Rattle.papaya_call_law.specs.Told.{LoadedPairs}
+use Rattle.papaya_call_law.specs.TrueAnswers.{LoadedPairs}
 use Rattle.papaya_call_law.specs.Relies.{IsMadePair, IsOwnPair, IsPairAt, IsPairFor, ReliesFill, ReliesLoaded, ReliesOf}
 
 module _ {K P : Type 0} (g : Setting K P) (c : Coding K P) (begun since : List (Exchange P)) (k : K) (loaded : LoadedPairs P) where

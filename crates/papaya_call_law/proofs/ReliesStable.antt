@@ -9,7 +9,7 @@ use Rattle.papaya_words_law.specs.View.{look}
 use Rattle.papaya_words_law.specs.Allows.{AllAllowed}
 use Rattle.papaya_words_law.specs.Later.{IsLater, IsLasting}
 use Rattle.papaya_words_law.specs.Code.{Coding}
-use Rattle.papaya_call_law.specs.Told.{LoadedPairs}
+use Rattle.papaya_call_law.specs.TrueAnswers.{LoadedPairs}
 use Rattle.papaya_words_law.specs.Code.{IsHashed}
 use Rattle.papaya_call_law.specs.Relies.{now, HasComeTo, IsAt, HasMet, WasAtMoment, IsMovingFrom, ReliesNeed, ReliesLeaving, Relies, HasClaimed}
 use Rattle.papaya_words_law.proofs.Later.{Sees, becomes_through, sees_later}

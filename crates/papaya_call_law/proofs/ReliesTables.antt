@@ -14,7 +14,7 @@ use Rattle.papaya_words_law.specs.Invariant.{IsSound}
 use Rattle.papaya_words_law.specs.Code.{Coding, code}
 use Rattle.papaya_words_law.specs.Later.{IsOfKey}
 use Rattle.papaya_words_law.specs.Grows.{Agrees}
-use Rattle.papaya_call_law.specs.Told.{LoadedPairs}
+use Rattle.papaya_call_law.specs.TrueAnswers.{LoadedPairs}
 use Rattle.papaya_words_law.specs.Code.{IsHashed}
 use Rattle.papaya_call_law.specs.Relies.{now, HasComeTo, IsAt, HasMet, WasAtMoment, IsMovingFrom, ReliesNeed, ReliesLeaving, Relies, HasClaimed}
 use Rattle.papaya_words_law.proofs.Carries.{look_agrees, view_agrees, passed_carries}

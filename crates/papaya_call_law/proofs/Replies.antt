@@ -15,7 +15,7 @@ use Rattle.papaya_call.specs.declared.machine.State.TheVariants.{AtRoot, Making,
 use Rattle.papaya_call.specs.declared.compute.Gap.TheVariants.{NoRoot}
 use Rattle.papaya_call.specs.declared.compute.Remembered.{Remembered}
 use Rattle.papaya_call.specs.declared.made.Made.{Made}
-use Rattle.papaya_call.specs.Machine.{IsStanding, asks, at_root, needed}
+use Rattle.papaya_call.specs.Machine.{IsValid, asks, at_root, needed}
 use Rattle.papaya_call.specs.Machine as call_machine
 use Rattle.papaya_call.specs.declared.chain.ask.Ask.TheVariants as asked
 use Rattle.papaya_call.specs.declared.chain.ask.Answer.{Answer}
@@ -28,8 +28,8 @@ use Rattle.papaya_words_law.specs.Code.{Coding, IsHashed}
 use Rattle.papaya_words_law.specs.Exchange.{Setting, State, Exchange}
 use Rattle.papaya_call_law.specs.Owed.{grows_by, owed_by}
 use Rattle.papaya_call_law.specs.Relies.{change_after, change_in}
-use Rattle.papaya_call_law.specs.Says.{IsSaidBy, Said, ShowsIn, ShowsPairs, StandsOn, said_in, said_to_choose, said_to_fill}
-use Rattle.papaya_call_law.specs.Told as call_told
+use Rattle.papaya_call_law.specs.Says.{IsResultBy, ClosureResult, NamesPairIn, NamesPairs, ActsOn, result_in, result_to_choose, result_to_fill}
+use Rattle.papaya_call_law.specs.TrueAnswers as call_told
 use Rattle.papaya_call_law.proofs.ReliesCount.{machine_owes}
 use Rattle.papaya_call_law.proofs.ReliesReply.{machine_changes}
 use Rattle.papaya_call_law.proofs.SaysSaid.{machine_said}
@@ -37,7 +37,7 @@ use Rattle.papaya_call_law.proofs.SaysWords.{machine_shows}
 use Rattle.papaya_call_law.proofs.Tasks.{same_task}
 use Rattle.papaya_call_law.specs.Goes.{IsInOrder, IsOwnStep, change_by, grown_by, owed_in}
 use Rattle.papaya_call_law.specs.ChainRelies.{left_by}
-use Rattle.papaya_call_law.specs.ChainTold.{IsTold, LoadedPairs}
+use Rattle.papaya_call_law.specs.ChainAnswers.{IsTrueOf, LoadedPairs}
 use Rattle.papaya_call_law.proofs.Goes.{machine_goes}
 
 -- a call that is set aside loads the number of a table, and has changed nothing
@@ -52,12 +52,12 @@ aside_unchanged (Growing need) t e = refl
 aside_unchanged stage t e = absurd cc
 
 -- it stands on what it remembers alone
-aside_silent : (task : Task) (stage : Stage) (t : ℕ) → left_by stage ≡ Some t → said_in task stage ≡ None
+aside_silent : (task : Task) (stage : Stage) (t : ℕ) → left_by stage ≡ Some t → result_in task stage ≡ None
 aside_silent task (Leaving u) t e = refl
 aside_silent task (Growing need) t e = refl
 aside_silent task stage t e = absurd cc
 
-refused_silent : (task : Task) (refused : Refused) → said_in task (Ended (Reply_refused refused)) ≡ None
+refused_silent : (task : Task) (refused : Refused) → result_in task (Ended (Reply_refused refused)) ≡ None
 refused_silent Get refused = refl
 refused_silent (Insert replace) refused = refl
 refused_silent RemoveIf refused = refl
@@ -77,7 +77,7 @@ anew Holds absent making offering searching Compute None root = cond_both (root 
 anew Holds absent making offering searching Compute (Some n) root = cond_both (root == 0) Making (Searching (Sizing root)) Holds (λ _. making)
     (λ _. searching root)
 
-absent_silent : (task : Task) → said_in task (Ended Absent) ≡ None
+absent_silent : (task : Task) → result_in task (Ended Absent) ≡ None
 absent_silent Get = refl
 absent_silent (Insert replace) = refl
 absent_silent RemoveIf = refl
@@ -129,14 +129,14 @@ module _ (m : Machine) (answer : Answer) (t : ℕ) (left : left_by m.call.state 
 
 module _ {K P : Type 0} (g : Setting K P) (c : Coding K P) (k : K) (s : State P) (m : Machine) (loaded : LoadedPairs P) (answer : Answer)
     (es : List (Exchange P)) (loaded' : LoadedPairs P) (order : IsInOrder m answer m.phase)
-    (tells : IsTold g c k s (kind_of_ask m) (follows_of m) loaded (ask_of m) answer es loaded') where
+    (tells : IsTrueOf g c k s (kind_of_ask m) (follows_of m) loaded (ask_of m) answer es loaded') where
   -- what the call itself was told
   pub own_told : (own : IsOwnStep m answer) → (call' : call_told.LoadedPairs P)
-      × call_told.IsTold g c k s (call_machine.kind_of_ask m.call) loaded.call (call_machine.ask_of m.call) own.told es call'
+      × call_told.IsTrueOf g c k s (call_machine.kind_of_ask m.call) loaded.call (call_machine.ask_of m.call) own.told es call'
   own_told own =
-      let h = subst (λ phase. IsTold g c k s (kind_in m.call phase) (follows_of m) loaded (asks_in m.call phase) answer es loaded') own.phase tells in
+      let h = subst (λ phase. IsTrueOf g c k s (kind_in m.call phase) (follows_of m) loaded (asks_in m.call phase) answer es loaded') own.phase tells in
       let same : own.told ≡ h.told = cc (own.is, h.is) in
-      (h.call, subst (λ a. call_told.IsTold g c k s (call_machine.kind_of_ask m.call) loaded.call (call_machine.ask_of m.call) a es h.call) (sym same) h.tells)
+      (h.call, subst (λ a. call_told.IsTrueOf g c k s (call_machine.kind_of_ask m.call) loaded.call (call_machine.ask_of m.call) a es h.call) (sym same) h.tells)
 
   -- what the machine asks where its call went a step of its own
   asks_own : (own : IsOwnStep m answer) → (change_by (kind_of_ask m) (ask_of m) answer (change_in m.call.state) ≡ change_after
@@ -196,36 +196,36 @@ module _ (m : Machine) (answer : Answer) (order : IsInOrder m answer m.phase) wh
   ]
 
   -- a call that showed pairs that are there shows such pairs
-  pub chain_shows : ShowsPairs m.call → ShowsPairs (after m answer).call
+  pub chain_shows : NamesPairs m.call → NamesPairs (after m answer).call
   chain_shows shows = elim (machine_goes m answer order) [
-    | inl waits ↦ subst ShowsPairs (sym waits.call) shows
-    | inr (inl own) ↦ subst ShowsPairs (sym own.call) (machine_shows m.call own.told shows)
-    | inr (inr (inl enters)) ↦ subst ShowsPairs (sym enters.call) tt
-    | inr (inr (inr (inl begins))) ↦ subst ShowsPairs (sym begins.call)
-        (anew (ShowsIn m.call.remembered.choice) tt tt tt (λ _. tt) m.call.task m.call.remembered.fill begins.root)
-    | inr (inr (inr (inr ends))) ↦ subst ShowsPairs (sym ends.call) tt
+    | inl waits ↦ subst NamesPairs (sym waits.call) shows
+    | inr (inl own) ↦ subst NamesPairs (sym own.call) (machine_shows m.call own.told shows)
+    | inr (inr (inl enters)) ↦ subst NamesPairs (sym enters.call) tt
+    | inr (inr (inr (inl begins))) ↦ subst NamesPairs (sym begins.call)
+        (anew (NamesPairIn m.call.remembered.choice) tt tt tt (λ _. tt) m.call.task m.call.remembered.fill begins.root)
+    | inr (inr (inr (inr ends))) ↦ subst NamesPairs (sym ends.call) tt
   ]
 
   -- a call that was set aside stands on what it remembers, and says nothing new
-  aside_said : (call : Call_machine) → (after m answer).call ≡ call → said_in call.task call.state ≡ None → call.remembered ≡ m.call.remembered
-      → (said : Said) → StandsOn (after m answer).call said → StandsOn m.call said
-  aside_said call is silent same said stands = remembers (subst (λ d. StandsOn d said) is stands)
+  aside_said : (call : Call_machine) → (after m answer).call ≡ call → result_in call.task call.state ≡ None → call.remembered ≡ m.call.remembered
+      → (said : ClosureResult) → ActsOn (after m answer).call said → ActsOn m.call said
+  aside_said call is silent same said stands = remembers (subst (λ d. ActsOn d said) is stands)
     where
-      remembers : StandsOn call said → StandsOn m.call said
+      remembers : ActsOn call said → ActsOn m.call said
       remembers (inl e) = absurd (cc (silent, e))
-      remembers (inr (inl e)) = inr (inl (ap (λ (h : Remembered). said_to_fill h.fill) (sym same) ∙ e))
-      remembers (inr (inr e)) = inr (inr (ap (λ (h : Remembered). said_to_choose h.choice) (sym same) ∙ e))
+      remembers (inr (inl e)) = inr (inl (ap (λ (h : Remembered). result_to_fill h.fill) (sym same) ∙ e))
+      remembers (inr (inr e)) = inr (inr (ap (λ (h : Remembered). result_to_choose h.choice) (sym same) ∙ e))
 
   -- the call stands on what it stood on, or on what its closure says with this answer
-  pub chain_said : IsStanding m.call → ShowsPairs m.call → (said : Said) → StandsOn (after m answer).call said → StandsOn m.call said
-      ⊎ ((own : IsOwnStep m answer) × IsSaidBy m.call own.told said)
-  chain_said standing shows said stands = elim (machine_goes m answer order) [
-    | inl waits ↦ inl (subst (λ d. StandsOn d said) waits.call stands)
+  pub chain_said : IsValid m.call → NamesPairs m.call → (said : ClosureResult) → ActsOn (after m answer).call said → ActsOn m.call said
+      ⊎ ((own : IsOwnStep m answer) × IsResultBy m.call own.told said)
+  chain_said valid shows said stands = elim (machine_goes m answer order) [
+    | inl waits ↦ inl (subst (λ d. ActsOn d said) waits.call stands)
     | inr (inl own) ↦ ⊎_elim (λ before. inl before) (λ says. inr (own, says))
-        (machine_said m.call own.told said standing shows (subst (λ d. StandsOn d said) own.call stands))
+        (machine_said m.call own.told said valid shows (subst (λ d. ActsOn d said) own.call stands))
     | inr (inr (inl enters)) ↦ inl (aside_said (record m.call { state = Searching (Sizing enters.table) }) enters.call refl refl said stands)
     | inr (inr (inr (inl begins))) ↦ inl (aside_said (begun m.call begins.root) begins.call
-        (anew (λ stage. said_in m.call.task stage ≡ None) (absent_silent m.call.task) refl refl (λ _. refl) m.call.task m.call.remembered.fill
+        (anew (λ stage. result_in m.call.task stage ≡ None) (absent_silent m.call.task) refl refl (λ _. refl) m.call.task m.call.remembered.fill
         begins.root) refl said stands)
     | inr (inr (inr (inr ends))) ↦ inl (aside_said (record m.call { state = Ended (Reply_refused ends.refused) }) ends.call
         (refused_silent m.call.task ends.refused) refl said stands)

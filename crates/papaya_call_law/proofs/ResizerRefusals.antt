@@ -38,8 +38,8 @@ use Rattle.papaya_words_law.specs.Code.{Coding}
 use Rattle.papaya_words_law.specs.Exchange.{Setting, State, Exchange, Open}
 use Rattle.papaya_call_law.proofs.ReliesLearn.{by_test}
 use Rattle.papaya_call_law.specs.Copier.{link_in_copying}
-use Rattle.papaya_call_law.specs.Resizers.{HasLink, IsCountTold, IsResizeCause, IsStageTold}
-use Rattle.papaya_call_law.specs.ChainTold.{IsCopyTold, LoadedPairs, Quiet}
+use Rattle.papaya_call_law.specs.Resizers.{HasLink, IsTrueOfCount, IsResizeCause, IsTrueOfStage}
+use Rattle.papaya_call_law.specs.ChainAnswers.{IsTrueOfCopy, LoadedPairs, Quiet}
 use Rattle.papaya_call_law.proofs.CopyRefusals.{copying_asks, of_copied, of_link, of_linked}
 use Rattle.papaya_call_law.proofs.LinkRefusals.{HasCountedTooMany, HasNotMade, copying_ends, link_why}
 
@@ -112,7 +112,7 @@ module _ (resizer : Resizer) (answer : Answer) (refused : Refused) where
       (ap asks_in stage ∙ ap Some (copying_asks copying made holds)) e
 
   -- no table has the room that is asked for
-  room_why : (more count : ℕ) → resizer.resize ≡ Reserve more → IsCountTold answer count → room_of (count + more) ≡ None → Capacity ≡ refused
+  room_why : (more count : ℕ) → resizer.resize ≡ Reserve more → IsTrueOfCount answer count → room_of (count + more) ≡ None → Capacity ≡ refused
       → IsResizeCause resizer answer refused
   room_why more count wants counts none is = inr
       (inr (record { capacity = sym is; more = more; resize = wants; count = count; counts = counts; long = no_room_long (count + more) none }))
@@ -165,14 +165,14 @@ module _ {K P : Type 0} (g : Setting K P) (c : Coding K P) (s : State P) (resize
     by_answer stage answer' is e = ap (λ a. reply_in (Goes a stage)) (sym is) ∙ e
 
     -- in each stage
-    stage_why : (stage : Stage) → IsStageTold g c s stage loaded answer es loaded' → Why stage
+    stage_why : (stage : Stage) → IsTrueOfStage g c s stage loaded answer es loaded' → Why stage
     stage_why AtRoot (ask, asks, told) at e =
         let same : ask ≡ Load Root = cc asks in
-        let h = subst (λ a. IsCopyTold g c s None 0 loaded a answer es loaded') same told in
+        let h = subst (λ a. IsTrueOfCopy g c s None 0 loaded a answer es loaded') same told in
         root_why resizer answer refused s.root h.0 resizer.resize refl (by_answer AtRoot (answers.Call (Word_read s.root)) h.0 e)
     stage_why (Making room) (ask, asks, told) at e =
         let same : ask ≡ MakeTable room.len room.limit 0 = cc asks in
-        let h = subst (λ a. IsCopyTold g c s None 0 loaded a answer es loaded') same told in
+        let h = subst (λ a. IsTrueOfCopy g c s None 0 loaded a answer es loaded') same told in
         ⊎_elim
         (λ (u : (other : Refused) × (answer ≡ answers.Call (Was_refused other))).
         let to = by_answer (Making room) (answers.Call (Was_refused u.0)) u.1 e in
@@ -190,15 +190,15 @@ module _ {K P : Type 0} (g : Setting K P) (c : Coding K P) (s : State P) (resize
         (λ some (a, h). let to = by_answer (Opening table) (answers.Call (Found_instead s.root)) a e in absurd (cc to))
     stage_why (Sizing root) (ask, asks, told) at e =
         let same : ask ≡ SizeOf root = cc asks in
-        let h = subst (λ a. IsCopyTold g c s None 0 loaded a answer es loaded') same told in
+        let h = subst (λ a. IsTrueOfCopy g c s None 0 loaded a answer es loaded') same told in
         let to = by_answer (Sizing root) (answers.Call (Size (g.size root) h.0.0)) h.0.2 e in absurd (cc to)
     stage_why (Counting root len) (ask, asks, told) at e =
         let same : ask ≡ Count = cc asks in
-        let h = subst (λ a. IsCopyTold g c s None 0 loaded a answer es loaded') same told in
+        let h = subst (λ a. IsTrueOfCopy g c s None 0 loaded a answer es loaded') same told in
         count_why resizer answer refused root len h.0.0 h.0.1 resizer.resize refl (by_answer (Counting root len) (answers.Count h.0.0) h.0.1 e)
     stage_why (Looking root len room) (ask, asks, told) at e =
         let same : ask ≡ Load (Next root) = cc asks in
-        let h = subst (λ a. IsCopyTold g c s None 0 loaded a answer es loaded') same told in
+        let h = subst (λ a. IsTrueOfCopy g c s None 0 loaded a answer es loaded') same told in
         absurd (next_none resizer.mode root len room (s.next root) refused (by_answer (Looking root len room) (answers.Call (Word_read (s.next root))) h.0 e))
     stage_why (Linking link) told at e = made_why resizer answer refused link (subst (λ y. HasLink y link) (sym at) refl) (ap asks_in at)
         (linked_ends (follows link) (link_after link resizer.mode resizer.initial answer) refused e)
@@ -210,6 +210,6 @@ module _ {K P : Type 0} (g : Setting K P) (c : Coding K P) (s : State P) (resize
     stage_why (Ended_refused other) told at e = let no = told.1 in absurd cc
 
   -- of the resizer
-  pub resizer_why : IsStageTold g c s resizer.state loaded answer es loaded' → (refused : Refused)
+  pub resizer_why : IsTrueOfStage g c s resizer.state loaded answer es loaded' → (refused : Refused)
       → reply_in (Goes answer resizer.state) ≡ Some (Reply_refused refused) → IsResizeCause resizer answer refused
   resizer_why told refused e = stage_why refused resizer.state told refl e

@@ -46,15 +46,15 @@ use Rattle.papaya_words_law.proofs.Later.{later_run}
 use Rattle.papaya_words_law.proofs.OneMap.{keeping_sound}
 use Rattle.papaya_call_law.specs.Copier.{AreThere, HasWords, IsStillAimed, ReliesCopied, ReliesLinked, aim_of}
 use Rattle.papaya_call_law.specs.Relies.{IsCutAs, IsModeOf}
-use Rattle.papaya_call_law.specs.Told.{IsWritten, word_of}
+use Rattle.papaya_call_law.specs.TrueAnswers.{IsWritten, word_of}
 use Rattle.papaya_call_law.proofs.CopierCopies.{copying_there, link_there, copying_noted}
 use Rattle.papaya_call_law.proofs.CopierExchange.{copying_may, link_may}
 use Rattle.papaya_call_law.proofs.CopierLinks.{cut_into}
 use Rattle.papaya_call_law.proofs.CopierStable.{copying_stable, link_stable}
 use Rattle.papaya_call_law.proofs.CopierTables.{copying_carries, link_carries}
 use Rattle.papaya_call_law.proofs.ReliesLearn.{by_test}
-use Rattle.papaya_call_law.specs.Resizers.{IsOwnAim, IsStageAsked, IsStageTold, ReliesStage, link_of}
-use Rattle.papaya_call_law.specs.ChainTold.{IsCopyTold, LoadedPairs, Quiet}
+use Rattle.papaya_call_law.specs.Resizers.{IsOwnAim, IsStageAsked, IsTrueOfStage, ReliesStage, link_of}
+use Rattle.papaya_call_law.specs.ChainAnswers.{IsTrueOfCopy, LoadedPairs, Quiet}
 use Rattle.papaya_call_law.proofs.CopyTold.{copying_learns}
 use Rattle.papaya_call_law.proofs.Making.{link_learns}
 use Rattle.papaya_call_law.proofs.CopierCarries.{no_note}
@@ -169,10 +169,10 @@ module _ {K P : Type 0} (g : Setting K P) (c : Coding K P) where
   module _ (s : State P) (loaded : LoadedPairs P) where
     -- what it is told, where it asks as a copy does
     pub told_of_ask : (stage : Stage) (is : CopyAsk) → asks_in stage ≡ Some is → (answer : Answer) (es : List (Exchange P)) (loaded' : LoadedPairs P)
-        → (ask : CopyAsk) × (asks_in stage ≡ Some ask) × IsCopyTold g c s (kind_in stage) (follows_in stage) loaded ask answer es loaded'
-        → IsCopyTold g c s (kind_in stage) (follows_in stage) loaded is answer es loaded'
+        → (ask : CopyAsk) × (asks_in stage ≡ Some ask) × IsTrueOfCopy g c s (kind_in stage) (follows_in stage) loaded ask answer es loaded'
+        → IsTrueOfCopy g c s (kind_in stage) (follows_in stage) loaded is answer es loaded'
     told_of_ask stage is asks answer es loaded' (ask, asked, told) = let same : ask ≡ is = cc (asks, asked) in
-        subst (λ a. IsCopyTold g c s (kind_in stage) (follows_in stage) loaded a answer es loaded') same told
+        subst (λ a. IsTrueOfCopy g c s (kind_in stage) (follows_in stage) loaded a answer es loaded') same told
 
     -- where a copy is over, or a first table is made
     over_relies : (resize : Resize) → ReliesStage g c s loaded (over resize)
@@ -255,7 +255,7 @@ module _ {K P : Type 0} (g : Setting K P) (c : Coding K P) where
     -- after each answer
     pub stage_learns : IsModeOf mode g.blocking → IsCutAs mode g.chunk_of → (stage : Stage) → ReliesStage g c s loaded stage → (answer : Answer)
         → (answer ≡ answers.Call Exchanged → HasWords g (link_of stage)) → (es : List (Exchange P)) (loaded' : LoadedPairs P)
-        → IsStageTold g c s stage loaded answer es loaded' → HasGone stage answer es loaded'
+        → IsTrueOfStage g c s stage loaded answer es loaded' → HasGone stage answer es loaded'
     stage_learns moded cut AtRoot r answer words es loaded' told =
         let h = told_of_ask s loaded AtRoot (Load Root) refl answer es loaded' told in
         quiet AtRoot answer (answers.Call (Word_read s.root)) es loaded' h.0 h.1 (root_relies s loaded' s.root on_root resize)

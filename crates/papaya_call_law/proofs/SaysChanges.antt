@@ -39,12 +39,12 @@ use Rattle.papaya_call.specs.declared.machine.State.TheVariants.{Counting, Notin
 use Rattle.papaya_call.specs.declared.machine.State.TheVariants.{Leaving, Growing, Ended}
 use Rattle.papaya_call.specs.Compute.{chosen, in_place_of, offered, provides}
 use Rattle.papaya_call.specs.Made.{grown, told}
-use Rattle.papaya_call.specs.Machine.{IsStanding, IsStandingState, IsComputer, IsWriter, HasClosure}
+use Rattle.papaya_call.specs.Machine.{IsValid, IsValidState, IsComputer, IsWriter, HasClosure}
 use Rattle.papaya_call.specs.Machine.{after, ask_of, asks, at_root, beaten, goes_as, left, numbered}
 use Rattle.papaya_call.specs.Machine.{refuses, write_lost, write_told, written}
 use Rattle.papaya_call_law.specs.Relies.{change_in}
 use Rattle.papaya_call.specs.Search.{look as look_seen, at_size as search_sized, at_word as search_loaded, at_yes as search_compared}
-use Rattle.papaya_call_law.specs.Says.{IsSaidChange, shown_by, show}
+use Rattle.papaya_call_law.specs.Says.{IsResultChange, shown_by, show}
 use Rattle.papaya_call_law.proofs.Leads.{HoldsOfLeads, beaten_leads, goes_leads, left_leads, provides_leads, root_leads}
 use Rattle.papaya_call.specs.Write.{claimed_by, serves}
 
@@ -141,8 +141,8 @@ module _ (m : Machine) where
 
   -- where the answer leads from this stage, a change is what the closure said, and an abort its answer
   record IsRight (task : Task) (made : Made) (stage : Stage) (answer : Answer) (then : Stage) : Type 0 where
-    pub change : (old new : Option ℕ) → IsStandingState task stage → change_in stage ≡ None → change_in then ≡ Some (old, new)
-        → IsSaidChange task (on task made stage) old new
+    pub change : (old new : Option ℕ) → IsValidState task stage → change_in stage ≡ None → change_in then ≡ Some (old, new)
+        → IsResultChange task (on task made stage) old new
     pub abort : (with : ℕ) → ((reply : Reply) → asks made m.hash stage ≡ Ask_done reply → ⊥) → abort_in then ≡ Some with → IsAbort made stage answer with
 
   -- nothing was changed or aborted
@@ -161,11 +161,11 @@ module _ (m : Machine) where
 
   -- a pair that a compute put
   put_said : (task : Task) (made : Made) (put : Put) → IsComputer task → (old new : Option ℕ)
-      → change_in (written put.write put.pair) ≡ Some (old, new) → IsSaidChange task (on task made (Putting put)) old new
+      → change_in (written put.write put.pair) ≡ Some (old, new) → IsResultChange task (on task made (Putting put)) old new
   put_said Get made put is old new e = absurd is
   put_said (Insert replace) made put is old new e = absurd is
   put_said RemoveIf made put is old new e = absurd is
-  put_said Compute made put is old new e = put_change put.write put.pair old new (λ o n. IsSaidChange Compute (on Compute made (Putting put)) o n) (inl refl) e
+  put_said Compute made put is old new e = put_change put.write put.pair old new (λ o n. IsResultChange Compute (on Compute made (Putting put)) o n) (inl refl) e
 
   -- by its exchange
   put_right : (task : Task) (made : Made) (put : Put) → IsRight task made (Putting put) Exchanged (written put.write put.pair)
@@ -175,7 +175,7 @@ module _ (m : Machine) where
   }
 
   -- a pair that an insertion wrote
-  write_said : (task : Task) (made : Made) (write : Write) → IsWriter task → (old new : Option ℕ) → IsSaidChange task (on task made (Writing write)) old new
+  write_said : (task : Task) (made : Made) (write : Write) → IsWriter task → (old new : Option ℕ) → IsResultChange task (on task made (Writing write)) old new
   write_said Get made write is old new = absurd is
   write_said (Insert replace) made write is old new = tt
   write_said RemoveIf made write is old new = absurd is
@@ -190,7 +190,7 @@ module _ (m : Machine) where
 
   -- a pair that was deleted
   bury_change : (task : Task) (made : Made) (removal : Removal) → HasClosure task
-      → IsSaidChange task (on task made (Burying removal)) (Some (pair_of removal.word)) None
+      → IsResultChange task (on task made (Burying removal)) (Some (pair_of removal.word)) None
   bury_change Get made removal is = absurd is
   bury_change (Insert replace) made removal is = absurd is
   bury_change RemoveIf made removal is = inl refl
@@ -201,7 +201,7 @@ module _ (m : Machine) where
   bury_right task made removal = record {
     change = λ old new is before e.
         let gone : (Some (pair_of removal.word), None) ≡ (old, new) = cc e in
-        subst (λ (c : Option ℕ × Option ℕ). IsSaidChange task (on task made (Burying removal)) c.0 c.1) gone (bury_change task made removal is.0);
+        subst (λ (c : Option ℕ × Option ℕ). IsResultChange task (on task made (Burying removal)) c.0 c.1) gone (bury_change task made removal is.0);
     abort = λ with open_still e. absurd cc;
   }
 
@@ -311,9 +311,9 @@ module _ (m : Machine) where
   right_in task made (Ended reply) answer = ended_right task made reply answer
 
   -- of the machine
-  pub machine_changed : (answer : Answer) (old new : Option ℕ) → IsStanding m → change_in m.state ≡ None
-      → change_in (after m answer).state ≡ Some (old, new) → IsSaidChange m.task m old new
-  machine_changed answer old new standing before e = (right_in m.task m.made m.state answer).change old new standing.state before e
+  pub machine_changed : (answer : Answer) (old new : Option ℕ) → IsValid m → change_in m.state ≡ None
+      → change_in (after m answer).state ≡ Some (old, new) → IsResultChange m.task m old new
+  machine_changed answer old new valid before e = (right_in m.task m.made m.state answer).change old new valid.state before e
 
   -- and aborts only where its closure did
   pub machine_aborted : (answer : Answer) (with : ℕ) → ((reply : Reply) → ask_of m ≡ Ask_done reply → ⊥)

@@ -49,12 +49,12 @@ use Rattle.papaya_call.specs.Machine.{absent, after, ask_of, asks, at_root, beat
 use Rattle.papaya_call.specs.Machine.{computes, goes_as, left, paired, paired_held, removes}
 use Rattle.papaya_call.specs.Machine.{replaces, written}
 use Rattle.papaya_call.specs.Search.{look as look_seen, at_word as search_loaded, at_yes as search_compared}
-use Rattle.papaya_call_law.specs.Says.{HasShownNone, IsFilled}
+use Rattle.papaya_call_law.specs.Says.{HasCalledNone, IsFilled}
 use Rattle.papaya_call_law.proofs.Leads.{occupies_leads}
 use Rattle.papaya_call.specs.Write.{claimed_by, serves}
 
 -- a machine that has shown None asks to show it no more
-asks_other : (made : Made) (hash : ℕ) (fill : Option ℕ) (stage : Stage) → HasShownNone fill stage → asks made hash stage ≡ ShowNone → ⊥
+asks_other : (made : Made) (hash : ℕ) (fill : Option ℕ) (stage : Stage) → HasCalledNone fill stage → asks made hash stage ≡ ShowNone → ⊥
 asks_other made hash fill AtRoot h e = cc e
 asks_other made hash fill Making h e = cc e
 asks_other made hash fill (Opening t) h e = cc e
@@ -76,13 +76,13 @@ asks_other made hash fill (Growing t) h e = cc e
 asks_other made hash fill (Ended reply) h e = cc e
 
 -- once the insertion is remembered it is shown None nowhere
-fills_shown : (gap : Gap) (n : ℕ) → HasShownNone (Some n) (fills gap n)
+fills_shown : (gap : Gap) (n : ℕ) → HasCalledNone (Some n) (fills gap n)
 fills_shown NoRoot n = tt
 fills_shown (At place) n = tt
 fills_shown (After t) n = tt
 
 -- so an absent key leads to no showing
-absent_shown : (task : Task) (fill : Option ℕ) (gap : Gap) → IsFilled fill → HasShownNone fill (absent task fill gap)
+absent_shown : (task : Task) (fill : Option ℕ) (gap : Gap) → IsFilled fill → HasCalledNone fill (absent task fill gap)
 absent_shown Get fill gap h = tt
 absent_shown (Insert replace) fill gap h = tt
 absent_shown RemoveIf fill gap h = tt
@@ -90,18 +90,18 @@ absent_shown Compute None gap h = absurd h
 absent_shown Compute (Some n) gap h = fills_shown gap n
 
 -- nor does a pair that is met
-recalls_shown : (fill : Option ℕ) (choice : Option Choice) (at : Place) (word pair : ℕ) → IsFilled fill → HasShownNone fill (recalls choice at word pair)
+recalls_shown : (fill : Option ℕ) (choice : Option Choice) (at : Place) (word pair : ℕ) → IsFilled fill → HasCalledNone fill (recalls choice at word pair)
 recalls_shown fill None at word pair h = h
 recalls_shown fill (Some (To_replace old new)) at word pair h =
-    cond_both (old == pair) (recalled new at word) (Showing (record { place = at; word = word })) (HasShownNone fill)
+    cond_both (old == pair) (recalled new at word) (Showing (record { place = at; word = word })) (HasCalledNone fill)
     (λ _. cond_both (serves_at new at.table at.probe.i) (Putting (record { write = record { place = at; old = word }; pair = new.pair }))
-    (Pairing (Again (record { place = at; old = word }))) (HasShownNone fill) (λ _. h) (λ _. h))
+    (Pairing (Again (record { place = at; old = word }))) (HasCalledNone fill) (λ _. h) (λ _. h))
     (λ _. h)
 recalls_shown fill (Some (To_remove old)) at word pair h = cond_both (old == pair) (Burying (record { place = at; word = word }))
-    (Showing (record { place = at; word = word })) (HasShownNone fill) (λ _. h) (λ _. h)
+    (Showing (record { place = at; word = word })) (HasCalledNone fill) (λ _. h) (λ _. h)
 
 -- nor one that a compute found
-computes_shown : (kd : Kind) (held : Remembered) (at : Place) (word : ℕ) → IsFilled held.fill → HasShownNone held.fill (computes kd held at word)
+computes_shown : (kd : Kind) (held : Remembered) (at : Place) (word : ℕ) → IsFilled held.fill → HasCalledNone held.fill (computes kd held at word)
 computes_shown word_kinds.Empty held at word h = h
 computes_shown word_kinds.Live held at word h = recalls_shown held.fill held.choice at word (pair_of word) h
 computes_shown word_kinds.Marked held at word h = h
@@ -110,7 +110,7 @@ computes_shown word_kinds.Buried held at word h = h
 computes_shown word_kinds.Closed held at word h = h
 
 -- nor one that a removal found
-removes_shown : (fill : Option ℕ) (kd : Kind) (at : Place) (word : ℕ) → IsFilled fill → HasShownNone fill (removes kd at word)
+removes_shown : (fill : Option ℕ) (kd : Kind) (at : Place) (word : ℕ) → IsFilled fill → HasCalledNone fill (removes kd at word)
 removes_shown fill word_kinds.Empty at word h = h
 removes_shown fill word_kinds.Live at word h = h
 removes_shown fill word_kinds.Marked at word h = h
@@ -119,7 +119,7 @@ removes_shown fill word_kinds.Buried at word h = h
 removes_shown fill word_kinds.Closed at word h = h
 
 -- nor one that an insertion replaces
-replaces_shown : (fill : Option ℕ) (kd : Kind) (at : Place) (word : ℕ) → IsFilled fill → HasShownNone fill (replaces kd at word)
+replaces_shown : (fill : Option ℕ) (kd : Kind) (at : Place) (word : ℕ) → IsFilled fill → HasCalledNone fill (replaces kd at word)
 replaces_shown fill word_kinds.Empty at word h = h
 replaces_shown fill word_kinds.Live at word h = h
 replaces_shown fill word_kinds.Marked at word h = h
@@ -128,10 +128,10 @@ replaces_shown fill word_kinds.Buried at word h = h
 replaces_shown fill word_kinds.Closed at word h = h
 
 -- after a search
-goes_shown : (task : Task) (mode : ResizeMode) (held : Remembered) (s : ProbeStep) → IsFilled held.fill → HasShownNone held.fill (goes_as task mode held s)
+goes_shown : (task : Task) (mode : ResizeMode) (held : Remembered) (s : ProbeStep) → IsFilled held.fill → HasCalledNone held.fill (goes_as task mode held s)
 goes_shown task mode held (seen.On way) h = h
 goes_shown Get mode held (seen.Here at word) h = tt
-goes_shown (Insert false) mode held (seen.Here at word) h = occupies_leads (HasShownNone held.fill) (kind_of word) at word tt h
+goes_shown (Insert false) mode held (seen.Here at word) h = occupies_leads (HasCalledNone held.fill) (kind_of word) at word tt h
 goes_shown (Insert true) mode held (seen.Here at word) h = replaces_shown held.fill (kind_of word) at word h
 goes_shown RemoveIf mode held (seen.Here at word) h = removes_shown held.fill (kind_of word) at word h
 goes_shown Compute mode held (seen.Here at word) h = computes_shown (kind_of word) held at word h
@@ -148,20 +148,20 @@ goes_shown Compute Blocking held (seen.Over t) h = absent_shown Compute held.fil
 goes_shown (Insert replace) mode held (seen.Over t) h = h
 
 -- after the words of tables
-root_shown : (task : Task) (fill : Option ℕ) (word : ℕ) → IsFilled fill → HasShownNone fill (at_root task fill word)
-root_shown Get fill word h = cond_both (word == 0) (Ended Absent) (Searching (Sizing word)) (HasShownNone fill) (λ _. tt) (λ _. h)
-root_shown RemoveIf fill word h = cond_both (word == 0) (Ended Absent) (Searching (Sizing word)) (HasShownNone fill) (λ _. tt) (λ _. h)
-root_shown Compute fill word h = cond_both (word == 0) (absent Compute fill NoRoot) (Searching (Sizing word)) (HasShownNone fill)
+root_shown : (task : Task) (fill : Option ℕ) (word : ℕ) → IsFilled fill → HasCalledNone fill (at_root task fill word)
+root_shown Get fill word h = cond_both (word == 0) (Ended Absent) (Searching (Sizing word)) (HasCalledNone fill) (λ _. tt) (λ _. h)
+root_shown RemoveIf fill word h = cond_both (word == 0) (Ended Absent) (Searching (Sizing word)) (HasCalledNone fill) (λ _. tt) (λ _. h)
+root_shown Compute fill word h = cond_both (word == 0) (absent Compute fill NoRoot) (Searching (Sizing word)) (HasCalledNone fill)
     (λ _. absent_shown Compute fill NoRoot h) (λ _. h)
-root_shown (Insert replace) fill word h = cond_both (word == 0) Making (Searching (Sizing word)) (HasShownNone fill) (λ _. h) (λ _. h)
+root_shown (Insert replace) fill word h = cond_both (word == 0) Making (Searching (Sizing word)) (HasCalledNone fill) (λ _. h) (λ _. h)
 
 -- a next table
-next_shown : (task : Task) (fill : Option ℕ) (t word : ℕ) → IsFilled fill → HasShownNone fill (left task fill t word)
-next_shown task fill t word h = cond_both (word == 0) (absent task fill (After t)) (Searching (Sizing word)) (HasShownNone fill)
+next_shown : (task : Task) (fill : Option ℕ) (t word : ℕ) → IsFilled fill → HasCalledNone fill (left task fill t word)
+next_shown task fill t word h = cond_both (word == 0) (absent task fill (After t)) (Searching (Sizing word)) (HasCalledNone fill)
     (λ _. absent_shown task fill (After t) h) (λ _. h)
 
 -- after a deletion that was lost
-beaten_shown : (kd : Kind) (m : Machine) (at : Place) (word : ℕ) → IsFilled m.remembered.fill → HasShownNone m.remembered.fill (beaten_by kd m at word)
+beaten_shown : (kd : Kind) (m : Machine) (at : Place) (word : ℕ) → IsFilled m.remembered.fill → HasCalledNone m.remembered.fill (beaten_by kd m at word)
 beaten_shown word_kinds.Buried m at word h = tt
 beaten_shown word_kinds.Empty m at word h = goes_shown m.task m.mode m.remembered (look_seen at word) h
 beaten_shown word_kinds.Live m at word h = goes_shown m.task m.mode m.remembered (look_seen at word) h
@@ -170,8 +170,8 @@ beaten_shown word_kinds.Copied m at word h = goes_shown m.task m.mode m.remember
 beaten_shown word_kinds.Closed m at word h = goes_shown m.task m.mode m.remembered (look_seen at word) h
 
 -- and after a write
-written_shown : (fill : Option ℕ) (write : Write) (n : ℕ) → IsFilled fill → HasShownNone fill (written write n)
-written_shown fill write n h = cond_both (write.old == 0) (Counting (claimed_by write n)) (Ended (Replaced (pair_of write.old) n)) (HasShownNone fill)
+written_shown : (fill : Option ℕ) (write : Write) (n : ℕ) → IsFilled fill → HasCalledNone fill (written write n)
+written_shown fill write n h = cond_both (write.old == 0) (Counting (claimed_by write n)) (Ended (Replaced (pair_of write.old) n)) (HasCalledNone fill)
     (λ _. h) (λ _. tt)
 
 module _ (m : Machine) where
@@ -181,32 +181,32 @@ module _ (m : Machine) where
 
   -- by the task
   beaten_task_shown : (task : Task) (made : Made) (removal : Removal) (word : ℕ) → IsFilled m.remembered.fill
-      → HasShownNone m.remembered.fill (beaten_as task (on task made (Burying removal)) removal.place word)
+      → HasCalledNone m.remembered.fill (beaten_as task (on task made (Burying removal)) removal.place word)
   beaten_task_shown Get made removal word h = beaten_shown (kind_of word) (on Get made (Burying removal)) removal.place word h
   beaten_task_shown (Insert replace) made removal word h = beaten_shown (kind_of word) (on (Insert replace) made (Burying removal)) removal.place word h
   beaten_task_shown RemoveIf made removal word h = beaten_shown (kind_of word) (on RemoveIf made (Burying removal)) removal.place word h
   beaten_task_shown Compute made removal word h = goes_shown Compute m.mode m.remembered (look_seen removal.place word) h
 
   -- a machine has shown None
-  abbrev HasShown : Machine → Type 0
-  HasShown then = HasShownNone then.remembered.fill then.state
+  abbrev HasCalled : Machine → Type 0
+  HasCalled then = HasCalledNone then.remembered.fill then.state
 
   -- after what a closure answered to a pair
-  chosen_shown : (made : Made) (removal : Removal) (kind : OpKind) → IsFilled m.remembered.fill → HasShown (after (on Compute made (Showing removal)) (Op kind))
+  chosen_shown : (made : Made) (removal : Removal) (kind : OpKind) → IsFilled m.remembered.fill → HasCalled (after (on Compute made (Showing removal)) (Op kind))
   chosen_shown made removal ops.Insert h = h
   chosen_shown made removal ops.Remove h = h
   chosen_shown made removal (ops.Abort with) h = tt
 
   -- after something was made for a compute
-  pairing_shown : (purpose : Purpose) (n : ℕ) → HasShownNone m.remembered.fill (Pairing purpose) → (G : Grown)
-      → HasShownNone (paired_held G m.remembered purpose n).fill (paired G purpose n)
+  pairing_shown : (purpose : Purpose) (n : ℕ) → HasCalledNone m.remembered.fill (Pairing purpose) → (G : Grown)
+      → HasCalledNone (paired_held G m.remembered purpose n).fill (paired G purpose n)
   pairing_shown purpose n h (On next) = h
   pairing_shown (Fill gap) n h (Pair next) = fills_shown gap n
   pairing_shown (Replace write) n h (Pair next) = h
   pairing_shown (Again write) n h (Pair next) = h
 
   -- in each stage
-  shown_in : (task : Task) (made : Made) (stage : Stage) (answer : Answer) → HasShownNone m.remembered.fill stage → HasShown (after (on task made stage) answer)
+  shown_in : (task : Task) (made : Made) (stage : Stage) (answer : Answer) → HasCalledNone m.remembered.fill stage → HasCalled (after (on task made stage) answer)
   shown_in task made AtRoot (Word_read word) h = root_shown task m.remembered.fill word h
   shown_in task made AtRoot answer h = h
   shown_in task made Making (Was_refused refused) h = tt
@@ -216,14 +216,14 @@ module _ (m : Machine) where
   shown_in task made (Searching place) (Word_read word) h = goes_shown task m.mode m.remembered (search_loaded place m.hash word) h
   shown_in task made (Searching place) (Yes same) h = goes_shown task m.mode m.remembered (search_compared place same) h
   shown_in task made (Searching place) answer h = h
-  shown_in task made (Writing write) (Word_read word) h = told_leads (HasShownNone m.remembered.fill) tt write h (serves made write) made word
+  shown_in task made (Writing write) (Word_read word) h = told_leads (HasCalledNone m.remembered.fill) tt write h (serves made write) made word
   shown_in task made (Writing write) (Found_instead word) h =
       let machine : Machine = on task made (Writing write) in
-      lost_leads (HasShownNone m.remembered.fill) tt write h machine word (goes_shown task m.mode m.remembered (look_seen write.place word) h)
+      lost_leads (HasCalledNone m.remembered.fill) tt write h machine word (goes_shown task m.mode m.remembered (look_seen write.place word) h)
       (serves made write)
-  shown_in task made (Writing write) Exchanged h = exchanged_leads (HasShownNone m.remembered.fill) write h
+  shown_in task made (Writing write) Exchanged h = exchanged_leads (HasCalledNone m.remembered.fill) write h
       (λ n. written_shown m.remembered.fill write n h) (serves made write)
-  shown_in task made (Writing write) (Was_refused refused) h = refuses_leads (HasShownNone m.remembered.fill) write refused h tt (serves made write)
+  shown_in task made (Writing write) (Was_refused refused) h = refuses_leads (HasCalledNone m.remembered.fill) write refused h tt (serves made write)
   shown_in task made (Writing write) answer h = h
   shown_in task made (Offering gap) answer h = absurd h
   shown_in RemoveIf made (Showing removal) (Yes true) h = h
@@ -237,8 +237,8 @@ module _ (m : Machine) where
   shown_in RemoveIf made (Showing removal) (Op kind) h = h
   shown_in task made (Showing removal) answer h = h
   shown_in task made (Pairing purpose) (Made_number n) h = pairing_shown purpose n h (grown made (in_place_of purpose))
-  shown_in task made (Pairing purpose) (Word_read word) h = numbered_leads (HasShownNone m.remembered.fill) tt (Pairing purpose) h (told made word)
-  shown_in task made (Pairing purpose) (Found_instead word) h = numbered_leads (HasShownNone m.remembered.fill) tt (Pairing purpose) h (told made word)
+  shown_in task made (Pairing purpose) (Word_read word) h = numbered_leads (HasCalledNone m.remembered.fill) tt (Pairing purpose) h (told made word)
+  shown_in task made (Pairing purpose) (Found_instead word) h = numbered_leads (HasCalledNone m.remembered.fill) tt (Pairing purpose) h (told made word)
   shown_in task made (Pairing purpose) (Was_refused refused) h = tt
   shown_in task made (Pairing purpose) answer h = h
   shown_in task made (Putting put) Exchanged h = written_shown m.remembered.fill put.write put.pair h
@@ -260,6 +260,6 @@ module _ (m : Machine) where
   shown_in task made (Ended reply) answer h = h
 
   -- of the machine
-  pub machine_shown : (answer : Answer) → HasShownNone m.remembered.fill m.state → (ask_of m ≡ ShowNone → ⊥)
-      × HasShownNone (after m answer).remembered.fill (after m answer).state
+  pub machine_shown : (answer : Answer) → HasCalledNone m.remembered.fill m.state → (ask_of m ≡ ShowNone → ⊥)
+      × HasCalledNone (after m answer).remembered.fill (after m answer).state
   machine_shown answer h = (asks_other m.made m.hash m.remembered.fill m.state h, shown_in m.task m.made m.state answer h)

@@ -45,14 +45,14 @@ use Rattle.papaya_call.specs.declared.made.Grown.{Grown}
 use Rattle.papaya_call.specs.declared.made.Grown.TheVariants.{On, Pair}
 use Rattle.papaya_call.specs.Made.{grown, pair_ask, serves_at, told}
 use Rattle.papaya_call.specs.Compute.{chosen, fills, in_place_of, offered, provides, recalled, recalls, with_choice, with_pair}
-use Rattle.papaya_call.specs.Machine.{IsStanding, IsStandingState, IsWriter, absent, after, at_root}
+use Rattle.papaya_call.specs.Machine.{IsValid, IsValidState, IsWriter, absent, after, at_root}
 use Rattle.papaya_call.specs.Machine.{beaten_as, beaten_by, computes, goes_as, left, paired}
 use Rattle.papaya_call.specs.Machine.{paired_held, removes, replaces, written}
 use Rattle.papaya_call.specs.Search.{look as look_seen, at_word as search_loaded, at_yes as search_compared}
-use Rattle.papaya_call_law.specs.Says.{IsSaidBy, IsToPair, MakesPair, Said, Agrees, Inserts, Makes}
-use Rattle.papaya_call_law.specs.Says.{Removes, ShowsIn, ShowsPairs, StandsOn, WasSaid, said_in}
-use Rattle.papaya_call_law.specs.Says.{said_in_reply, said_to_choose, said_to_claim, said_to_fill}
-use Rattle.papaya_call_law.specs.Says.{said_to_remove, shown_by}
+use Rattle.papaya_call_law.specs.Says.{IsResultBy, IsToPair, MakesPair, ClosureResult, Agrees, Inserts, Makes}
+use Rattle.papaya_call_law.specs.Says.{Removes, NamesPairIn, NamesPairs, ActsOn, WasReturned, result_in}
+use Rattle.papaya_call_law.specs.Says.{result_in_reply, result_to_choose, result_to_claim, result_to_fill}
+use Rattle.papaya_call_law.specs.Says.{result_to_remove, shown_by}
 use Rattle.papaya_call_law.proofs.SaysWords.{live_is_some}
 use Rattle.papaya_call_law.proofs.Tasks.{same_task}
 use Rattle.papaya_call_law.proofs.Leads.{occupies_leads}
@@ -64,12 +64,12 @@ shown_pair word some = cond_both (word == 0) None (Some (pair_of word)) (λ o. o
     (λ none. let zero : word ≡ 0 = eqb-true word 0 none in absurd (omega (arith, zero, some))) (λ _. refl)
 
 -- it is remembered
-abbrev IsHeldSaid : Option ℕ → Option Choice → Said → Type 0
-IsHeldSaid fill choice said = (said_to_fill fill ≡ Some said) ⊎ (said_to_choose choice ≡ Some said)
+abbrev IsHeldSaid : Option ℕ → Option Choice → ClosureResult → Type 0
+IsHeldSaid fill choice said = (result_to_fill fill ≡ Some said) ⊎ (result_to_choose choice ≡ Some said)
 
 -- what a stage stands on is remembered
 abbrev IsHeld : Task → Option ℕ → Option Choice → Stage → Type 0
-IsHeld task fill choice stage = (said : Said) → said_in task stage ≡ Some said → IsHeldSaid fill choice said
+IsHeld task fill choice stage = (said : ClosureResult) → result_in task stage ≡ Some said → IsHeldSaid fill choice said
 
 -- a pair that is remembered goes to its place
 fills_held : (task : Task) (choice : Option Choice) (gap : Gap) (n : ℕ) → IsHeld task (Some n) choice (fills gap n)
@@ -115,7 +115,7 @@ computes_held word_kinds.Buried held at word is said e = absurd cc
 computes_held word_kinds.Closed held at word is said e = absurd cc
 
 -- an insertion and a removal stand on nothing before an answer of their own
-removes_silent : (kd : Kind) (at : Place) (word : ℕ) (said : Said) → said_in RemoveIf (removes kd at word) ≡ Some said → ⊥
+removes_silent : (kd : Kind) (at : Place) (word : ℕ) (said : ClosureResult) → result_in RemoveIf (removes kd at word) ≡ Some said → ⊥
 removes_silent word_kinds.Empty at word said e = cc e
 removes_silent word_kinds.Live at word said e = cc e
 removes_silent word_kinds.Marked at word said e = cc e
@@ -124,7 +124,7 @@ removes_silent word_kinds.Buried at word said e = cc e
 removes_silent word_kinds.Closed at word said e = cc e
 
 -- an insertion stands on nothing at all
-replaces_silent : (kd : Kind) (at : Place) (word : ℕ) (said : Said) → said_in (Insert true) (replaces kd at word) ≡ Some said → ⊥
+replaces_silent : (kd : Kind) (at : Place) (word : ℕ) (said : ClosureResult) → result_in (Insert true) (replaces kd at word) ≡ Some said → ⊥
 replaces_silent word_kinds.Empty at word said e = cc e
 replaces_silent word_kinds.Live at word said e = cc e
 replaces_silent word_kinds.Marked at word said e = cc e
@@ -137,7 +137,7 @@ goes_held : (task : Task) (mode : ResizeMode) (held : Remembered) (s : ProbeStep
 goes_held task mode held (seen.On way) said e = absurd cc
 goes_held Get mode held (seen.Here at word) said e = absurd cc
 goes_held (Insert false) mode held (seen.Here at word) said e = absurd
-    (occupies_leads (λ s. said_in (Insert false) s ≡ Some said → ⊥) (kind_of word) at word (λ is. cc is) (λ is. cc is) e)
+    (occupies_leads (λ s. result_in (Insert false) s ≡ Some said → ⊥) (kind_of word) at word (λ is. cc is) (λ is. cc is) e)
 goes_held (Insert true) mode held (seen.Here at word) said e = absurd (replaces_silent (kind_of word) at word said e)
 goes_held RemoveIf mode held (seen.Here at word) said e = absurd (removes_silent (kind_of word) at word said e)
 goes_held Compute mode held (seen.Here at word) said e = computes_held (kind_of word) held at word refl said e
@@ -170,54 +170,54 @@ next_held task held t word = cond_both (word == 0) (absent task held.fill (After
     (λ _. absent_held task held.fill held.choice (After t)) (λ _ said e. absurd cc)
 
 -- a refusal and an abort stand on nothing
-refusal_silent : (task : Task) (refused : Refused) → said_in_reply task (Reply_refused refused) ≡ None
+refusal_silent : (task : Task) (refused : Refused) → result_in_reply task (Reply_refused refused) ≡ None
 refusal_silent Get refused = refl
 refusal_silent (Insert replace) refused = refl
 refusal_silent RemoveIf refused = refl
 refusal_silent Compute refused = refl
 
 -- an abort says nothing that a change could stand on
-abort_silent : (task : Task) (with : ℕ) → said_in_reply task (Aborted with) ≡ None
+abort_silent : (task : Task) (with : ℕ) → result_in_reply task (Aborted with) ≡ None
 abort_silent Get with = refl
 abort_silent (Insert replace) with = refl
 abort_silent RemoveIf with = refl
 abort_silent Compute with = refl
 
 -- and an absent key is no answer of a closure
-absent_silent : (task : Task) → said_in_reply task Absent ≡ None
+absent_silent : (task : Task) → result_in_reply task Absent ≡ None
 absent_silent Get = refl
 absent_silent (Insert replace) = refl
 absent_silent RemoveIf = refl
 absent_silent Compute = refl
 
 -- a reply stands on what its count stood on
-claim_replies : (task : Task) (n : ℕ) → said_in_reply task (Inserted n) ≡ said_to_claim task n
+claim_replies : (task : Task) (n : ℕ) → result_in_reply task (Inserted n) ≡ result_to_claim task n
 claim_replies Get n = refl
 claim_replies (Insert replace) n = refl
 claim_replies RemoveIf n = refl
 claim_replies Compute n = refl
 
 -- a removal that was counted stands on what it stood on
-removal_replies : (task : Task) (n : ℕ) → said_in_reply task (Removed n) ≡ said_to_remove task n
+removal_replies : (task : Task) (n : ℕ) → result_in_reply task (Removed n) ≡ result_to_remove task n
 removal_replies Get n = refl
 removal_replies (Insert replace) n = refl
 removal_replies RemoveIf n = refl
 removal_replies Compute n = refl
 
 -- an insertion that has written its pair stands on nothing
-writer_silent : (task : Task) (write : Write) (n : ℕ) → IsWriter task → (said : Said) → said_in task (written write n) ≡ Some said → ⊥
+writer_silent : (task : Task) (write : Write) (n : ℕ) → IsWriter task → (said : ClosureResult) → result_in task (written write n) ≡ Some said → ⊥
 writer_silent Get write n is said = absurd is
 writer_silent (Insert replace) write n is said =
     cond_both (write.old == 0) (Counting (claimed_by write n)) (Ended (Replaced (pair_of write.old) n))
-    (λ s. said_in (Insert replace) s ≡ Some said → ⊥) (λ _ e. cc e) (λ _ e. cc e)
+    (λ s. result_in (Insert replace) s ≡ Some said → ⊥) (λ _ e. cc e) (λ _ e. cc e)
 writer_silent RemoveIf write n is said = absurd is
 writer_silent Compute write n is said = absurd is
 
 -- a compute that has put its pair stands on what it stood on
-put_replies : (write : Write) (n : ℕ) → said_in Compute (written write n) ≡ Some (Makes (shown_by write.old) n)
+put_replies : (write : Write) (n : ℕ) → result_in Compute (written write n) ≡ Some (Makes (shown_by write.old) n)
 put_replies write n = by_old (write.old == 0)
   where
-    by_old : (b : Bool) → said_in Compute (cond b (Counting (claimed_by write n)) (Ended (Replaced (pair_of write.old) n))) ≡ Some
+    by_old : (b : Bool) → result_in Compute (cond b (Counting (claimed_by write n)) (Ended (Replaced (pair_of write.old) n))) ≡ Some
         (Makes (cond b None (Some (pair_of write.old))) n)
     by_old true = refl
     by_old false = refl
@@ -229,8 +229,8 @@ module _ (m : Machine) (held : Remembered) where
 
   -- the answer leads to this stage, and its closure said what that stands on where the machine did not before
   abbrev IsSaidIn : Task → Made → Stage → Answer → Stage → Type 0
-  IsSaidIn task made stage answer then = (said : Said) → said_in task then ≡ Some said → StandsOn (on task made stage) said
-      ⊎ IsSaidBy (on task made stage) answer said
+  IsSaidIn task made stage answer then = (said : ClosureResult) → result_in task then ≡ Some said → ActsOn (on task made stage) said
+      ⊎ IsResultBy (on task made stage) answer said
 
   -- what is remembered
   by_held : (task : Task) (made : Made) (stage : Stage) (answer : Answer) (then : Stage) → IsHeld task held.fill held.choice then
@@ -238,7 +238,7 @@ module _ (m : Machine) (held : Remembered) where
   by_held task made stage answer then h said e = ⊎_elim (λ f. inl (inr (inl f))) (λ c. inl (inr (inr c))) (h said e)
 
   -- nothing
-  by_silence : (task : Task) (made : Made) (stage : Stage) (answer : Answer) (then : Stage) → said_in task then ≡ None → IsSaidIn task made stage answer then
+  by_silence : (task : Task) (made : Made) (stage : Stage) (answer : Answer) (then : Stage) → result_in task then ≡ None → IsSaidIn task made stage answer then
   by_silence task made stage answer then none said e = let nothing_is : None ≡ Some said = sym none ∙ e in absurd cc
 
   -- a deletion that was lost
@@ -265,67 +265,67 @@ module _ (m : Machine) (held : Remembered) where
 
   -- what a pair is made of again is remembered
   was_said : (task : Task) (made : Made) (write : Write) → IsToPair held.choice (Again write)
-      → WasSaid (on task made (Pairing (Again write))) (Some (pair_of write.old))
-  was_said task made write shows = let new = shows.1 in inr (new.0.pair, inr (inr (ap said_to_choose new.1)))
+      → WasReturned (on task made (Pairing (Again write))) (Some (pair_of write.old))
+  was_said task made write shows = let new = shows.1 in inr (new.0.pair, inr (inr (ap result_to_choose new.1)))
 
   -- a pair was made of what the closure answered
   provided : (task : Task) (made : Made) (purpose : Purpose) (n : ℕ) → AsksPair made purpose → IsToPair held.choice purpose
       → IsSaidIn task made (Pairing purpose) (Made_number n) (provides purpose n)
   provided task made (Fill NoRoot) n ask shows said e = absurd cc
   provided task made (Fill (At place)) n ask shows said e = let is : Makes None n ≡ said = cc e in
-      inr (subst (IsSaidBy (on task made (Pairing (Fill (At place)))) (Made_number n)) is (inl (inl refl), ask, refl))
+      inr (subst (IsResultBy (on task made (Pairing (Fill (At place)))) (Made_number n)) is (inl (inl refl), ask, refl))
   provided task made (Fill (After t)) n ask shows said e = absurd cc
   provided task made (Replace write) n ask shows said e =
       let is : Makes (shown_by write.old) n ≡ said = cc e in
-      let stood : StandsOn (on task made (Pairing (Replace write))) (Inserts (shown_by write.old)) = inl
+      let stood : ActsOn (on task made (Pairing (Replace write))) (Inserts (shown_by write.old)) = inl
       (ap (λ o. Some (Inserts o)) (sym (shown_pair write.old shows))) in
-      inr (subst (IsSaidBy (on task made (Pairing (Replace write))) (Made_number n)) is (inl stood, ask, refl))
+      inr (subst (IsResultBy (on task made (Pairing (Replace write))) (Made_number n)) is (inl stood, ask, refl))
   provided task made (Again write) n ask shows said e =
       let is : Makes (shown_by write.old) n ≡ said = cc e in
-      let stood : WasSaid (on task made (Pairing (Again write))) (shown_by write.old) = subst (WasSaid (on task made (Pairing (Again write))))
+      let stood : WasReturned (on task made (Pairing (Again write))) (shown_by write.old) = subst (WasReturned (on task made (Pairing (Again write))))
       (sym (shown_pair write.old shows.0)) (was_said task made write shows) in
-      inr (subst (IsSaidBy (on task made (Pairing (Again write))) (Made_number n)) is (stood, ask, refl))
+      inr (subst (IsResultBy (on task made (Pairing (Again write))) (Made_number n)) is (stood, ask, refl))
 
   -- and is remembered as such
-  provided_fill : (task : Task) (made : Made) (purpose : Purpose) (n : ℕ) → AsksPair made purpose → (said : Said)
-      → said_to_fill (with_pair held purpose n).fill ≡ Some said
-      → StandsOn (on task made (Pairing purpose)) said ⊎ IsSaidBy (on task made (Pairing purpose)) (Made_number n) said
+  provided_fill : (task : Task) (made : Made) (purpose : Purpose) (n : ℕ) → AsksPair made purpose → (said : ClosureResult)
+      → result_to_fill (with_pair held purpose n).fill ≡ Some said
+      → ActsOn (on task made (Pairing purpose)) said ⊎ IsResultBy (on task made (Pairing purpose)) (Made_number n) said
   provided_fill task made (Fill gap) n ask said e = let is : Makes None n ≡ said = cc e in
-      inr (subst (IsSaidBy (on task made (Pairing (Fill gap))) (Made_number n)) is (inl (inl refl), ask, refl))
+      inr (subst (IsResultBy (on task made (Pairing (Fill gap))) (Made_number n)) is (inl (inl refl), ask, refl))
   provided_fill task made (Replace write) n ask said e = inl (inr (inl e))
   provided_fill task made (Again write) n ask said e = inl (inr (inl e))
 
   -- where it is to take the place of a pair
-  provided_choice : (task : Task) (made : Made) (purpose : Purpose) (n : ℕ) → AsksPair made purpose → IsToPair held.choice purpose → (said : Said)
-      → said_to_choose (with_pair held purpose n).choice ≡ Some said
-      → StandsOn (on task made (Pairing purpose)) said ⊎ IsSaidBy (on task made (Pairing purpose)) (Made_number n) said
+  provided_choice : (task : Task) (made : Made) (purpose : Purpose) (n : ℕ) → AsksPair made purpose → IsToPair held.choice purpose → (said : ClosureResult)
+      → result_to_choose (with_pair held purpose n).choice ≡ Some said
+      → ActsOn (on task made (Pairing purpose)) said ⊎ IsResultBy (on task made (Pairing purpose)) (Made_number n) said
   provided_choice task made (Fill gap) n ask shows said e = absurd cc
   provided_choice task made (Replace write) n ask shows said e =
       let is : Makes (Some (pair_of write.old)) n ≡ said = cc e in
-      inr (subst (IsSaidBy (on task made (Pairing (Replace write))) (Made_number n)) is (inl (inl refl), ask, refl))
+      inr (subst (IsResultBy (on task made (Pairing (Replace write))) (Made_number n)) is (inl (inl refl), ask, refl))
   provided_choice task made (Again write) n ask shows said e =
       let is : Makes (Some (pair_of write.old)) n ≡ said = cc e in
-      inr (subst (IsSaidBy (on task made (Pairing (Again write))) (Made_number n)) is (was_said task made write shows, ask, refl))
+      inr (subst (IsResultBy (on task made (Pairing (Again write))) (Made_number n)) is (was_said task made write shows, ask, refl))
 
   -- a closure that is shown a pair
   chosen_said : (made : Made) (removal : Removal) (kind : OpKind) → IsSaidIn Compute made (Showing removal) (Op kind) (chosen removal kind)
   chosen_said made removal ops.Insert said e = let is : Inserts (Some (pair_of removal.word)) ≡ said = cc e in
-      inr (subst (IsSaidBy (on Compute made (Showing removal)) (Op ops.Insert)) is (refl, refl))
+      inr (subst (IsResultBy (on Compute made (Showing removal)) (Op ops.Insert)) is (refl, refl))
   chosen_said made removal ops.Remove said e = let is : Removes (pair_of removal.word) ≡ said = cc e in
-      inr (subst (IsSaidBy (on Compute made (Showing removal)) (Op ops.Remove)) is (refl, refl))
+      inr (subst (IsResultBy (on Compute made (Showing removal)) (Op ops.Remove)) is (refl, refl))
   chosen_said made removal (ops.Abort with) said e = absurd cc
 
   -- a removal that it answers is remembered
-  chosen_choice : (made : Made) (removal : Removal) (kind : OpKind) (said : Said) → said_to_choose (with_choice held removal kind).choice ≡ Some said
-      → StandsOn (on Compute made (Showing removal)) said ⊎ IsSaidBy (on Compute made (Showing removal)) (Op kind) said
+  chosen_choice : (made : Made) (removal : Removal) (kind : OpKind) (said : ClosureResult) → result_to_choose (with_choice held removal kind).choice ≡ Some said
+      → ActsOn (on Compute made (Showing removal)) said ⊎ IsResultBy (on Compute made (Showing removal)) (Op kind) said
   chosen_choice made removal ops.Insert said e = inl (inr (inr e))
   chosen_choice made removal ops.Remove said e = let is : Removes (pair_of removal.word) ≡ said = cc e in
-      inr (subst (IsSaidBy (on Compute made (Showing removal)) (Op ops.Remove)) is (refl, refl))
+      inr (subst (IsResultBy (on Compute made (Showing removal)) (Op ops.Remove)) is (refl, refl))
   chosen_choice made removal (ops.Abort with) said e = inl (inr (inr e))
 
   -- what it answered to None is remembered as before
-  chosen_fill : (made : Made) (removal : Removal) (kind : OpKind) (said : Said) → said_to_fill (with_choice held removal kind).fill ≡ Some said
-      → StandsOn (on Compute made (Showing removal)) said
+  chosen_fill : (made : Made) (removal : Removal) (kind : OpKind) (said : ClosureResult) → result_to_fill (with_choice held removal kind).fill ≡ Some said
+      → ActsOn (on Compute made (Showing removal)) said
   chosen_fill made removal ops.Insert said e = inr (inl e)
   chosen_fill made removal ops.Remove said e = inr (inl e)
   chosen_fill made removal (ops.Abort with) said e = inr (inl e)
@@ -333,7 +333,7 @@ module _ (m : Machine) (held : Remembered) where
   -- a closure that is shown that there is none
   offered_said : (task : Task) (made : Made) (gap : Gap) (kind : OpKind) → IsSaidIn task made (Offering gap) (Op kind) (offered gap kind)
   offered_said task made gap ops.Insert said e = let is : Inserts None ≡ said = cc e in
-      inr (subst (IsSaidBy (on task made (Offering gap)) (Op ops.Insert)) is (refl, refl))
+      inr (subst (IsResultBy (on task made (Offering gap)) (Op ops.Insert)) is (refl, refl))
   offered_said task made gap ops.Remove said e = by_silence task made (Offering gap) (Op ops.Remove) (Ended (Reply_refused RemoveNothing))
       (refusal_silent task RemoveNothing) said e
   offered_said task made gap (ops.Abort with) said e = by_silence task made (Offering gap) (Op (ops.Abort with)) (Ended (Aborted with))
@@ -346,7 +346,7 @@ module _ (m : Machine) (held : Remembered) where
   paired_said task made purpose n shows (Pair next) is said e = provided task made purpose n (makes_pair made (in_place_of purpose) next is) shows said e
 
   -- in each stage
-  said_in_stage : (task : Task) (made : Made) (stage : Stage) (answer : Answer) → IsStandingState task stage → ShowsIn held.choice stage
+  said_in_stage : (task : Task) (made : Made) (stage : Stage) (answer : Answer) → IsValidState task stage → NamesPairIn held.choice stage
       → IsSaidIn task made stage answer (after (on task made stage) answer).state
   said_in_stage task made AtRoot (Word_read word) is shows said e = by_held task made AtRoot (Word_read word) (at_root task held.fill word)
       (root_held task held word) said e
@@ -383,10 +383,10 @@ module _ (m : Machine) (held : Remembered) where
   said_in_stage task made (Offering gap) answer is shows said e = absurd cc
   said_in_stage RemoveIf made (Showing removal) (Yes true) is shows said e =
       let agrees : Agrees (pair_of removal.word) true ≡ said = cc e in
-      inr (subst (IsSaidBy (on RemoveIf made (Showing removal)) (Yes true)) agrees (refl, refl))
+      inr (subst (IsResultBy (on RemoveIf made (Showing removal)) (Yes true)) agrees (refl, refl))
   said_in_stage RemoveIf made (Showing removal) (Yes false) is shows said e =
       let agrees : Agrees (pair_of removal.word) false ≡ said = cc e in
-      inr (subst (IsSaidBy (on RemoveIf made (Showing removal)) (Yes false)) agrees (refl, refl))
+      inr (subst (IsResultBy (on RemoveIf made (Showing removal)) (Yes false)) agrees (refl, refl))
   said_in_stage Get made (Showing removal) (Yes same) is shows said e = absurd cc
   said_in_stage (Insert replace) made (Showing removal) (Yes same) is shows said e = absurd cc
   said_in_stage Compute made (Showing removal) (Yes same) is shows said e = absurd cc
@@ -436,23 +436,23 @@ module _ (m : Machine) (held : Remembered) where
   said_in_stage task made (Ended reply) answer is shows said e = inl (inl e)
 
   -- what is remembered after an answer
-  abbrev IsSaid : Task → Made → Stage → Answer → Said → Type 0
-  IsSaid task made stage answer said = StandsOn (on task made stage) said ⊎ IsSaidBy (on task made stage) answer said
+  abbrev FollowsResult : Task → Made → Stage → Answer → ClosureResult → Type 0
+  FollowsResult task made stage answer said = ActsOn (on task made stage) said ⊎ IsResultBy (on task made stage) answer said
 
-  fill_grown : (task : Task) (made : Made) (purpose : Purpose) (n : ℕ) (G : Grown) → grown made (in_place_of purpose) ≡ G → (said : Said)
-      → said_to_fill (paired_held G held purpose n).fill ≡ Some said → IsSaid task made (Pairing purpose) (Made_number n) said
+  fill_grown : (task : Task) (made : Made) (purpose : Purpose) (n : ℕ) (G : Grown) → grown made (in_place_of purpose) ≡ G → (said : ClosureResult)
+      → result_to_fill (paired_held G held purpose n).fill ≡ Some said → FollowsResult task made (Pairing purpose) (Made_number n) said
   fill_grown task made purpose n (On next) is said e = inl (inr (inl e))
   fill_grown task made purpose n (Pair next) is said e = provided_fill task made purpose n (makes_pair made (in_place_of purpose) next is) said e
 
   -- the pair for an absent key, after a pair was made
-  fill_made : (task : Task) (made : Made) (stage : Stage) (n : ℕ) (said : Said)
-      → said_to_fill (after (on task made stage) (Made_number n)).remembered.fill ≡ Some said → IsSaid task made stage (Made_number n) said
+  fill_made : (task : Task) (made : Made) (stage : Stage) (n : ℕ) (said : ClosureResult)
+      → result_to_fill (after (on task made stage) (Made_number n)).remembered.fill ≡ Some said → FollowsResult task made stage (Made_number n) said
   fill_made task made (Pairing purpose) n said e = fill_grown task made purpose n (grown made (in_place_of purpose)) refl said e
   fill_made task made stage n said e = inl (inr (inl e))
 
   -- after an answer of a closure
-  fill_op : (task : Task) (made : Made) (stage : Stage) (kind : OpKind) (said : Said)
-      → said_to_fill (after (on task made stage) (Op kind)).remembered.fill ≡ Some said → IsSaid task made stage (Op kind) said
+  fill_op : (task : Task) (made : Made) (stage : Stage) (kind : OpKind) (said : ClosureResult)
+      → result_to_fill (after (on task made stage) (Op kind)).remembered.fill ≡ Some said → FollowsResult task made stage (Op kind) said
   fill_op Compute made (Showing removal) kind said e = inl (chosen_fill made removal kind said e)
   fill_op Get made (Showing removal) kind said e = inl (inr (inl e))
   fill_op (Insert replace) made (Showing removal) kind said e = inl (inr (inl e))
@@ -460,28 +460,28 @@ module _ (m : Machine) (held : Remembered) where
   fill_op task made stage kind said e = inl (inr (inl e))
 
   -- after any answer
-  fill_said : (task : Task) (made : Made) (stage : Stage) (answer : Answer) (said : Said)
-      → said_to_fill (after (on task made stage) answer).remembered.fill ≡ Some said → IsSaid task made stage answer said
+  fill_said : (task : Task) (made : Made) (stage : Stage) (answer : Answer) (said : ClosureResult)
+      → result_to_fill (after (on task made stage) answer).remembered.fill ≡ Some said → FollowsResult task made stage answer said
   fill_said task made stage (Made_number n) said e = fill_made task made stage n said e
   fill_said task made stage (Op kind) said e = fill_op task made stage kind said e
   fill_said task made stage answer said e = inl (inr (inl e))
 
   choice_grown : (task : Task) (made : Made) (purpose : Purpose) (n : ℕ) → IsToPair held.choice purpose → (G : Grown)
-      → grown made (in_place_of purpose) ≡ G → (said : Said) → said_to_choose (paired_held G held purpose n).choice ≡ Some said
-      → IsSaid task made (Pairing purpose) (Made_number n) said
+      → grown made (in_place_of purpose) ≡ G → (said : ClosureResult) → result_to_choose (paired_held G held purpose n).choice ≡ Some said
+      → FollowsResult task made (Pairing purpose) (Made_number n) said
   choice_grown task made purpose n shows (On next) is said e = inl (inr (inr e))
   choice_grown task made purpose n shows (Pair next) is said e = provided_choice task made purpose n (makes_pair made (in_place_of purpose) next is)
       shows said e
 
   -- the answer to the pair last shown, after a pair was made
-  choice_made : (task : Task) (made : Made) (stage : Stage) (n : ℕ) → ShowsIn held.choice stage → (said : Said)
-      → said_to_choose (after (on task made stage) (Made_number n)).remembered.choice ≡ Some said → IsSaid task made stage (Made_number n) said
+  choice_made : (task : Task) (made : Made) (stage : Stage) (n : ℕ) → NamesPairIn held.choice stage → (said : ClosureResult)
+      → result_to_choose (after (on task made stage) (Made_number n)).remembered.choice ≡ Some said → FollowsResult task made stage (Made_number n) said
   choice_made task made (Pairing purpose) n shows said e = choice_grown task made purpose n shows (grown made (in_place_of purpose)) refl said e
   choice_made task made stage n shows said e = inl (inr (inr e))
 
   -- after an answer of a closure
-  choice_op : (task : Task) (made : Made) (stage : Stage) (kind : OpKind) (said : Said)
-      → said_to_choose (after (on task made stage) (Op kind)).remembered.choice ≡ Some said → IsSaid task made stage (Op kind) said
+  choice_op : (task : Task) (made : Made) (stage : Stage) (kind : OpKind) (said : ClosureResult)
+      → result_to_choose (after (on task made stage) (Op kind)).remembered.choice ≡ Some said → FollowsResult task made stage (Op kind) said
   choice_op Compute made (Showing removal) kind said e = chosen_choice made removal kind said e
   choice_op Get made (Showing removal) kind said e = inl (inr (inr e))
   choice_op (Insert replace) made (Showing removal) kind said e = inl (inr (inr e))
@@ -489,20 +489,20 @@ module _ (m : Machine) (held : Remembered) where
   choice_op task made stage kind said e = inl (inr (inr e))
 
   -- after any answer
-  choice_said : (task : Task) (made : Made) (stage : Stage) (answer : Answer) → ShowsIn held.choice stage → (said : Said)
-      → said_to_choose (after (on task made stage) answer).remembered.choice ≡ Some said → IsSaid task made stage answer said
+  choice_said : (task : Task) (made : Made) (stage : Stage) (answer : Answer) → NamesPairIn held.choice stage → (said : ClosureResult)
+      → result_to_choose (after (on task made stage) answer).remembered.choice ≡ Some said → FollowsResult task made stage answer said
   choice_said task made stage (Made_number n) shows said e = choice_made task made stage n shows said e
   choice_said task made stage (Op kind) shows said e = choice_op task made stage kind said e
   choice_said task made stage answer shows said e = inl (inr (inr e))
 
 -- of the machine
-pub machine_said : (m : Machine) (answer : Answer) (said : Said) → IsStanding m → ShowsPairs m → StandsOn (after m answer) said → StandsOn m said
-    ⊎ IsSaidBy m answer said
-machine_said m answer said standing shows stands =
-    let stage : said_in m.task (after m answer).state ≡ Some said → StandsOn m said
-    ⊎ IsSaidBy m answer said = λ e. said_in_stage m m.remembered m.task m.made m.state answer standing.state shows said e in
+pub machine_said : (m : Machine) (answer : Answer) (said : ClosureResult) → IsValid m → NamesPairs m → ActsOn (after m answer) said → ActsOn m said
+    ⊎ IsResultBy m answer said
+machine_said m answer said valid shows stands =
+    let stage : result_in m.task (after m answer).state ≡ Some said → ActsOn m said
+    ⊎ IsResultBy m answer said = λ e. said_in_stage m m.remembered m.task m.made m.state answer valid.state shows said e in
     ⊎_elim
-    (λ e. stage (subst (λ t. said_in t (after m answer).state ≡ Some said) (same_task m answer).0 e))
+    (λ e. stage (subst (λ t. result_in t (after m answer).state ≡ Some said) (same_task m answer).0 e))
     (λ remembered. ⊎_elim (λ e. fill_said m m.remembered m.task m.made m.state answer said e)
     (λ e. choice_said m m.remembered m.task m.made m.state answer shows said e) remembered)
     stands

@@ -44,7 +44,7 @@ use Rattle.papaya_call.specs.declared.made.Grown.TheVariants.{On, Pair}
 use Rattle.papaya_call.specs.Made.{grown, serves_at, told}
 use Rattle.papaya_call.specs.Machine.{absent, after, at_root, beaten_as, beaten_by, computes, goes_as, left, paired, paired_held, removes, replaces, written}
 use Rattle.papaya_call.specs.Search.{look as look_seen, at_word as search_loaded, at_yes as search_compared}
-use Rattle.papaya_call_law.specs.Says.{ShowsIn, ShowsPairs}
+use Rattle.papaya_call_law.specs.Says.{NamesPairIn, NamesPairs}
 use Rattle.papaya_call_law.proofs.Leads.{occupies_leads}
 use Rattle.papaya_call.specs.Write.{claimed_by, serves}
 
@@ -58,13 +58,13 @@ live_is_some word live =
     (cases_lt 0 word)
 
 -- nothing is shown on the way of a pair to its place
-fills_shows : (choice : Option Choice) (gap : Gap) (n : ℕ) → ShowsIn choice (fills gap n)
+fills_shows : (choice : Option Choice) (gap : Gap) (n : ℕ) → NamesPairIn choice (fills gap n)
 fills_shows choice NoRoot n = tt
 fills_shows choice (At place) n = tt
 fills_shows choice (After t) n = tt
 
 -- nor that the key is absent to be a pair
-absent_shows : (choice : Option Choice) (task : Task) (fill : Option ℕ) (gap : Gap) → ShowsIn choice (absent task fill gap)
+absent_shows : (choice : Option Choice) (task : Task) (fill : Option ℕ) (gap : Gap) → NamesPairIn choice (absent task fill gap)
 absent_shows choice Get fill gap = tt
 absent_shows choice (Insert replace) fill gap = tt
 absent_shows choice RemoveIf fill gap = tt
@@ -72,22 +72,22 @@ absent_shows choice Compute None gap = tt
 absent_shows choice Compute (Some n) gap = fills_shows choice gap n
 
 -- a word that is met is shown
-recalls_shows : (choice : Option Choice) (at : Place) (word : ℕ) → 0 < word → ShowsIn choice (recalls choice at word (pair_of word))
+recalls_shows : (choice : Option Choice) (at : Place) (word : ℕ) → 0 < word → NamesPairIn choice (recalls choice at word (pair_of word))
 recalls_shows None at word some = some
 recalls_shows (Some (To_replace old new)) at word some =
     let choice : Option Choice = Some (To_replace old new) in
-    cond_both (old == pair_of word) (recalled new at word) (Showing (record { place = at; word = word })) (ShowsIn choice)
+    cond_both (old == pair_of word) (recalled new at word) (Showing (record { place = at; word = word })) (NamesPairIn choice)
     (λ same.
     let is : choice ≡ Some (To_replace (pair_of word) new) = ap (λ n. Some (To_replace n new)) (eqb-true old (pair_of word) same) in
     cond_both (serves_at new at.table at.probe.i) (Putting (record { write = record { place = at; old = word }; pair = new.pair }))
-    (Pairing (Again (record { place = at; old = word }))) (ShowsIn choice) (λ _. tt) (λ _. (some, (new, is))))
+    (Pairing (Again (record { place = at; old = word }))) (NamesPairIn choice) (λ _. tt) (λ _. (some, (new, is))))
     (λ _. some)
 recalls_shows (Some (To_remove old)) at word some =
     cond_both (old == pair_of word) (Burying (record { place = at; word = word })) (Showing (record { place = at; word = word }))
-    (ShowsIn (Some (To_remove old))) (λ _. tt) (λ _. some)
+    (NamesPairIn (Some (To_remove old))) (λ _. tt) (λ _. some)
 
 -- nor does a compute show an empty word
-computes_shows : (kd : Kind) (held : Remembered) (at : Place) (word : ℕ) → kind_of word ≡ kd → ShowsIn held.choice (computes kd held at word)
+computes_shows : (kd : Kind) (held : Remembered) (at : Place) (word : ℕ) → kind_of word ≡ kd → NamesPairIn held.choice (computes kd held at word)
 computes_shows word_kinds.Empty held at word e = tt
 computes_shows word_kinds.Live held at word e = recalls_shows held.choice at word (live_is_some word e)
 computes_shows word_kinds.Marked held at word e = tt
@@ -96,7 +96,7 @@ computes_shows word_kinds.Buried held at word e = tt
 computes_shows word_kinds.Closed held at word e = tt
 
 -- nor does a removal
-removes_shows : (choice : Option Choice) (kd : Kind) (at : Place) (word : ℕ) → kind_of word ≡ kd → ShowsIn choice (removes kd at word)
+removes_shows : (choice : Option Choice) (kd : Kind) (at : Place) (word : ℕ) → kind_of word ≡ kd → NamesPairIn choice (removes kd at word)
 removes_shows choice word_kinds.Empty at word e = tt
 removes_shows choice word_kinds.Live at word e = live_is_some word e
 removes_shows choice word_kinds.Marked at word e = tt
@@ -105,7 +105,7 @@ removes_shows choice word_kinds.Buried at word e = tt
 removes_shows choice word_kinds.Closed at word e = tt
 
 -- and an insertion shows nothing
-replaces_shows : (choice : Option Choice) (kd : Kind) (at : Place) (word : ℕ) → ShowsIn choice (replaces kd at word)
+replaces_shows : (choice : Option Choice) (kd : Kind) (at : Place) (word : ℕ) → NamesPairIn choice (replaces kd at word)
 replaces_shows choice word_kinds.Empty at word = tt
 replaces_shows choice word_kinds.Live at word = tt
 replaces_shows choice word_kinds.Marked at word = tt
@@ -114,10 +114,10 @@ replaces_shows choice word_kinds.Buried at word = tt
 replaces_shows choice word_kinds.Closed at word = tt
 
 -- what a search leads to
-goes_shows : (task : Task) (mode : ResizeMode) (held : Remembered) (s : ProbeStep) → ShowsIn held.choice (goes_as task mode held s)
+goes_shows : (task : Task) (mode : ResizeMode) (held : Remembered) (s : ProbeStep) → NamesPairIn held.choice (goes_as task mode held s)
 goes_shows task mode held (seen.On way) = tt
 goes_shows Get mode held (seen.Here at word) = tt
-goes_shows (Insert false) mode held (seen.Here at word) = occupies_leads (ShowsIn held.choice) (kind_of word) at word tt tt
+goes_shows (Insert false) mode held (seen.Here at word) = occupies_leads (NamesPairIn held.choice) (kind_of word) at word tt tt
 goes_shows (Insert true) mode held (seen.Here at word) = replaces_shows held.choice (kind_of word) at word
 goes_shows RemoveIf mode held (seen.Here at word) = removes_shows held.choice (kind_of word) at word refl
 goes_shows Compute mode held (seen.Here at word) = computes_shows (kind_of word) held at word refl
@@ -134,20 +134,20 @@ goes_shows Compute Blocking held (seen.Over t) = absent_shows held.choice Comput
 goes_shows (Insert replace) mode held (seen.Over t) = tt
 
 -- and the words of tables
-root_shows : (choice : Option Choice) (task : Task) (fill : Option ℕ) (word : ℕ) → ShowsIn choice (at_root task fill word)
-root_shows choice Get fill word = cond_both (word == 0) (Ended Absent) (Searching (Sizing word)) (ShowsIn choice) (λ _. tt) (λ _. tt)
-root_shows choice RemoveIf fill word = cond_both (word == 0) (Ended Absent) (Searching (Sizing word)) (ShowsIn choice) (λ _. tt) (λ _. tt)
-root_shows choice Compute fill word = cond_both (word == 0) (absent Compute fill NoRoot) (Searching (Sizing word)) (ShowsIn choice)
+root_shows : (choice : Option Choice) (task : Task) (fill : Option ℕ) (word : ℕ) → NamesPairIn choice (at_root task fill word)
+root_shows choice Get fill word = cond_both (word == 0) (Ended Absent) (Searching (Sizing word)) (NamesPairIn choice) (λ _. tt) (λ _. tt)
+root_shows choice RemoveIf fill word = cond_both (word == 0) (Ended Absent) (Searching (Sizing word)) (NamesPairIn choice) (λ _. tt) (λ _. tt)
+root_shows choice Compute fill word = cond_both (word == 0) (absent Compute fill NoRoot) (Searching (Sizing word)) (NamesPairIn choice)
     (λ _. absent_shows choice Compute fill NoRoot) (λ _. tt)
-root_shows choice (Insert replace) fill word = cond_both (word == 0) Making (Searching (Sizing word)) (ShowsIn choice) (λ _. tt) (λ _. tt)
+root_shows choice (Insert replace) fill word = cond_both (word == 0) Making (Searching (Sizing word)) (NamesPairIn choice) (λ _. tt) (λ _. tt)
 
 -- a next table leads to a search, or to an absent key
-next_shows : (choice : Option Choice) (task : Task) (fill : Option ℕ) (t word : ℕ) → ShowsIn choice (left task fill t word)
-next_shows choice task fill t word = cond_both (word == 0) (absent task fill (After t)) (Searching (Sizing word)) (ShowsIn choice)
+next_shows : (choice : Option Choice) (task : Task) (fill : Option ℕ) (t word : ℕ) → NamesPairIn choice (left task fill t word)
+next_shows choice task fill t word = cond_both (word == 0) (absent task fill (After t)) (Searching (Sizing word)) (NamesPairIn choice)
     (λ _. absent_shows choice task fill (After t)) (λ _. tt)
 
 -- and a deletion that was lost
-beaten_shows : (kd : Kind) (m : Machine) (at : Place) (word : ℕ) → ShowsIn m.remembered.choice (beaten_by kd m at word)
+beaten_shows : (kd : Kind) (m : Machine) (at : Place) (word : ℕ) → NamesPairIn m.remembered.choice (beaten_by kd m at word)
 beaten_shows word_kinds.Buried m at word = tt
 beaten_shows word_kinds.Empty m at word = goes_shows m.task m.mode m.remembered (look_seen at word)
 beaten_shows word_kinds.Live m at word = goes_shows m.task m.mode m.remembered (look_seen at word)
@@ -156,8 +156,8 @@ beaten_shows word_kinds.Copied m at word = goes_shows m.task m.mode m.remembered
 beaten_shows word_kinds.Closed m at word = goes_shows m.task m.mode m.remembered (look_seen at word)
 
 -- a pair that was written is no longer on its way
-written_shows : (choice : Option Choice) (write : Write) (n : ℕ) → ShowsIn choice (written write n)
-written_shows choice write n = cond_both (write.old == 0) (Counting (claimed_by write n)) (Ended (Replaced (pair_of write.old) n)) (ShowsIn choice)
+written_shows : (choice : Option Choice) (write : Write) (n : ℕ) → NamesPairIn choice (written write n)
+written_shows choice write n = cond_both (write.old == 0) (Counting (claimed_by write n)) (Ended (Replaced (pair_of write.old) n)) (NamesPairIn choice)
     (λ _. tt) (λ _. tt)
 
 module _ (m : Machine) where
@@ -167,22 +167,22 @@ module _ (m : Machine) where
 
   -- by the task
   beaten_task_shows : (task : Task) (made : Made) (removal : Removal) (word : ℕ)
-      → ShowsIn m.remembered.choice (beaten_as task (on task made (Burying removal)) removal.place word)
+      → NamesPairIn m.remembered.choice (beaten_as task (on task made (Burying removal)) removal.place word)
   beaten_task_shows Get made removal word = beaten_shows (kind_of word) (on Get made (Burying removal)) removal.place word
   beaten_task_shows (Insert replace) made removal word = beaten_shows (kind_of word) (on (Insert replace) made (Burying removal)) removal.place word
   beaten_task_shows RemoveIf made removal word = beaten_shows (kind_of word) (on RemoveIf made (Burying removal)) removal.place word
   beaten_task_shows Compute made removal word = goes_shows Compute m.mode m.remembered (look_seen removal.place word)
 
   -- something was made for a compute
-  pairing_shows : (task : Task) (made : Made) (purpose : Purpose) (n : ℕ) → ShowsIn m.remembered.choice (Pairing purpose) → (G : Grown)
-      → grown made (in_place_of purpose) ≡ G → ShowsIn (paired_held G m.remembered purpose n).choice (paired G purpose n)
+  pairing_shows : (task : Task) (made : Made) (purpose : Purpose) (n : ℕ) → NamesPairIn m.remembered.choice (Pairing purpose) → (G : Grown)
+      → grown made (in_place_of purpose) ≡ G → NamesPairIn (paired_held G m.remembered purpose n).choice (paired G purpose n)
   pairing_shows task made purpose n h (On next) is = h
   pairing_shows task made (Fill gap) n h (Pair next) is = fills_shows None gap n
   pairing_shows task made (Replace write) n h (Pair next) is = tt
   pairing_shows task made (Again write) n h (Pair next) is = tt
 
   -- in each stage
-  shows_in : (task : Task) (made : Made) (stage : Stage) (answer : Answer) → ShowsIn m.remembered.choice stage → ShowsPairs (after (on task made stage) answer)
+  shows_in : (task : Task) (made : Made) (stage : Stage) (answer : Answer) → NamesPairIn m.remembered.choice stage → NamesPairs (after (on task made stage) answer)
   shows_in task made AtRoot (Word_read word) h = root_shows m.remembered.choice task m.remembered.fill word
   shows_in task made AtRoot answer h = tt
   shows_in task made Making (Made_number n) h = tt
@@ -192,13 +192,13 @@ module _ (m : Machine) where
   shows_in task made (Searching place) (Word_read word) h = goes_shows task m.mode m.remembered (search_loaded place m.hash word)
   shows_in task made (Searching place) (Yes same) h = goes_shows task m.mode m.remembered (search_compared place same)
   shows_in task made (Searching place) answer h = tt
-  shows_in task made (Writing write) (Word_read word) h = told_leads (ShowsIn m.remembered.choice) tt write tt (serves made write) made word
+  shows_in task made (Writing write) (Word_read word) h = told_leads (NamesPairIn m.remembered.choice) tt write tt (serves made write) made word
   shows_in task made (Writing write) (Found_instead word) h =
       let machine : Machine = on task made (Writing write) in
-      lost_leads (ShowsIn m.remembered.choice) tt write tt machine word (goes_shows task m.mode m.remembered (look_seen write.place word)) (serves made write)
-  shows_in task made (Writing write) Exchanged h = exchanged_leads (ShowsIn m.remembered.choice) write tt (written_shows m.remembered.choice write)
+      lost_leads (NamesPairIn m.remembered.choice) tt write tt machine word (goes_shows task m.mode m.remembered (look_seen write.place word)) (serves made write)
+  shows_in task made (Writing write) Exchanged h = exchanged_leads (NamesPairIn m.remembered.choice) write tt (written_shows m.remembered.choice write)
       (serves made write)
-  shows_in task made (Writing write) (Was_refused refused) h = refuses_leads (ShowsIn m.remembered.choice) write refused tt tt (serves made write)
+  shows_in task made (Writing write) (Was_refused refused) h = refuses_leads (NamesPairIn m.remembered.choice) write refused tt tt (serves made write)
   shows_in task made (Writing write) answer h = tt
   shows_in task made (Offering gap) (Op ops.Insert) h = tt
   shows_in task made (Offering gap) (Op ops.Remove) h = tt
@@ -217,8 +217,8 @@ module _ (m : Machine) where
   shows_in RemoveIf made (Showing removal) (Op kind) h = h
   shows_in task made (Showing removal) answer h = h
   shows_in task made (Pairing purpose) (Made_number n) h = pairing_shows task made purpose n h (grown made (in_place_of purpose)) refl
-  shows_in task made (Pairing purpose) (Word_read word) h = numbered_leads (ShowsIn m.remembered.choice) tt (Pairing purpose) h (told made word)
-  shows_in task made (Pairing purpose) (Found_instead word) h = numbered_leads (ShowsIn m.remembered.choice) tt (Pairing purpose) h (told made word)
+  shows_in task made (Pairing purpose) (Word_read word) h = numbered_leads (NamesPairIn m.remembered.choice) tt (Pairing purpose) h (told made word)
+  shows_in task made (Pairing purpose) (Found_instead word) h = numbered_leads (NamesPairIn m.remembered.choice) tt (Pairing purpose) h (told made word)
   shows_in task made (Pairing purpose) (Was_refused refused) h = tt
   shows_in task made (Pairing purpose) answer h = h
   shows_in task made (Putting put) Exchanged h = written_shows m.remembered.choice put.write put.pair
@@ -240,5 +240,5 @@ module _ (m : Machine) where
   shows_in task made (Ended reply) answer h = tt
 
   -- of the machine
-  pub machine_shows : (answer : Answer) → ShowsPairs m → ShowsPairs (after m answer)
+  pub machine_shows : (answer : Answer) → NamesPairs m → NamesPairs (after m answer)
   machine_shows answer h = shows_in m.task m.made m.state answer h

@@ -21,7 +21,7 @@ use Rattle.papaya_words_law.proofs.CodeViews.{word_of_kind}
 use Rattle.papaya_words_law.proofs.Moments.{allowed_first, allowed_rest, map_of-append, run-append}
 use Rattle.papaya_words_law.proofs.OneMap.{keeping_sound, run_keeps}
 use Rattle.papaya_words_law.proofs.Slots.{put_elsewhere, put_there}
-use Rattle.papaya_call_law.specs.Told.{IsWritten, word_of}
+use Rattle.papaya_call_law.specs.TrueAnswers.{IsWritten, word_of}
 use Rattle.papaya_call_law.specs.Resizers.{ReliesStage, link_of}
 use Rattle.papaya_call_law.proofs.ResizerRelies.{stage_may, stage_there, stage_may_hint}
 use Rattle.papaya_call.specs.declared.chain.ask.ScanAsk.{ScanAsk}
@@ -31,7 +31,7 @@ use Rattle.papaya_call.specs.declared.chain.scanner.ScannerState.{ScannerState}
 use Rattle.papaya_call.specs.declared.chain.scanner.ScannerState.TheVariants.{Copying, AtRoot, Sizing, Looking, Giving, Showing, Burying, Uncounting, Done, Refused}
 use Rattle.papaya_call.specs.declared.chain.scanner.Scan.{Scan}
 use Rattle.papaya_call.specs.Scanner.{asks_in, copy_asks, buries}
-use Rattle.papaya_call_law.specs.ScanTold.{LoadedPairs}
+use Rattle.papaya_call_law.specs.ScanAnswers.{LoadedPairs}
 use Rattle.papaya_call_law.specs.Scans.{HadPair, IsMeeting, IsNamed, IsScanAsked, IsSpot, IsTaking, ReliesState, link_in_scan}
 use Rattle.papaya_call_law.proofs.ScanSlots.{reached_now, was_now}
 use Rattle.papaya_call_law.specs.Copier.{HasWords}

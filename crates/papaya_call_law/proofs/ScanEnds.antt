@@ -16,11 +16,11 @@ use Rattle.papaya_words_law.specs.View.{View, held, look}
 use Rattle.papaya_words_law.proofs.Class.{held_of}
 use Rattle.papaya_words_law.proofs.OneMap.{means, run_keeps, step_keeps}
 use Rattle.papaya_words_law.proofs.Slots.{look_same}
-use Rattle.papaya_call_law.specs.Told.{IsOneOf}
+use Rattle.papaya_call_law.specs.TrueAnswers.{IsOneOf}
 use Rattle.papaya_call.specs.declared.chain.scanner.Scan.{Scan}
 use Rattle.papaya_call.specs.declared.chain.scanner.Scan.TheVariants.{Clear, Retain, Walk}
 use Rattle.papaya_call_law.specs.ScanTaken.{IsTakenOut, takes_out}
-use Rattle.papaya_call_law.specs.ScanTold.{IsLastAnswer, LoadedPairs, count_of}
+use Rattle.papaya_call_law.specs.ScanAnswers.{IsLastAnswer, LoadedPairs, count_of}
 use Rattle.papaya_call_law.specs.Scans.{HasScanned, IsHeldIn, IsScannedTo, IsTaking}
 use Rattle.papaya_call_law.proofs.ScanTaken.{first_taken, later_taken, taken_behind, taken_stable}
 

@@ -32,11 +32,11 @@ use Rattle.papaya_words_law.proofs.Moments.{allowed_append, run-append}
 use Rattle.papaya_words_law.proofs.OneMap.{keeping_sound}
 use Rattle.papaya_call_law.specs.Copier.{HasWords, told_last}
 use Rattle.papaya_call_law.specs.Relies.{IsCutAs, IsModeOf}
-use Rattle.papaya_call_law.specs.Told.{IsOneOf, or_last}
+use Rattle.papaya_call_law.specs.TrueAnswers.{IsOneOf, or_last}
 use Rattle.papaya_call_law.proofs.ReliesLearn.{by_test}
 use Rattle.papaya_call_law.specs.Resizers.{ReliesStage, link_of}
-use Rattle.papaya_call_law.specs.ChainTold.{IsCopyTold, told_of}
-use Rattle.papaya_call_law.specs.ChainTold as copies
+use Rattle.papaya_call_law.specs.ChainAnswers.{IsTrueOfCopy, told_of}
+use Rattle.papaya_call_law.specs.ChainAnswers as copies
 use Rattle.papaya_call_law.proofs.ResizerRelies.{stage_learns, told_of_ask}
 use Rattle.papaya_call.specs.declared.chain.ask.ScanAsk.TheVariants.{Copy}
 use Rattle.papaya_call.specs.declared.chain.scanner.Spot.{Spot}
@@ -45,7 +45,7 @@ use Rattle.papaya_call.specs.declared.chain.scanner.ScannerState.TheVariants.{Co
 use Rattle.papaya_call.specs.declared.chain.scanner.Scan.{Scan}
 use Rattle.papaya_call.specs.declared.chain.scanner.Scan.TheVariants.{Clear, Retain, Walk}
 use Rattle.papaya_call.specs.Scanner.{after_in, asks_in, at_root, copied, first_in, looks, meets, next}
-use Rattle.papaya_call_law.specs.ScanTold.{IsCopyAnswer, IsBuried, IsFoundThere, IsGiven, IsScanTold, IsShown, IsWordAnswer, LoadedPairs, last_of}
+use Rattle.papaya_call_law.specs.ScanAnswers.{IsCopyAnswer, IsBuried, IsFoundThere, IsGiven, IsTrueOfScan, IsShown, IsWordAnswer, LoadedPairs, last_of}
 use Rattle.papaya_call_law.specs.Scans.{GivesNone, IsDealtWith, IsMeeting, IsMetIn, IsScannedTo}
 use Rattle.papaya_call_law.specs.Scans.{IsScanning, IsSpot, IsTaking, MayTake, ReliesState, Takes}
 use Rattle.papaya_call_law.specs.Scans.{link_in_scan}
@@ -242,11 +242,11 @@ module _ {K P : Type 0} (g : Setting K P) (c : Coding K P) (hashed : IsHashed g 
     -- it loaded a word, or asked for a size
     module _ (loaded : LoadedPairs P) (answer : Answer) (es : List (Exchange P)) (loaded' : LoadedPairs P) where
       word_told : (state : ScannerState) (before : List (Exchange P)) (is : CopyAsk) → asks_in state ≡ Some (Copy is)
-          → (t : IsWordAnswer g c now since state before loaded answer es loaded') → IsCopyTold g c now None 0 loaded.copy is answer es t.copy
+          → (t : IsWordAnswer g c now since state before loaded answer es loaded') → IsTrueOfCopy g c now None 0 loaded.copy is answer es t.copy
       word_told state before is asks t =
           let first = t.asks in
           let same : t.ask ≡ is = cc (asks, first) in
-          subst (λ a. IsCopyTold g c now None 0 loaded.copy a answer es t.copy) same t.told
+          subst (λ a. IsTrueOfCopy g c now None 0 loaded.copy a answer es t.copy) same t.told
 
       -- nothing was exchanged until now
       until : (copy : copies.LoadedPairs P) → es ≡ [] → record loaded { copy = copy; before = since ++ es } ≡ record loaded { copy = copy; before = since }
@@ -380,7 +380,7 @@ module _ {K P : Type 0} (g : Setting K P) (c : Coding K P) (hashed : IsHashed g 
       may_takes Retain word more takes = tt
 
       bury_learns : GivesNone g c s m since scan loaded → (spot : Spot) (word : ℕ) → Relies loaded (Burying spot word)
-          → IsScanTold g c now since (Burying spot word) loaded answer es loaded' → Learned (Burying spot word) answer es loaded'
+          → IsTrueOfScan g c now since (Burying spot word) loaded answer es loaded' → Learned (Burying spot word) answer es loaded'
       bury_learns gives spot word r told =
           by_test (code g c (now.slot spot.table spot.slot) == word) (IsBuried g c now since spot loaded answer es loaded')
           (IsFoundThere g c now since spot loaded answer es loaded') (Learned (Burying spot word) answer es loaded') told
@@ -414,7 +414,7 @@ module _ {K P : Type 0} (g : Setting K P) (c : Coding K P) (hashed : IsHashed g 
               )))
 
       -- the count was told
-      uncount_learns : (spot : Spot) → Relies loaded (Uncounting spot) → IsScanTold g c now since (Uncounting spot) loaded answer es loaded'
+      uncount_learns : (spot : Spot) → Relies loaded (Uncounting spot) → IsTrueOfScan g c now since (Uncounting spot) loaded answer es loaded'
           → Learned (Uncounting spot) answer es loaded'
       uncount_learns spot r told = quiet (Uncounting spot) answer (answers.Call Ok) es loaded' loaded told.0 told.1 told.2 (next_relies loaded spot r.0 r.2)
 
@@ -477,7 +477,7 @@ module _ {K P : Type 0} (g : Setting K P) (c : Coding K P) (hashed : IsHashed g 
 
       -- in each state
       pub state_learns : GivesNone g c s m since scan loaded → (state : ScannerState) → Relies loaded state
-          → (answer ≡ answers.Call Exchanged → HasWords g (link_in_scan state)) → IsScanTold g c now since state loaded answer es loaded'
+          → (answer ≡ answers.Call Exchanged → HasWords g (link_in_scan state)) → IsTrueOfScan g c now since state loaded answer es loaded'
           → Learned state answer es loaded'
       state_learns gives (Copying stage) r words told = copy_learns stage r words told
       state_learns gives AtRoot r words told = root_learns r told
@@ -497,7 +497,7 @@ module _ {K P : Type 0} (g : Setting K P) (c : Coding K P) (hashed : IsHashed g 
       gives_same Retain same gives = same ∙ gives
 
       pub state_gives : GivesNone g c s m since scan loaded → (state : ScannerState) → Relies loaded state
-          → IsScanTold g c now since state loaded answer es loaded' → GivesNone g c s m (since ++ es) scan loaded'
+          → IsTrueOfScan g c now since state loaded answer es loaded' → GivesNone g c s m (since ++ es) scan loaded'
       state_gives gives (Copying stage) r told = gives_same scan (ap (λ h. h.given) told.handed) gives
       state_gives gives AtRoot r told = gives_same scan (ap (λ h. h.given) told.handed) gives
       state_gives gives (Sizing table) r told = gives_same scan (ap (λ h. h.given) told.handed) gives

@@ -25,11 +25,11 @@ use Rattle.papaya_call.specs.Resizer as resizers
 use Rattle.papaya_words_law.specs.Code.{Coding, code}
 use Rattle.papaya_words_law.specs.Exchange.{Setting, State as Words, Exchange, Bury, run}
 use Rattle.papaya_call_law.specs.Copier.{IsCopyAsked}
-use Rattle.papaya_call_law.specs.Told.{word_of}
+use Rattle.papaya_call_law.specs.TrueAnswers.{word_of}
 use Rattle.papaya_call_law.proofs.ReliesLearn.{by_test}
 use Rattle.papaya_call_law.specs.Resizers.{IsTooMuchRoom}
-use Rattle.papaya_call_law.specs.ChainTold.{IsCopyTold}
-use Rattle.papaya_call_law.specs.ChainTold as copies
+use Rattle.papaya_call_law.specs.ChainAnswers.{IsTrueOfCopy}
+use Rattle.papaya_call_law.specs.ChainAnswers as copies
 use Rattle.papaya_call_law.proofs.ResizerRefusals.{resizer_why}
 use Rattle.papaya_call.specs.declared.chain.ask.ScanAsk.TheVariants.{Copy}
 use Rattle.papaya_call.specs.declared.chain.scanner.Spot.{Spot}
@@ -42,30 +42,30 @@ use Rattle.papaya_call.specs.declared.chain.scanner.Scan.{Scan}
 use Rattle.papaya_call.specs.declared.chain.scanner.Scan.TheVariants.{Clear, Retain, Walk}
 use Rattle.papaya_call.specs.declared.chain.scanner.Scanner.{Scanner}
 use Rattle.papaya_call.specs.Scanner.{after_in, asks_in, at_root, copied, first_in, found_by, looks, meets, next, reply_in, resizer_of, shown}
-use Rattle.papaya_call_law.specs.ScanTold.{IsCopyAnswer, IsBuried, IsFoundThere, IsScanTold, IsWordAnswer, LoadedPairs}
+use Rattle.papaya_call_law.specs.ScanAnswers.{IsCopyAnswer, IsBuried, IsFoundThere, IsTrueOfScan, IsWordAnswer, LoadedPairs}
 use Rattle.papaya_call_law.specs.Scans.{IsOfAll, MayTake, ReliesState}
 use Rattle.papaya_call_law.specs.ScanOutcomes.{IsScanCause, LeavesMap, owes_in}
 
 -- It goes on, or is done: it is not refused, and owes nothing.
-pub record GoesOn (state : ScannerState) : Type 0 where
+pub record Continues (state : ScannerState) : Type 0 where
   pub unrefused : (refused : Refused) → reply_in state ≡ Some (Reply_refused refused) → ⊥
   pub owes : owes_in state ≡ false
 
-looks_on : (spot : Spot) → GoesOn (looks spot)
-looks_on spot = cond_both (nat_lt spot.slot spot.len) (Looking spot) Done GoesOn (λ _. record { unrefused = λ refused e. absurd cc; owes = refl })
+looks_on : (spot : Spot) → Continues (looks spot)
+looks_on spot = cond_both (nat_lt spot.slot spot.len) (Looking spot) Done Continues (λ _. record { unrefused = λ refused e. absurd cc; owes = refl })
     (λ _. record { unrefused = λ refused e. absurd cc; owes = refl })
 
-next_on : (spot : Spot) → GoesOn (next spot)
+next_on : (spot : Spot) → Continues (next spot)
 next_on spot = looks_on (record spot { slot = spot.slot + 1 })
 
-root_on : (root : ℕ) → GoesOn (at_root root)
-root_on root = cond_both (root == 0) Done (Sizing root) GoesOn (λ _. record { unrefused = λ refused e. absurd cc; owes = refl })
+root_on : (root : ℕ) → Continues (at_root root)
+root_on root = cond_both (root == 0) Done (Sizing root) Continues (λ _. record { unrefused = λ refused e. absurd cc; owes = refl })
     (λ _. record { unrefused = λ refused e. absurd cc; owes = refl })
 
-copy_on : (stage : Stage) → GoesOn (Copying stage)
+copy_on : (stage : Stage) → Continues (Copying stage)
 copy_on stage = record { unrefused = λ refused e. absurd cc; owes = refl }
 
-meets_on : (scan : Scan) (spot : Spot) (word : ℕ) (kind : Kind) → GoesOn (meets scan spot word kind)
+meets_on : (scan : Scan) (spot : Spot) (word : ℕ) (kind : Kind) → Continues (meets scan spot word kind)
 meets_on Clear spot word kinds.Live = record { unrefused = λ refused e. absurd cc; owes = refl }
 meets_on Retain spot word kinds.Live = record { unrefused = λ refused e. absurd cc; owes = refl }
 meets_on Walk spot word kinds.Live = record { unrefused = λ refused e. absurd cc; owes = refl }
@@ -85,7 +85,7 @@ meets_on Walk spot word kinds.Empty = next_on spot
 meets_on Walk spot word kinds.Buried = next_on spot
 meets_on Walk spot word kinds.Closed = next_on spot
 
-shown_on : (spot : Spot) (word : ℕ) (stays : Bool) → GoesOn (shown spot word stays)
+shown_on : (spot : Spot) (word : ℕ) (stays : Bool) → Continues (shown spot word stays)
 shown_on spot word true = next_on spot
 shown_on spot word false = record { unrefused = λ refused e. absurd cc; owes = refl }
 
@@ -135,7 +135,7 @@ module _ {K P : Type 0} (g : Setting K P) (c : Coding K P) where
   Left es = (es ≡ []) ⊎ ((e : Exchange P) × (es ≡ e ∷ []) × LeavesMap g e)
 
   copy_told : (s : Words P) (kind : Option StepKind) (follows : ℕ) (loaded : copies.LoadedPairs P) (ask : CopyAsk) (answer : Answer)
-      (es : List (Exchange P)) (loaded' : copies.LoadedPairs P) → IsCopyTold g c s kind follows loaded ask answer es loaded' → Left es
+      (es : List (Exchange P)) (loaded' : copies.LoadedPairs P) → IsTrueOfCopy g c s kind follows loaded ask answer es loaded' → Left es
   copy_told s kind follows loaded (Load at) answer es loaded' h = inl h.1
   copy_told s kind follows loaded (Ask_exchange at old new) answer es loaded' h = by_test (word_of g c s at == old) _ _ (Left es) h
       (λ _ made. let (e, asked, one, handed) = made.1 in inr (e, one, copy_leaves kind at new s loaded.kept e asked))
@@ -159,21 +159,21 @@ module _ {K P : Type 0} (g : Setting K P) (c : Coding K P) (s : Words P) (m : K 
   Goes = after_in scanner.scan scanner.mode scanner.initial scanner.number
 
   -- where the scan goes on after this answer, by the one that was given
-  goes_as : (state : ScannerState) (answer' : Answer) → answer ≡ answer' → GoesOn (Goes answer' state) → GoesOn (Goes answer state)
-  goes_as state answer' is r = subst (λ a. GoesOn (Goes a state)) (sym is) r
+  goes_as : (state : ScannerState) (answer' : Answer) → answer ≡ answer' → Continues (Goes answer' state) → Continues (Goes answer state)
+  goes_as state answer' is r = subst (λ a. Continues (Goes a state)) (sym is) r
 
   -- a word or a size was told
   pub asked : (state : ScannerState) (before : List (Exchange P)) (is : CopyAsk) → asks_in state ≡ Some (Copy is)
-      → (t : IsWordAnswer g c now since state before loaded answer es loaded') → IsCopyTold g c now None 0 loaded.copy is answer es t.copy
+      → (t : IsWordAnswer g c now since state before loaded answer es loaded') → IsTrueOfCopy g c now None 0 loaded.copy is answer es t.copy
   asked state before is asks t =
       let first = t.asks in
       let same : t.ask ≡ is = cc (asks, first) in
-      subst (λ a. IsCopyTold g c now None 0 loaded.copy a answer es t.copy) same t.told
+      subst (λ a. IsTrueOfCopy g c now None 0 loaded.copy a answer es t.copy) same t.told
 
   -- what an answer did in a state that exchanges nothing
   pub record IsQuiet (state : ScannerState) : Type 0 where
     pub none : es ≡ []
-    pub on : GoesOn (Goes answer state)
+    pub on : Continues (Goes answer state)
 
   -- each state but the copy and a deletion that was made
   root_quiet : IsWordAnswer g c now since AtRoot (since ++ es) loaded answer es loaded' → IsQuiet AtRoot
@@ -214,7 +214,7 @@ module _ {K P : Type 0} (g : Setting K P) (c : Coding K P) (s : Words P) (m : K 
               (λ (r : IsTooMuchRoom (resizer_of scanner stage) answer refused). let no = r.resize in absurd (cc no))) why;
         }
 
-    pub state_why : (state : ScannerState) → IsScanTold g c now since state loaded answer es loaded' → Why state
+    pub state_why : (state : ScannerState) → IsTrueOfScan g c now since state loaded answer es loaded' → Why state
     state_why (Copying stage) told at e = copy_why stage told at e
     state_why AtRoot told at e = never AtRoot (root_quiet told) at e
     state_why (Sizing table) told at e = never (Sizing table) (size_quiet table told) at e
@@ -274,7 +274,7 @@ module _ {K P : Type 0} (g : Setting K P) (c : Coding K P) (s : Words P) (m : K 
       left stages.Done all t = absurd all
       left (stages.Refused other) all t = absurd all
 
-  pub state_done : (state : ScannerState) → ReliesState g c s m since scanner.scan loaded state → IsScanTold g c now since state loaded answer es loaded'
+  pub state_done : (state : ScannerState) → ReliesState g c s m since scanner.scan loaded state → IsTrueOfScan g c now since state loaded answer es loaded'
       → DoneIn state
   state_done (Copying stage) r told = copy_done stage r.1 told
   state_done AtRoot r told = quiet_done AtRoot (root_quiet told)

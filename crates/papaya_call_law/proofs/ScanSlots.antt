@@ -21,7 +21,7 @@ use Rattle.papaya_words_law.proofs.Walks.{copied_since, root_holds, still_there}
 use Rattle.papaya_call.specs.declared.chain.scanner.Scan.{Scan}
 use Rattle.papaya_call.specs.declared.chain.scanner.Scan.TheVariants.{Clear, Retain, Walk}
 use Rattle.papaya_call_law.specs.ScanTaken.{IsTakenOut}
-use Rattle.papaya_call_law.specs.ScanTold.{LoadedPairs, count_of}
+use Rattle.papaya_call_law.specs.ScanAnswers.{LoadedPairs, count_of}
 use Rattle.papaya_call_law.specs.Scans.{IsDealtWith, IsHeldIn, IsKept, IsMetIn, IsOut, IsPairOf, IsScannedTo}
 use Rattle.papaya_call_law.proofs.ScanTaken.{last_taken, live_or_taken, taken_same, taken_stable, buried_taken}
 

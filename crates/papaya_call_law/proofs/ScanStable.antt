@@ -17,7 +17,7 @@ use Rattle.papaya_call.specs.declared.chain.scanner.ScannerState.{ScannerState}
 use Rattle.papaya_call.specs.declared.chain.scanner.ScannerState.TheVariants.{Copying, AtRoot, Sizing, Looking, Giving, Showing, Burying, Uncounting, Done, Refused}
 use Rattle.papaya_call.specs.declared.chain.scanner.Scan.{Scan}
 use Rattle.papaya_call.specs.declared.chain.scanner.Scan.TheVariants.{Clear, Retain, Walk}
-use Rattle.papaya_call_law.specs.ScanTold.{LoadedPairs}
+use Rattle.papaya_call_law.specs.ScanAnswers.{LoadedPairs}
 use Rattle.papaya_call_law.specs.Scans.{HasScanned, IsMeeting, IsOfAll, IsScanning, IsTaking, MayTake, ReliesState, Takes}
 use Rattle.papaya_call_law.proofs.ScanSlots.{met_stable, moment_stable, scanned_stable}
 use Rattle.papaya_call_law.proofs.ScanTaken.{taken_stable}

@@ -22,7 +22,7 @@ use Rattle.papaya_call.specs.declared.chain.scanner.ScannerState.TheVariants.{Co
 use Rattle.papaya_call.specs.declared.chain.scanner.Scan.{Scan}
 use Rattle.papaya_call.specs.declared.chain.scanner.Scan.TheVariants.{Clear, Retain, Walk}
 use Rattle.papaya_call_law.specs.ScanTaken.{IsTakenOut, takes_out}
-use Rattle.papaya_call_law.specs.ScanTold.{LoadedPairs, count_of}
+use Rattle.papaya_call_law.specs.ScanAnswers.{LoadedPairs, count_of}
 use Rattle.papaya_call_law.specs.Scans.{GivesNone, HasScanned, IsDealtWith, IsHeldIn, IsMeeting}
 use Rattle.papaya_call_law.specs.Scans.{IsMetIn, IsOfAll, IsOut, IsPairOf, IsScannedTo, IsScanning}
 use Rattle.papaya_call_law.specs.Scans.{IsSpot, IsTaking, MayTake, ReliesState, Takes}

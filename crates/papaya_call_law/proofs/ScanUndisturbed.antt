@@ -26,18 +26,18 @@ use Rattle.papaya_call.specs.declared.chain.scanner.Scan.{Scan}
 use Rattle.papaya_call.specs.declared.chain.scanner.Scan.TheVariants.{Clear, Retain, Walk}
 use Rattle.papaya_call.specs.declared.chain.scanner.Scanner.{Scanner}
 use Rattle.papaya_call.specs.Scanner.{after_in, at_root, begun_in, copied, first_in, looks, meets, next, reply_in, shown}
-use Rattle.papaya_call_law.specs.ScanTold.{IsCopyAnswer, IsBuried, IsFoundThere, IsScanTold, LoadedPairs}
+use Rattle.papaya_call_law.specs.ScanAnswers.{IsCopyAnswer, IsBuried, IsFoundThere, IsTrueOfScan, LoadedPairs}
 use Rattle.papaya_call_law.specs.Scans.{ReliesState}
-use Rattle.papaya_call_law.specs.ScanOutcomes.{StandsAtRoot}
+use Rattle.papaya_call_law.specs.ScanOutcomes.{IsAtRoot}
 use Rattle.papaya_call_law.proofs.ScanOutcomes.{asked}
 
 -- one that begins
-pub begun_at : {P : Type 0} → (s : Words P) (mode : ResizeMode) → StandsAtRoot s (begun_in mode)
+pub begun_at : {P : Type 0} → (s : Words P) (mode : ResizeMode) → IsAtRoot s (begun_in mode)
 begun_at s (Incremental chunk) = tt
 begun_at s Blocking = tt
 
 -- it is not refused
-pub root_unrefused : {P : Type 0} → (s : Words P) (state : ScannerState) (refused : Cause) → StandsAtRoot s state → reply_in state ≡ Some (Reply_refused refused) → ⊥
+pub root_unrefused : {P : Type 0} → (s : Words P) (state : ScannerState) (refused : Cause) → IsAtRoot s state → reply_in state ≡ Some (Reply_refused refused) → ⊥
 root_unrefused s (Refused cause) refused at e = at
 root_unrefused s (Copying stage) refused at e = cc e
 root_unrefused s AtRoot refused at e = cc e
@@ -51,21 +51,21 @@ root_unrefused s Done refused at e = cc e
 
 module _ {P : Type 0} (s : Words P) where
   -- a slot of the root, and the root
-  looks_at : (spot : Spot) → s.root ≡ spot.table → StandsAtRoot s (looks spot)
-  looks_at spot at = cond_both (nat_lt spot.slot spot.len) (Looking spot) Done (StandsAtRoot s) (λ _. at) (λ _. tt)
+  looks_at : (spot : Spot) → s.root ≡ spot.table → IsAtRoot s (looks spot)
+  looks_at spot at = cond_both (nat_lt spot.slot spot.len) (Looking spot) Done (IsAtRoot s) (λ _. at) (λ _. tt)
 
-  next_at : (spot : Spot) → s.root ≡ spot.table → StandsAtRoot s (next spot)
+  next_at : (spot : Spot) → s.root ≡ spot.table → IsAtRoot s (next spot)
   next_at spot at = looks_at (record spot { slot = spot.slot + 1 }) at
 
-  root_at : (root : ℕ) → s.root ≡ root → StandsAtRoot s (at_root root)
-  root_at root at = cond_both (root == 0) Done (Sizing root) (StandsAtRoot s) (λ _. tt) (λ _. at)
+  root_at : (root : ℕ) → s.root ≡ root → IsAtRoot s (at_root root)
+  root_at root at = cond_both (root == 0) Done (Sizing root) (IsAtRoot s) (λ _. tt) (λ _. at)
 
-  shown_at : (spot : Spot) (word : ℕ) (stays : Bool) → s.root ≡ spot.table → StandsAtRoot s (shown spot word stays)
+  shown_at : (spot : Spot) (word : ℕ) (stays : Bool) → s.root ≡ spot.table → IsAtRoot s (shown spot word stays)
   shown_at spot word true at = next_at spot at
   shown_at spot word false at = at
 
   -- a copier's work sends it to the root
-  meets_at : (scan : Scan) (spot : Spot) (word : ℕ) → s.root ≡ spot.table → (w : Word P) → StandsAtRoot s (meets scan spot word (kind w))
+  meets_at : (scan : Scan) (spot : Spot) (word : ℕ) → s.root ≡ spot.table → (w : Word P) → IsAtRoot s (meets scan spot word (kind w))
   meets_at Clear spot word at (Live p) = at
   meets_at Retain spot word at (Live p) = at
   meets_at Walk spot word at (Live p) = at
@@ -98,29 +98,29 @@ module _ {K P : Type 0} (g : Setting K P) (c : Coding K P) (s : Words P) (m : K 
   module _ (calm : now.next now.root ≡ 0) where
     -- it stands at a root without a next table
     abbrev Stands : Words P → Answer → ScannerState → Type 0
-    Stands w a state = (w.next w.root ≡ 0) × StandsAtRoot w (Goes a state)
+    Stands w a state = (w.next w.root ≡ 0) × IsAtRoot w (Goes a state)
 
     -- where nothing was exchanged
-    quiet : (state : ScannerState) (answer' : Answer) → answer ≡ answer' → es ≡ [] → StandsAtRoot now (Goes answer' state) → Stands (run (since ++ es) s) answer state
+    quiet : (state : ScannerState) (answer' : Answer) → answer ≡ answer' → es ≡ [] → IsAtRoot now (Goes answer' state) → Stands (run (since ++ es) s) answer state
     quiet state answer' is none r =
         let same : run (since ++ es) s ≡ now = ap (λ l. run (since ++ l) s) none ∙ ap (λ l. run l s) (append-nil since) in
-        subst (λ w. Stands w answer state) (sym same) (calm, subst (λ a. StandsAtRoot now (Goes a state)) (sym is) r)
+        subst (λ w. Stands w answer state) (sym same) (calm, subst (λ a. IsAtRoot now (Goes a state)) (sym is) r)
 
     -- the word that stands in a slot of the root
     word_at : (spot : Spot) → now.root ≡ spot.table
-        → StandsAtRoot now (meets scanner.scan spot (code g c (now.slot spot.table spot.slot)) (kind_of (code g c (now.slot spot.table spot.slot))))
+        → IsAtRoot now (meets scanner.scan spot (code g c (now.slot spot.table spot.slot)) (kind_of (code g c (now.slot spot.table spot.slot))))
     word_at spot at =
-        subst (λ a. StandsAtRoot now (meets scanner.scan spot (code g c (now.slot spot.table spot.slot)) a))
+        subst (λ a. IsAtRoot now (meets scanner.scan spot (code g c (now.slot spot.table spot.slot)) a))
         (sym (code_kind g c (now.slot spot.table spot.slot)))
         (meets_at now scanner.scan spot (code g c (now.slot spot.table spot.slot)) at (now.slot spot.table spot.slot))
 
     -- the copy of all finds the root, and no next table
-    copy_at : (stage : Stage) → ReliesState g c s m since scanner.scan loaded (Copying stage) → StandsAtRoot now (Copying stage)
+    copy_at : (stage : Stage) → ReliesState g c s m since scanner.scan loaded (Copying stage) → IsAtRoot now (Copying stage)
         → IsCopyAnswer g c now since stage loaded answer es loaded' → Stands (run (since ++ es) s) answer (Copying stage)
     copy_at stages.AtRoot r at t =
         let h = told_of_ask g c now loaded.copy stages.AtRoot (Load Root) refl answer es t.copy t.told in
         quiet (Copying stages.AtRoot) (answers.Call (Word_read now.root)) h.0 h.1
-        (cond_both (now.root == 0) stages.Done (stages.Looking now.root 0 None) (λ y. StandsAtRoot now (copied stages.AtRoot y)) (λ _. tt) (λ _. refl))
+        (cond_both (now.root == 0) stages.Done (stages.Looking now.root 0 None) (λ y. IsAtRoot now (copied stages.AtRoot y)) (λ _. tt) (λ _. refl))
     copy_at (stages.Looking root len None) r at t =
         let h = told_of_ask g c now loaded.copy (stages.Looking root len None) (Load (Next root)) refl answer es t.copy t.told in
         let none : now.next root ≡ 0 = ap now.next (sym at) ∙ calm in
@@ -136,8 +136,8 @@ module _ {K P : Type 0} (g : Setting K P) (c : Coding K P) (s : Words P) (m : K 
     copy_at (stages.Refused refused) r at t = absurd at
 
     -- in each state
-    pub state_stands : (state : ScannerState) → ReliesState g c s m since scanner.scan loaded state → StandsAtRoot now state
-        → IsScanTold g c now since state loaded answer es loaded' → Stands (run (since ++ es) s) answer state
+    pub state_stands : (state : ScannerState) → ReliesState g c s m since scanner.scan loaded state → IsAtRoot now state
+        → IsTrueOfScan g c now since state loaded answer es loaded' → Stands (run (since ++ es) s) answer state
     state_stands (Copying stage) r at told = copy_at stage r at told
     state_stands AtRoot r at told =
         let h = asked g c s m since scanner loaded answer es loaded' AtRoot (since ++ es) (Load Root) refl told in
@@ -158,7 +158,7 @@ module _ {K P : Type 0} (g : Setting K P) (c : Coding K P) (s : Words P) (m : K 
         let e : Exchange P = Bury spot.table spot.slot t.pair in
         let same : run (since ++ es) s ≡ run (e ∷ []) now = ap (λ l. run (since ++ l) s) t.one ∙ run-append since (e ∷ []) s in
         subst (λ w. Stands w answer (Burying spot word)) (sym same)
-        (calm, subst (λ a. StandsAtRoot (run (e ∷ []) now) (Goes a (Burying spot word))) (sym t.is) at))
+        (calm, subst (λ a. IsAtRoot (run (e ∷ []) now) (Goes a (Burying spot word))) (sym t.is) at))
         (λ _ t. quiet (Burying spot word) (answers.Call (Found (code g c (now.slot spot.table spot.slot)))) t.is t.none (word_at spot at))
     state_stands (Uncounting spot) r at told = quiet (Uncounting spot) (answers.Call Ok) told.0 told.1 (next_at now spot at)
     state_stands Done r at told = let no = told.asks in absurd (cc no)

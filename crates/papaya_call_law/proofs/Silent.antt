@@ -9,8 +9,8 @@ use Rattle.papaya_call.specs.declared.ask.Ask.TheVariants.{MakeTable, AddToShard
 use Rattle.papaya_call.specs.declared.ask.Answer.{Answer}
 use Rattle.papaya_call.specs.declared.call.Reply.{Reply}
 use Rattle.papaya_call.specs.declared.machine.Machine.{Machine}
-use Rattle.papaya_call.specs.Machine.{IsStanding, after, ask_of}
-use Rattle.papaya_call_law.specs.Says.{Agrees, Inserts, IsSaidBy, Makes, MakesPair, Removes, Said, ShowsPairs, StandsOn, show}
+use Rattle.papaya_call.specs.Machine.{IsValid, after, ask_of}
+use Rattle.papaya_call_law.specs.Says.{Agrees, Inserts, IsResultBy, Makes, MakesPair, Removes, ClosureResult, NamesPairs, ActsOn, show}
 use Rattle.papaya_call_law.proofs.SaysSaid.{machine_said}
 
 -- the closure says nothing with the answer to this ask, and no pair is made
@@ -58,12 +58,12 @@ module _ (m : Machine) (answer : Answer) (silent : IsSilent (ask_of m)) where
   not_show (Some n) e = subst IsSilent e silent
 
   -- nothing was said
-  unsaid_now : (said : Said) → IsSaidBy m answer said → ⊥
+  unsaid_now : (said : ClosureResult) → IsResultBy m answer said → ⊥
   unsaid_now (Agrees n agrees) h = subst IsSilent h.0 silent
   unsaid_now (Inserts shown) h = not_show shown h.0
   unsaid_now (Makes shown n) h = silent_makes (ask_of m) silent h.1
   unsaid_now (Removes n) h = subst IsSilent h.0 silent
 
   -- what the machine stands on, it stood on before
-  pub stood_before : IsStanding m → ShowsPairs m → (said : Said) → StandsOn (after m answer) said → StandsOn m said
-  stood_before standing words said stands = ⊎_elim (λ h. h) (λ h. absurd (unsaid_now said h)) (machine_said m answer said standing words stands)
+  pub stood_before : IsValid m → NamesPairs m → (said : ClosureResult) → ActsOn (after m answer) said → ActsOn m said
+  stood_before valid words said stands = ⊎_elim (λ h. h) (λ h. absurd (unsaid_now said h)) (machine_said m answer said valid words stands)

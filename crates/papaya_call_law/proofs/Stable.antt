@@ -23,7 +23,7 @@ use Rattle.papaya_call_law.proofs.CopierTables.{copying_carries, link_carries}
 use Rattle.papaya_call_law.proofs.ReliesStable.{relies_stable}
 use Rattle.papaya_call_law.proofs.ReliesTables.{relies_carries}
 use Rattle.papaya_call_law.specs.ChainRelies.{Relies, ReliesPhase, now}
-use Rattle.papaya_call_law.specs.ChainTold.{LoadedPairs}
+use Rattle.papaya_call_law.specs.ChainAnswers.{LoadedPairs}
 
 module _ {K P : Type 0} (g : Setting K P) (c : Coding K P) (hashed : IsHashed g c) (begun since es : List (Exchange P))
     (may : AllAllowed g start (begun ++ (since ++ es))) (k : K) where

@@ -50,14 +50,14 @@ use Rattle.papaya_call.specs.declared.made.Grown.TheVariants.{On, Pair}
 use Rattle.papaya_call.specs.declared.made.Number.{Number}
 use Rattle.papaya_call.specs.declared.made.Number.TheVariants.{Wanted, Free, Taken}
 use Rattle.papaya_call.specs.declared.write.Write.{Write}
-use Rattle.papaya_call.specs.Made.{IsGrown, IsLimit, IsMade, IsNumber, IsTold, answered, grown}
+use Rattle.papaya_call.specs.Made.{IsGrown, IsLimit, IsMade, IsNumber, IsMadeOrNone, answered, grown}
 use Rattle.papaya_call.specs.Made.{grown_as, of_grown, own_grown, serves_at, taken, taken_as, told}
 use Rattle.papaya_call.specs.Made.{told_as, told_limit, wanted}
 use Rattle.papaya_call.specs.Write.{claimed_by, made_of, made_to_write, serves, with_pair_at, write_grown}
 use Rattle.papaya_call.specs.Compute.{IsChoice, IsFill, IsGap, IsPurpose, IsRemembered, chosen}
 use Rattle.papaya_call.specs.Compute.{fills, in_place_of, lacks, offered, provides, recalled}
 use Rattle.papaya_call.specs.Compute.{recalls, with_choice, with_pair}
-use Rattle.papaya_call.specs.Machine.{IsComputer, IsStanding, IsStandingState, IsWriter, MayInsert}
+use Rattle.papaya_call.specs.Machine.{IsComputer, IsValid, IsValidState, IsWriter, MayInsert}
 use Rattle.papaya_call.specs.Machine.{IsFit, IsFitAsk, ask_of, asks, after, absent, at_root}
 use Rattle.papaya_call.specs.Machine.{beaten_as, beaten_by, computes, decided, decided_held}
 use Rattle.papaya_call.specs.Machine.{held_at_op, held_in, judged, left, paired, paired_held}
@@ -118,7 +118,7 @@ compared_seen (Comparing at word) true within = match_seen (kind_of word) at wor
 compared_seen (Comparing at word) false within = go_on_seen at within
 
 -- where a search leads, the machine stands
-replaces_stands : (kind : Kind) (at : Place) (word : ℕ) → IsWithin at → IsStandingState (Insert true) (replaces kind at word)
+replaces_stands : (kind : Kind) (at : Place) (word : ℕ) → IsWithin at → IsValidState (Insert true) (replaces kind at word)
 replaces_stands word_kinds.Empty at word within = tt
 replaces_stands word_kinds.Live at word within = (tt, within)
 replaces_stands word_kinds.Marked at word within = tt
@@ -126,7 +126,7 @@ replaces_stands word_kinds.Copied at word within = tt
 replaces_stands word_kinds.Buried at word within = tt
 replaces_stands word_kinds.Closed at word within = tt
 
-removes_stands : (kind : Kind) (at : Place) (word : ℕ) → IsWithin at → IsStandingState RemoveIf (removes kind at word)
+removes_stands : (kind : Kind) (at : Place) (word : ℕ) → IsWithin at → IsValidState RemoveIf (removes kind at word)
 removes_stands word_kinds.Empty at word within = tt
 removes_stands word_kinds.Live at word within = (tt, within)
 removes_stands word_kinds.Marked at word within = tt
@@ -135,28 +135,28 @@ removes_stands word_kinds.Buried at word within = tt
 removes_stands word_kinds.Closed at word within = tt
 
 -- a pair goes where its key is absent
-fills_stands : (gap : Gap) (n : ℕ) → IsGap gap → n < 2 ^ 48 → IsStandingState Compute (fills gap n)
+fills_stands : (gap : Gap) (n : ℕ) → IsGap gap → n < 2 ^ 48 → IsValidState Compute (fills gap n)
 fills_stands NoRoot n gap fit = tt
 fills_stands (At place) n gap fit = (tt, record { within = gap; pair = fit })
 fills_stands (After table) n gap fit = tt
 
-lacks_stands : (fill : Option ℕ) (gap : Gap) → IsFill fill → IsGap gap → IsStandingState Compute (lacks fill gap)
+lacks_stands : (fill : Option ℕ) (gap : Gap) → IsFill fill → IsGap gap → IsValidState Compute (lacks fill gap)
 lacks_stands None gap held is = (tt, is)
 lacks_stands (Some n) gap held is = fills_stands gap n is held
 
 -- a remembered answer is acted on
-recalls_stands : (choice : Option Choice) (at : Place) (word n : ℕ) → IsChoice choice → IsWithin at → IsStandingState Compute (recalls choice at word n)
+recalls_stands : (choice : Option Choice) (at : Place) (word n : ℕ) → IsChoice choice → IsWithin at → IsValidState Compute (recalls choice at word n)
 recalls_stands None at word n held within = (tt, within)
 recalls_stands (Some (To_replace old new)) at word n held within =
-    cond_both (old == n) (recalled new at word) (Showing (record { place = at; word = word })) (IsStandingState Compute)
+    cond_both (old == n) (recalled new at word) (Showing (record { place = at; word = word })) (IsValidState Compute)
     (λ _. cond_both (serves_at new at.table at.probe.i) (Putting (record { write = record { place = at; old = word }; pair = new.pair }))
-    (Pairing (Again (record { place = at; old = word }))) (IsStandingState Compute) (λ _. (tt, record { within = within; pair = held })) (λ _. (tt, within)))
+    (Pairing (Again (record { place = at; old = word }))) (IsValidState Compute) (λ _. (tt, record { within = within; pair = held })) (λ _. (tt, within)))
     (λ _. (tt, within))
 recalls_stands (Some (To_remove old)) at word n held within = cond_both (old == n) (Burying (record { place = at; word = word }))
-    (Showing (record { place = at; word = word })) (IsStandingState Compute) (λ _. (tt, within)) (λ _. (tt, within))
+    (Showing (record { place = at; word = word })) (IsValidState Compute) (λ _. (tt, within)) (λ _. (tt, within))
 
 computes_stands : (kind : Kind) (held : Remembered) (at : Place) (word : ℕ) → IsRemembered held → IsWithin at
-    → IsStandingState Compute (computes kind held at word)
+    → IsValidState Compute (computes kind held at word)
 computes_stands word_kinds.Empty held at word is within = tt
 computes_stands word_kinds.Live held at word is within = recalls_stands held.choice at word (pair_of word) is.choice within
 computes_stands word_kinds.Marked held at word is within = tt
@@ -164,21 +164,21 @@ computes_stands word_kinds.Copied held at word is within = tt
 computes_stands word_kinds.Buried held at word is within = tt
 computes_stands word_kinds.Closed held at word is within = tt
 
-absent_stands : (task : Task) (fill : Option ℕ) (gap : Gap) → IsFill fill → IsGap gap → IsStandingState task (absent task fill gap)
+absent_stands : (task : Task) (fill : Option ℕ) (gap : Gap) → IsFill fill → IsGap gap → IsValidState task (absent task fill gap)
 absent_stands Get fill gap held is = tt
 absent_stands (Insert replace) fill gap held is = tt
 absent_stands RemoveIf fill gap held is = tt
 absent_stands Compute fill gap held is = lacks_stands fill gap held is
 
-passes_stands : (task : Task) (mode : ResizeMode) (fill : Option ℕ) (t : ℕ) → IsFill fill → IsStandingState task (passes task mode fill t)
+passes_stands : (task : Task) (mode : ResizeMode) (fill : Option ℕ) (t : ℕ) → IsFill fill → IsValidState task (passes task mode fill t)
 passes_stands task (Incremental chunk) fill t held = tt
 passes_stands task Blocking fill t held = absent_stands task fill (After t) held tt
 
 goes_stands : (task : Task) (mode : ResizeMode) (held : Remembered) (s : ProbeStep) → IsRemembered held → IsProbed s
-    → IsStandingState task (goes_as task mode held s)
+    → IsValidState task (goes_as task mode held s)
 goes_stands task mode held (seen.On search) is within = within
 goes_stands Get mode held (seen.Here at word) is within = tt
-goes_stands (Insert false) mode held (seen.Here at word) is within = occupies_leads (IsStandingState (Insert false)) (kind_of word) at word tt tt
+goes_stands (Insert false) mode held (seen.Here at word) is within = occupies_leads (IsValidState (Insert false)) (kind_of word) at word tt tt
 goes_stands (Insert true) mode held (seen.Here at word) is within = replaces_stands (kind_of word) at word within
 goes_stands RemoveIf mode held (seen.Here at word) is within = removes_stands (kind_of word) at word within
 goes_stands Compute mode held (seen.Here at word) is within = computes_stands (kind_of word) held at word is within
@@ -191,24 +191,24 @@ goes_stands RemoveIf mode held (seen.Over t) is within = passes_stands RemoveIf 
 goes_stands Compute mode held (seen.Over t) is within = passes_stands Compute mode held.fill t is.fill
 goes_stands (Insert replace) mode held (seen.Over t) is within = tt
 
-root_stands : (task : Task) (fill : Option ℕ) (word : ℕ) → IsFill fill → IsStandingState task (at_root task fill word)
-root_stands Get fill word held = cond_both (word == 0) (Ended Absent) (Searching (Sizing word)) (IsStandingState Get) (λ _. tt) (λ _. tt)
-root_stands RemoveIf fill word held = cond_both (word == 0) (Ended Absent) (Searching (Sizing word)) (IsStandingState RemoveIf) (λ _. tt) (λ _. tt)
-root_stands Compute fill word held = cond_both (word == 0) (lacks fill NoRoot) (Searching (Sizing word)) (IsStandingState Compute)
+root_stands : (task : Task) (fill : Option ℕ) (word : ℕ) → IsFill fill → IsValidState task (at_root task fill word)
+root_stands Get fill word held = cond_both (word == 0) (Ended Absent) (Searching (Sizing word)) (IsValidState Get) (λ _. tt) (λ _. tt)
+root_stands RemoveIf fill word held = cond_both (word == 0) (Ended Absent) (Searching (Sizing word)) (IsValidState RemoveIf) (λ _. tt) (λ _. tt)
+root_stands Compute fill word held = cond_both (word == 0) (lacks fill NoRoot) (Searching (Sizing word)) (IsValidState Compute)
     (λ _. lacks_stands fill NoRoot held tt) (λ _. tt)
-root_stands (Insert replace) fill word held = cond_both (word == 0) Making (Searching (Sizing word)) (IsStandingState (Insert replace)) (λ _. tt) (λ _. tt)
+root_stands (Insert replace) fill word held = cond_both (word == 0) Making (Searching (Sizing word)) (IsValidState (Insert replace)) (λ _. tt) (λ _. tt)
 
-next_stands : (task : Task) (fill : Option ℕ) (table word : ℕ) → IsFill fill → IsStandingState task (left task fill table word)
-next_stands task fill table word held = cond_both (word == 0) (absent task fill (After table)) (Searching (Sizing word)) (IsStandingState task)
+next_stands : (task : Task) (fill : Option ℕ) (table word : ℕ) → IsFill fill → IsValidState task (left task fill table word)
+next_stands task fill table word held = cond_both (word == 0) (absent task fill (After table)) (Searching (Sizing word)) (IsValidState task)
     (λ _. absent_stands task fill (After table) held tt) (λ _. tt)
 
 -- the closure of a compute leads it on, and what it answered is remembered
-offered_stands : (gap : Gap) (kind : OpKind) → IsGap gap → IsStandingState Compute (offered gap kind)
+offered_stands : (gap : Gap) (kind : OpKind) → IsGap gap → IsValidState Compute (offered gap kind)
 offered_stands gap ops.Insert is = (tt, is)
 offered_stands gap ops.Remove is = tt
 offered_stands gap (ops.Abort t) is = tt
 
-chosen_stands : (shown : Removal) (kind : OpKind) → IsWithin shown.place → IsStandingState Compute (chosen shown kind)
+chosen_stands : (shown : Removal) (kind : OpKind) → IsWithin shown.place → IsValidState Compute (chosen shown kind)
 chosen_stands shown ops.Insert within = (tt, within)
 chosen_stands shown ops.Remove within = (tt, within)
 chosen_stands shown (ops.Abort t) within = tt
@@ -218,7 +218,7 @@ choice_stands held shown ops.Insert is = is
 choice_stands held shown ops.Remove is = record { fill = is.fill; choice = tt }
 choice_stands held shown (ops.Abort t) is = is
 
-provides_stands : (purpose : Purpose) (n : ℕ) → IsPurpose purpose → n < 2 ^ 48 → IsStandingState Compute (provides purpose n)
+provides_stands : (purpose : Purpose) (n : ℕ) → IsPurpose purpose → n < 2 ^ 48 → IsValidState Compute (provides purpose n)
 provides_stands (Fill gap) n is fit = fills_stands gap n is fit
 provides_stands (Replace write) n is fit = (tt, record { within = is; pair = fit })
 provides_stands (Again write) n is fit = (tt, record { within = is; pair = fit })
@@ -229,8 +229,8 @@ pair_stands held (Replace write) n is fit = record { fill = is.fill; choice = fi
 pair_stands held (Again write) n is fit = record { fill = is.fill; choice = fit }
 
 -- a write that was made is counted, or was the whole
-written_stands : (task : Task) (write : _) (n : ℕ) → MayInsert task → IsStandingState task (written write n)
-written_stands task write n may = cond_both (write.old == 0) (Counting (claimed_by write n)) (Ended (Replaced _ n)) (IsStandingState task) (λ _. may) (λ _. tt)
+written_stands : (task : Task) (write : _) (n : ℕ) → MayInsert task → IsValidState task (written write n)
+written_stands task write n may = cond_both (write.old == 0) (Counting (claimed_by write n)) (Ended (Replaced _ n)) (IsValidState task) (λ _. may) (λ _. tt)
 
 -- an insertion may insert
 pub writer_inserts : (task : Task) → IsWriter task → MayInsert task
@@ -253,21 +253,21 @@ wanted_fits : (limit : Option ℕ) → IsNumber (wanted limit)
 wanted_fits None = tt
 wanted_fits (Some most) = tt
 
-limit_fits : (made : Made) → IsMade made → (limit : Option ℕ) → IsLimit limit → (count : ℕ) → IsTold (told_limit made limit count)
+limit_fits : (made : Made) → IsMade made → (limit : Option ℕ) → IsLimit limit → (count : ℕ) → IsMadeOrNone (told_limit made limit count)
 limit_fits made is None fit count = with_number made is Taken tt
 limit_fits made is (Some most) fit count =
-    cond_both (nat_lt count most) (Some (record made { number = Free count })) None IsTold
+    cond_both (nat_lt count most) (Some (record made { number = Free count })) None IsMadeOrNone
     (λ less. with_number made is (Free count) (let below : count < most = ltb-true count most less in omega (arith, below, fit))) (λ _. tt)
 
-told_fits_by : (made : Made) → IsMade made → (number : Number) (count : ℕ) → IsTold (told_as made number count)
+told_fits_by : (made : Made) → IsMade made → (number : Number) (count : ℕ) → IsMadeOrNone (told_as made number count)
 told_fits_by made is Taken count = is
 told_fits_by made is Wanted count = limit_fits made is made.limit is.limit count
 told_fits_by made is (Free n) count = limit_fits made is made.limit is.limit count
 
-told_fits : (made : Made) → IsMade made → (count : ℕ) → IsTold (told made count)
+told_fits : (made : Made) → IsMade made → (count : ℕ) → IsMadeOrNone (told made count)
 told_fits made is count = told_fits_by made is made.number count
 
-told_is_made : (made : Made) → IsMade made → (o : Option Made) → IsTold o → IsMade (number_told o made)
+told_is_made : (made : Made) → IsMade made → (o : Option Made) → IsMadeOrNone o → IsMade (number_told o made)
 told_is_made made is None fit = is
 told_is_made made is (Some next) fit = fit
 
@@ -316,7 +316,7 @@ write_grown_fits made is write n fit None = write_fits write n fit (grown made w
 write_grown_fits made is write n fit (Some i) = is
 
 module _ (m : Machine) (held : IsRemembered m.remembered) where
-  word_stands : (word : ℕ) (state : State) → IsStandingState m.task state → IsStandingState m.task (at_word m word state)
+  word_stands : (word : ℕ) (state : State) → IsValidState m.task state → IsValidState m.task (at_word m word state)
   word_stands word AtRoot stands = root_stands m.task m.remembered.fill word held.fill
   word_stands word (Searching search) stands = goes_stands m.task m.mode m.remembered (search_loaded search m.hash word) held
       (loaded_seen search m.hash word stands)
@@ -324,20 +324,20 @@ module _ (m : Machine) (held : IsRemembered m.remembered) where
   word_stands word (Growing table) stands = tt
   word_stands word Making stands = stands
   word_stands word (Opening table) stands = stands
-  word_stands word (Writing write) stands = told_leads (IsStandingState m.task) tt write stands (serves m.made write) m.made word
+  word_stands word (Writing write) stands = told_leads (IsValidState m.task) tt write stands (serves m.made write) m.made word
   word_stands word (Counting pair) stands = stands
   word_stands word (Noting pair) stands = stands
   word_stands word (Showing removal) stands = stands
   word_stands word (Burying removal) stands = stands
   word_stands word (Uncounting pair) stands = stands
   word_stands word (Offering gap) stands = stands
-  word_stands word (Pairing purpose) stands = numbered_leads (IsStandingState m.task) tt (Pairing purpose) stands (told m.made word)
+  word_stands word (Pairing purpose) stands = numbered_leads (IsValidState m.task) tt (Pairing purpose) stands (told m.made word)
   word_stands word (Putting put) stands = stands
   word_stands word (Ended reply) stands = stands
 
-  exchanged_stands : (made : Made) (state : State) → IsStandingState m.task state → IsStandingState m.task (at_exchanged made state)
+  exchanged_stands : (made : Made) (state : State) → IsValidState m.task state → IsValidState m.task (at_exchanged made state)
   exchanged_stands made (Opening table) stands = tt
-  exchanged_stands made (Writing write) stands = exchanged_leads (IsStandingState m.task) write stands
+  exchanged_stands made (Writing write) stands = exchanged_leads (IsValidState m.task) write stands
       (λ n. written_stands m.task write n (writer_inserts m.task stands.0)) (serves made write)
   exchanged_stands made (Putting put) stands = written_stands m.task put.write put.pair (computer_inserts m.task stands.0)
   exchanged_stands made (Burying removal) stands = stands.0
@@ -355,11 +355,11 @@ module _ (m : Machine) (held : IsRemembered m.remembered) where
   exchanged_stands made (Ended reply) stands = stands
 
   -- a call that lost an exchange goes on from its place
-  look_goes : (at : Place) (word : ℕ) → IsWithin at → IsStandingState m.task (goes_as m.task m.mode m.remembered (look at word))
+  look_goes : (at : Place) (word : ℕ) → IsWithin at → IsValidState m.task (goes_as m.task m.mode m.remembered (look at word))
   look_goes at word within = goes_stands m.task m.mode m.remembered (look at word) held (look_seen (kind_of word) at word within)
 
   -- a removal that was beaten goes on from its place, or has ended
-  beaten_stands : (kind : Kind) (removal : Removal) (word : ℕ) → IsWithin removal.place → IsStandingState m.task (beaten_by kind m removal.place word)
+  beaten_stands : (kind : Kind) (removal : Removal) (word : ℕ) → IsWithin removal.place → IsValidState m.task (beaten_by kind m removal.place word)
   beaten_stands word_kinds.Buried removal word within = tt
   beaten_stands word_kinds.Empty removal word within = look_goes removal.place word within
   beaten_stands word_kinds.Live removal word within = look_goes removal.place word within
@@ -367,15 +367,15 @@ module _ (m : Machine) (held : IsRemembered m.remembered) where
   beaten_stands word_kinds.Copied removal word within = look_goes removal.place word within
   beaten_stands word_kinds.Closed removal word within = look_goes removal.place word within
 
-  beaten_stands_as : (task : Task) (removal : Removal) (word : ℕ) → IsWithin removal.place → IsStandingState m.task (beaten_as task m removal.place word)
+  beaten_stands_as : (task : Task) (removal : Removal) (word : ℕ) → IsWithin removal.place → IsValidState m.task (beaten_as task m removal.place word)
   beaten_stands_as Get removal word within = beaten_stands (kind_of word) removal word within
   beaten_stands_as (Insert replace) removal word within = beaten_stands (kind_of word) removal word within
   beaten_stands_as RemoveIf removal word within = beaten_stands (kind_of word) removal word within
   beaten_stands_as Compute removal word within = look_goes removal.place word within
 
-  found_stands : (word : ℕ) (state : State) → IsStandingState m.task state → IsStandingState m.task (at_found m word state)
+  found_stands : (word : ℕ) (state : State) → IsValidState m.task state → IsValidState m.task (at_found m word state)
   found_stands word (Opening table) stands = tt
-  found_stands word (Writing write) stands = lost_leads (IsStandingState m.task) tt write stands m word (look_goes write.place word stands.1)
+  found_stands word (Writing write) stands = lost_leads (IsValidState m.task) tt write stands m word (look_goes write.place word stands.1)
       (serves m.made write)
   found_stands word (Putting put) stands = look_goes put.write.place word stands.1.within
   found_stands word (Burying removal) stands = beaten_stands_as m.task removal word stands.1
@@ -388,37 +388,37 @@ module _ (m : Machine) (held : IsRemembered m.remembered) where
   found_stands word (Showing removal) stands = stands
   found_stands word (Uncounting pair) stands = stands
   found_stands word (Offering gap) stands = stands
-  found_stands word (Pairing purpose) stands = numbered_leads (IsStandingState m.task) tt (Pairing purpose) stands (told m.made word)
+  found_stands word (Pairing purpose) stands = numbered_leads (IsValidState m.task) tt (Pairing purpose) stands (told m.made word)
   found_stands word (Growing table) stands = stands
   found_stands word (Ended reply) stands = stands
 
-  judged_stands : (task : Task) (removal : Removal) (agrees : Bool) → IsStandingState task (Showing removal) → IsStandingState task (judged task removal agrees)
+  judged_stands : (task : Task) (removal : Removal) (agrees : Bool) → IsValidState task (Showing removal) → IsValidState task (judged task removal agrees)
   judged_stands Get removal agrees stands = stands
   judged_stands (Insert replace) removal agrees stands = stands
   judged_stands RemoveIf removal true stands = stands
   judged_stands RemoveIf removal false stands = tt
   judged_stands Compute removal agrees stands = stands
 
-  decided_stands : (task : Task) (removal : Removal) (kind : OpKind) → IsStandingState task (Showing removal) → IsStandingState task (decided task removal kind)
+  decided_stands : (task : Task) (removal : Removal) (kind : OpKind) → IsValidState task (Showing removal) → IsValidState task (decided task removal kind)
   decided_stands Get removal kind stands = stands
   decided_stands (Insert replace) removal kind stands = stands
   decided_stands RemoveIf removal kind stands = stands
   decided_stands Compute removal kind stands = chosen_stands removal kind stands.1
 
-  offering_stands : (task : Task) (gap : Gap) (kind : OpKind) → IsComputer task → IsGap gap → IsStandingState task (offered gap kind)
+  offering_stands : (task : Task) (gap : Gap) (kind : OpKind) → IsComputer task → IsGap gap → IsValidState task (offered gap kind)
   offering_stands Get gap kind is within = absurd is
   offering_stands (Insert replace) gap kind is within = absurd is
   offering_stands RemoveIf gap kind is within = absurd is
   offering_stands Compute gap kind is within = offered_stands gap kind within
 
-  providing_stands : (task : Task) (purpose : Purpose) (n : ℕ) → IsComputer task → IsPurpose purpose → n < 2 ^ 48 → IsStandingState task (provides purpose n)
+  providing_stands : (task : Task) (purpose : Purpose) (n : ℕ) → IsComputer task → IsPurpose purpose → n < 2 ^ 48 → IsValidState task (provides purpose n)
   providing_stands Get purpose n is within fit = absurd is
   providing_stands (Insert replace) purpose n is within fit = absurd is
   providing_stands RemoveIf purpose n is within fit = absurd is
   providing_stands Compute purpose n is within fit = provides_stands purpose n within fit
 
-  paired_stands : (grown : Grown) (purpose : Purpose) (n : ℕ) → n < 2 ^ 48 → IsStandingState m.task (Pairing purpose)
-      → IsStandingState m.task (paired grown purpose n)
+  paired_stands : (grown : Grown) (purpose : Purpose) (n : ℕ) → n < 2 ^ 48 → IsValidState m.task (Pairing purpose)
+      → IsValidState m.task (paired grown purpose n)
   paired_stands (On made) purpose n fit stands = stands
   paired_stands (Pair made) purpose n fit stands = providing_stands m.task purpose n stands.0 stands.1 fit
 
@@ -426,7 +426,7 @@ module _ (m : Machine) (held : IsRemembered m.remembered) where
   paired_fits (On made) purpose n fit = held
   paired_fits (Pair made) purpose n fit = pair_stands m.remembered purpose n held fit
 
-  yes_stands : (same : Bool) (state : State) → IsStandingState m.task state → IsStandingState m.task (at_yes m same state)
+  yes_stands : (same : Bool) (state : State) → IsValidState m.task state → IsValidState m.task (at_yes m same state)
   yes_stands same (Searching search) stands = goes_stands m.task m.mode m.remembered (search_compared search same) held (compared_seen search same stands)
   yes_stands same (Showing removal) stands = judged_stands m.task removal same stands
   yes_stands same AtRoot stands = stands
@@ -444,8 +444,8 @@ module _ (m : Machine) (held : IsRemembered m.remembered) where
   yes_stands same (Growing table) stands = stands
   yes_stands same (Ended reply) stands = stands
 
-  size_stands : (slots limit : ℕ) → IsSize slots limit → (state : State) → IsStandingState m.task state
-      → IsStandingState m.task (at_size m.hash slots limit state)
+  size_stands : (slots limit : ℕ) → IsSize slots limit → (state : State) → IsValidState m.task state
+      → IsValidState m.task (at_size m.hash slots limit state)
   size_stands slots limit size (Searching (Sizing table))
       stands = record { size = size; len = omega arith; i = mod-lt (m.hash + triangular 0) (some_slots slots limit size) }
   size_stands slots limit size (Searching (Looking at)) stands = stands
@@ -467,7 +467,7 @@ module _ (m : Machine) (held : IsRemembered m.remembered) where
   size_stands slots limit size (Growing table) stands = stands
   size_stands slots limit size (Ended reply) stands = stands
 
-  ok_stands : (state : State) → IsStandingState m.task state → IsStandingState m.task (at_ok state)
+  ok_stands : (state : State) → IsValidState m.task state → IsValidState m.task (at_ok state)
   ok_stands (Counting pair) stands = stands
   ok_stands (Noting pair) stands = tt
   ok_stands (Uncounting pair) stands = tt
@@ -485,9 +485,9 @@ module _ (m : Machine) (held : IsRemembered m.remembered) where
   ok_stands (Growing table) stands = stands
   ok_stands (Ended reply) stands = stands
 
-  refused_stands : (made : Made) (refused : _) (state : State) → IsStandingState m.task state → IsStandingState m.task (at_refused made refused state)
+  refused_stands : (made : Made) (refused : _) (state : State) → IsValidState m.task state → IsValidState m.task (at_refused made refused state)
   refused_stands made refused Making stands = tt
-  refused_stands made refused (Writing write) stands = refuses_leads (IsStandingState m.task) write refused stands tt (serves made write)
+  refused_stands made refused (Writing write) stands = refuses_leads (IsValidState m.task) write refused stands tt (serves made write)
   refused_stands made refused AtRoot stands = stands
   refused_stands made refused (Opening table) stands = stands
   refused_stands made refused (Searching search) stands = stands
@@ -598,7 +598,7 @@ module _ (m : Machine) (held : IsRemembered m.remembered) where
   op_made_fits made kind (Growing table) is = is
   op_made_fits made kind (Ended reply) is = is
 
-  made_stands : (n : ℕ) → n < 2 ^ 48 → (state : State) → IsStandingState m.task state → IsStandingState m.task (state_in m.made n state)
+  made_stands : (n : ℕ) → n < 2 ^ 48 → (state : State) → IsValidState m.task state → IsValidState m.task (state_in m.made n state)
   made_stands n fit Making stands = stands
   made_stands n fit AtRoot stands = stands
   made_stands n fit (Opening table) stands = stands
@@ -616,7 +616,7 @@ module _ (m : Machine) (held : IsRemembered m.remembered) where
   made_stands n fit (Growing table) stands = stands
   made_stands n fit (Ended reply) stands = stands
 
-  op_stands : (kind : OpKind) (state : State) → IsStandingState m.task state → IsStandingState m.task (at_op m.task kind state)
+  op_stands : (kind : OpKind) (state : State) → IsValidState m.task state → IsValidState m.task (at_op m.task kind state)
   op_stands kind AtRoot stands = stands
   op_stands kind Making stands = stands
   op_stands kind (Opening table) stands = stands
@@ -677,7 +677,7 @@ module _ (m : Machine) (held : IsRemembered m.remembered) where
   held_fits n fit (Ended reply) = held
 
 -- after each answer
-pub machine_stands : (m : Machine) (answer : Answer) → IsStanding m → IsFit answer → IsStanding (after m answer)
+pub machine_stands : (m : Machine) (answer : Answer) → IsValid m → IsFit answer → IsValid (after m answer)
 machine_stands m (Word_read word) stands
     fit = record {
       made = word_fits m stands.remembered m.made word m.state stands.made;

@@ -57,11 +57,11 @@ IsMaking answer = ((n : ℕ) × (answer ≡ Made_number n))
 
 -- the closure of a removal returns whether the pair is to be removed, and that of a compute an
 -- operation
-abbrev pub IsSaying : Task → Answer → Type 0
-IsSaying Get answer = ⊥
-IsSaying (Insert replace) answer = ⊥
-IsSaying RemoveIf answer = (agrees : Bool) × (answer ≡ Yes agrees)
-IsSaying Compute answer = (kind : OpKind) × (answer ≡ Op kind)
+abbrev pub IsClosureAnswer : Task → Answer → Type 0
+IsClosureAnswer Get answer = ⊥
+IsClosureAnswer (Insert replace) answer = ⊥
+IsClosureAnswer RemoveIf answer = (agrees : Bool) × (answer ≡ Yes agrees)
+IsClosureAnswer Compute answer = (kind : OpKind) × (answer ≡ Op kind)
 
 -- An ask of such a task is answered by the words, and only its own exchange changes them.
 abbrev pub IsPrompt : Task → (At → ℕ) → Ask → Answer → (At → ℕ) → Type 0
@@ -74,8 +74,8 @@ IsPrompt task words (LoadHint t x) answer words' = ((hint : ℕ) × (answer ≡ 
 IsPrompt task words (WriteHint t x hint) answer words' = (answer ≡ Ok_done) × IsSame words words'
 IsPrompt task words (SameKey n) answer words' = ((same : Bool) × (answer ≡ Yes same))
     × IsSame words words'
-IsPrompt task words ShowNone answer words' = IsSaying Compute answer × IsSame words words'
-IsPrompt task words (ShowPair n) answer words' = IsSaying task answer × IsSame words words'
+IsPrompt task words ShowNone answer words' = IsClosureAnswer Compute answer × IsSame words words'
+IsPrompt task words (ShowPair n) answer words' = IsClosureAnswer task answer × IsSame words words'
 IsPrompt task words (SizeOf t) answer words' =
     ((slots : ℕ) × (limit : ℕ) × IsSize slots limit × (answer ≡ Size slots limit))
     × IsSame words words'
@@ -145,13 +145,13 @@ left_to_number Wanted = 2
 left_to_number (Free count) = 1
 left_to_number Taken = 0
 
-abbrev pub left_to_log : Bool → ℕ
-left_to_log true = 0
-left_to_log false = 1
+abbrev pub left_to_push : Bool → ℕ
+left_to_push true = 0
+left_to_push false = 1
 
 abbrev pub left_to_pair : Made → (old : ℕ) → ℕ
-left_to_pair made old = left_to_number made.number + left_to_log made.valued
-    + (if old == 0 then left_to_log made.keyed else 0) + 1
+left_to_pair made old = left_to_number made.number + left_to_push made.valued
+    + (if old == 0 then left_to_push made.keyed else 0) + 1
 
 -- how many steps are left to a write: its pair, the exchange, the count and the hint
 abbrev pub left_to_serve_with : Option ℕ → Made → (old : ℕ) → ℕ

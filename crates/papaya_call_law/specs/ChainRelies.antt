@@ -15,7 +15,7 @@ use Rattle.papaya_words_law.specs.Code.{Coding}
 use Rattle.papaya_words_law.specs.Exchange.{Setting, State, Exchange, run, start}
 use Rattle.papaya_call_law.specs.Copier.{ReliesCopying, ReliesLink, aim_of}
 use Rattle.papaya_call_law.specs.Relies as calls
-use Rattle.papaya_call_law.specs.ChainTold.{LoadedPairs}
+use Rattle.papaya_call_law.specs.ChainAnswers.{LoadedPairs}
 
 -- the table from which a call in this state goes on, if it is set aside
 abbrev pub left_by : Stage → Option ℕ

@@ -47,7 +47,7 @@ use Rattle.papaya_words_law.specs.Exchange.{Advance, Promote, Abort}
 use Rattle.papaya_words_law.specs.Invariant.{named}
 use Rattle.papaya_words_law.specs.Later.{Becomes}
 use Rattle.papaya_words_law.specs.View.{look, HasWord}
-use Rattle.papaya_call_law.specs.Told.{or_last}
+use Rattle.papaya_call_law.specs.TrueAnswers.{or_last}
 
 -- a table that was made has a greater number than the one before it
 abbrev pub Rises_to : Link → Type 0

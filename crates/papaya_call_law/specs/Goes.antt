@@ -59,7 +59,7 @@ pub record HasEntered (m : Machine) (answer : Answer) : Type 0 where
   pub call : (after m answer).call ≡ record m.call { state = Searching (Sizing table) }
 
 -- the call was set aside, and now begins again, with this root
-pub record HasBegunAnew (m : Machine) (answer : Answer) : Type 0 where
+pub record HasRestarted (m : Machine) (answer : Answer) : Type 0 where
   pub from : ℕ
   pub left : left_by m.call.state ≡ Some from
   pub root : ℕ
@@ -76,7 +76,7 @@ pub record WasRefused (m : Machine) (answer : Answer) : Type 0 where
 -- an answer is the call's own; or the call is set aside, and waits, goes on or ends
 abbrev pub Goes : Machine → Answer → Type 0
 Goes m answer = IsWaiting m answer ⊎ IsOwnStep m answer ⊎ HasEntered m answer
-    ⊎ HasBegunAnew m answer ⊎ WasRefused m answer
+    ⊎ HasRestarted m answer ⊎ WasRefused m answer
 
 -- the change that a call has made after an answer to one of its asks, if `before` was its change
 -- until then; no copy changes the map

@@ -1,5 +1,5 @@
 -- what an answer says, what a machine relies on, and on which results of its closure it acts
-pub mod Told
+pub mod TrueAnswers
 pub mod Relies
 pub mod Says
 -- which tables it names, and what it has yet to count
@@ -11,7 +11,7 @@ pub mod Alone
 -- what a copier relies on
 pub mod Copier
 -- what an answer says, and what a call over a chain of tables relies on
-pub mod ChainTold
+pub mod ChainAnswers
 pub mod ChainRelies
 -- what an answer does to its call
 pub mod Goes
@@ -20,6 +20,6 @@ pub mod Resizers
 -- a call that scans a table: which exchanges take a pair out of the map, what an answer tells it,
 -- what it relies on, what an answer did, and why it is refused
 pub mod ScanTaken
-pub mod ScanTold
+pub mod ScanAnswers
 pub mod Scans
 pub mod ScanOutcomes

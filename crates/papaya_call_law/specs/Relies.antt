@@ -51,7 +51,7 @@ use Rattle.papaya_words_law.specs.Later.{Becomes, IsOfKey}
 use Rattle.papaya_words_law.specs.Code.{Coding, code}
 use Rattle.papaya_words_law.specs.Hints.{IsHint}
 use Rattle.papaya_call.specs.Machine.{HasClosure, IsComputer, MayInsert, ask_of}
-use Rattle.papaya_call_law.specs.Told.{IsOneOf, LoadedPairs}
+use Rattle.papaya_call_law.specs.TrueAnswers.{IsOneOf, LoadedPairs}
 
 -- the machine resizes as the setting does
 abbrev pub IsModeOf : ResizeMode → Bool → Type 0

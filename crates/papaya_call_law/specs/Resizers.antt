@@ -24,7 +24,7 @@ use Rattle.papaya_words_law.specs.Code.{Coding}
 use Rattle.papaya_words_law.specs.Exchange.{Setting, State, Exchange, Open}
 use Rattle.papaya_call_law.specs.Copier.{IsCopyAsked, ReliesCopying, ReliesLink, aim_of, link_in_copying}
 use Rattle.papaya_call_law.specs.Relies.{IsCutAs, IsModeOf}
-use Rattle.papaya_call_law.specs.ChainTold.{IsCopyTold, LoadedPairs, Quiet}
+use Rattle.papaya_call_law.specs.ChainAnswers.{IsTrueOfCopy, LoadedPairs, Quiet}
 
 -- the copy is one of a chunk or of all, after which no key is searched for
 abbrev pub IsOwnAim : Aim → Type 0
@@ -52,19 +52,19 @@ module _ {K P : Type 0} (g : Setting K P) (c : Coding K P) (s : State P) where
     pub stage : ReliesStage loaded resizer.state
 
   -- a first table is opened if there is no root
-  abbrev pub IsOpenTold : (table : ℕ) → LoadedPairs P → Answer → List (Exchange P) → LoadedPairs P
+  abbrev pub IsTrueOfOpen : (table : ℕ) → LoadedPairs P → Answer → List (Exchange P) → LoadedPairs P
       → Type 0
-  IsOpenTold table loaded answer es loaded' = MatchBool (s.root == 0)
+  IsTrueOfOpen table loaded answer es loaded' = MatchBool (s.root == 0)
       ((answer ≡ answers.Call Exchanged) × (es ≡ Open table ∷ []) × (loaded' ≡ loaded))
       ((answer ≡ answers.Call (Found_instead s.root)) × Quiet g c loaded es loaded')
 
   -- The answer to a resizer's ask is true of the words in s, and `es` has the exchange, if one was
   -- made. The ask is to open a table, or one that a copy makes.
-  abbrev pub IsStageTold : Stage → LoadedPairs P → Answer → List (Exchange P) → LoadedPairs P
+  abbrev pub IsTrueOfStage : Stage → LoadedPairs P → Answer → List (Exchange P) → LoadedPairs P
       → Type 0
-  IsStageTold (Opening table) loaded answer es loaded' = IsOpenTold table loaded answer es loaded'
-  IsStageTold stage loaded answer es loaded' = (ask : CopyAsk) × (asks_in stage ≡ Some ask)
-      × IsCopyTold g c s (kind_in stage) (follows_in stage) loaded ask answer es loaded'
+  IsTrueOfStage (Opening table) loaded answer es loaded' = IsTrueOfOpen table loaded answer es loaded'
+  IsTrueOfStage stage loaded answer es loaded' = (ask : CopyAsk) × (asks_in stage ≡ Some ask)
+      × IsTrueOfCopy g c s (kind_in stage) (follows_in stage) loaded ask answer es loaded'
 
   -- the exchange of the law for which a resizer asks
   abbrev pub IsStageAsked : Stage → At → ℕ → LoadedPairs P → Exchange P → Type 0
@@ -107,8 +107,8 @@ pub record WouldBeTooLong (resizer : Resizer) (answer : Answer) (refused : Refus
 
 -- the answer says that there is no root, and `count` is 0; or it says that the map counts `count`
 -- pairs
-abbrev pub IsCountTold : Answer → (count : ℕ) → Type 0
-IsCountTold answer count = ((answer ≡ answers.Call (Word_read 0)) × (count ≡ 0))
+abbrev pub IsTrueOfCount : Answer → (count : ℕ) → Type 0
+IsTrueOfCount answer count = ((answer ≡ answers.Call (Word_read 0)) × (count ≡ 0))
     ⊎ (answer ≡ answers.Count count)
 
 -- room was reserved for more pairs than a table may have slots for
@@ -117,7 +117,7 @@ pub record IsTooMuchRoom (resizer : Resizer) (answer : Answer) (refused : Refuse
   pub more : ℕ
   pub resize : resizer.resize ≡ Reserve more
   pub count : ℕ
-  pub counts : IsCountTold answer count
+  pub counts : IsTrueOfCount answer count
   pub long : 2 ^ 32 < entries_of (count + more)
 
 -- why an answer ends a resizer with a refusal

@@ -23,82 +23,82 @@ use Rattle.papaya_call.specs.Machine.{after, ask_of, kind_of_ask}
 
 -- A result of a closure. The closure was called with None if its key was absent, and otherwise with
 -- the pair of this number.
-pub data Said : Type 0 where
+pub data ClosureResult : Type 0 where
   -- called with pair n, it returned whether the pair is to be removed
-  Agrees : (n : ℕ) (agrees : Bool) → Said
+  Agrees : (n : ℕ) (agrees : Bool) → ClosureResult
   -- called with `shown`, it returned a value to store, of which a pair is yet to be made
-  Inserts : (shown : Option ℕ) → Said
+  Inserts : (shown : Option ℕ) → ClosureResult
   -- called with `shown`, it returned a value to store, of which pair n was made
-  Makes : (shown : Option ℕ) (n : ℕ) → Said
+  Makes : (shown : Option ℕ) (n : ℕ) → ClosureResult
   -- called with pair n, it returned that the pair is to be removed
-  Removes : (n : ℕ) → Said
+  Removes : (n : ℕ) → ClosureResult
 
 -- the pair that the old word of a write names, None if the word is 0
 abbrev pub shown_by : ℕ → Option ℕ
 shown_by old = if old == 0 then None else Some (pair_of old)
 
 -- the result of the closure on which a reply is based
-abbrev pub said_of_removal : Reply → Option Said
-said_of_removal (Removed n) = Some (Agrees n true)
-said_of_removal (Kept n) = Some (Agrees n false)
-said_of_removal _ = None
+abbrev pub result_of_removal : Reply → Option ClosureResult
+result_of_removal (Removed n) = Some (Agrees n true)
+result_of_removal (Kept n) = Some (Agrees n false)
+result_of_removal _ = None
 
-abbrev pub said_of_compute : Reply → Option Said
-said_of_compute (Inserted n) = Some (Makes None n)
-said_of_compute (Replaced m n) = Some (Makes (Some m) n)
-said_of_compute (Removed n) = Some (Removes n)
-said_of_compute _ = None
+abbrev pub result_of_compute : Reply → Option ClosureResult
+result_of_compute (Inserted n) = Some (Makes None n)
+result_of_compute (Replaced m n) = Some (Makes (Some m) n)
+result_of_compute (Removed n) = Some (Removes n)
+result_of_compute _ = None
 
 -- the result of the closure on which the removal of pair n is based
-abbrev pub said_to_remove : Task → ℕ → Option Said
-said_to_remove Get n = None
-said_to_remove (Insert replace) n = None
-said_to_remove RemoveIf n = Some (Agrees n true)
-said_to_remove Compute n = Some (Removes n)
+abbrev pub result_to_remove : Task → ℕ → Option ClosureResult
+result_to_remove Get n = None
+result_to_remove (Insert replace) n = None
+result_to_remove RemoveIf n = Some (Agrees n true)
+result_to_remove Compute n = Some (Removes n)
 
-abbrev pub said_in_reply : Task → Reply → Option Said
-said_in_reply Get reply = None
-said_in_reply (Insert replace) reply = None
-said_in_reply RemoveIf reply = said_of_removal reply
-said_in_reply Compute reply = said_of_compute reply
+abbrev pub result_in_reply : Task → Reply → Option ClosureResult
+result_in_reply Get reply = None
+result_in_reply (Insert replace) reply = None
+result_in_reply RemoveIf reply = result_of_removal reply
+result_in_reply Compute reply = result_of_compute reply
 
 -- the same for a pair that was claimed; an insertion has no closure
-abbrev pub said_to_claim : Task → ℕ → Option Said
-said_to_claim Compute n = Some (Makes None n)
-said_to_claim _ n = None
+abbrev pub result_to_claim : Task → ℕ → Option ClosureResult
+result_to_claim Compute n = Some (Makes None n)
+result_to_claim _ n = None
 
-abbrev pub said_for : Purpose → Option Said
-said_for (Fill gap) = Some (Inserts None)
-said_for (Replace write) = Some (Inserts (Some (pair_of write.old)))
+abbrev pub result_for : Purpose → Option ClosureResult
+result_for (Fill gap) = Some (Inserts None)
+result_for (Replace write) = Some (Inserts (Some (pair_of write.old)))
 -- what it returned for this pair before is remembered
-said_for (Again write) = None
+result_for (Again write) = None
 
 -- the result of the closure on which the rest of a call in this state is based
-abbrev pub said_in : Task → State → Option Said
-said_in task (Pairing purpose) = said_for purpose
-said_in task (Putting put) = Some (Makes (shown_by put.write.old) put.pair)
-said_in task (Burying removal) = said_to_remove task (pair_of removal.word)
-said_in task (Counting claimed) = said_to_claim task claimed.pair
-said_in task (Noting claimed) = said_to_claim task claimed.pair
-said_in task (Uncounting n) = said_to_remove task n
-said_in task (Ended reply) = said_in_reply task reply
-said_in task _ = None
+abbrev pub result_in : Task → State → Option ClosureResult
+result_in task (Pairing purpose) = result_for purpose
+result_in task (Putting put) = Some (Makes (shown_by put.write.old) put.pair)
+result_in task (Burying removal) = result_to_remove task (pair_of removal.word)
+result_in task (Counting claimed) = result_to_claim task claimed.pair
+result_in task (Noting claimed) = result_to_claim task claimed.pair
+result_in task (Uncounting n) = result_to_remove task n
+result_in task (Ended reply) = result_in_reply task reply
+result_in task _ = None
 
 -- the same for what a machine remembers
-abbrev pub said_to_fill : Option ℕ → Option Said
-said_to_fill None = None
-said_to_fill (Some n) = Some (Makes None n)
+abbrev pub result_to_fill : Option ℕ → Option ClosureResult
+result_to_fill None = None
+result_to_fill (Some n) = Some (Makes None n)
 
-abbrev pub said_to_choose : Option Choice → Option Said
-said_to_choose None = None
-said_to_choose (Some (To_replace old new)) = Some (Makes (Some old) new.pair)
-said_to_choose (Some (To_remove old)) = Some (Removes old)
+abbrev pub result_to_choose : Option Choice → Option ClosureResult
+result_to_choose None = None
+result_to_choose (Some (To_replace old new)) = Some (Makes (Some old) new.pair)
+result_to_choose (Some (To_remove old)) = Some (Removes old)
 
 -- the machine acts on this result of its closure, by its state or by what it remembers
-abbrev pub StandsOn : Machine → Said → Type 0
-StandsOn m said = (said_in m.task m.state ≡ Some said)
-    ⊎ (said_to_fill m.remembered.fill ≡ Some said)
-    ⊎ (said_to_choose m.remembered.choice ≡ Some said)
+abbrev pub ActsOn : Machine → ClosureResult → Type 0
+ActsOn m said = (result_in m.task m.state ≡ Some said)
+    ⊎ (result_to_fill m.remembered.fill ≡ Some said)
+    ⊎ (result_to_choose m.remembered.choice ≡ Some said)
 
 -- The word of a pair with which the closure was called is not 0. If a pair is made again, what the
 -- closure returned for the old pair is remembered.
@@ -109,13 +109,13 @@ IsToPair choice (Again write) = (0 < write.old)
     × ((new : Of) × (choice ≡ Some (To_replace (pair_of write.old) new)))
 
 -- the same in a state that is about to call the closure with a pair, or in which a pair is made
-abbrev pub ShowsIn : Option Choice → State → Type 0
-ShowsIn choice (Showing removal) = 0 < removal.word
-ShowsIn choice (Pairing purpose) = IsToPair choice purpose
-ShowsIn choice _ = Unit {0}
+abbrev pub NamesPairIn : Option Choice → State → Type 0
+NamesPairIn choice (Showing removal) = 0 < removal.word
+NamesPairIn choice (Pairing purpose) = IsToPair choice purpose
+NamesPairIn choice _ = Unit {0}
 
-abbrev pub ShowsPairs : Machine → Type 0
-ShowsPairs m = ShowsIn m.remembered.choice m.state
+abbrev pub NamesPairs : Machine → Type 0
+NamesPairs m = NamesPairIn m.remembered.choice m.state
 
 -- a pair is being made of what the closure returned last, or the call is over
 abbrev pub IsAnswered : State → Type 0
@@ -142,32 +142,32 @@ show None = ShowNone
 show (Some n) = ShowPair n
 
 -- called with `shown`, the closure returned a value to store, and a pair was made of it or not yet
-abbrev pub WasSaid : Machine → Option ℕ → Type 0
-WasSaid m shown = StandsOn m (Inserts shown) ⊎ ((n : ℕ) × StandsOn m (Makes shown n))
+abbrev pub WasReturned : Machine → Option ℕ → Type 0
+WasReturned m shown = ActsOn m (Inserts shown) ⊎ ((n : ℕ) × ActsOn m (Makes shown n))
 
 -- the answer to the machine's ask gives this result of the closure, or makes the pair of an earlier
 -- result
-abbrev pub IsSaidBy : Machine → Answer → Said → Type 0
-IsSaidBy m answer (Agrees n agrees) = (ask_of m ≡ ShowPair n) × (answer ≡ Yes agrees)
-IsSaidBy m answer (Inserts shown) = (ask_of m ≡ show shown) × (answer ≡ Op ops.Insert)
-IsSaidBy m answer (Makes shown n) = WasSaid m shown × MakesPair (ask_of m) × (answer ≡ Made n)
-IsSaidBy m answer (Removes n) = (ask_of m ≡ ShowPair n) × (answer ≡ Op ops.Remove)
+abbrev pub IsResultBy : Machine → Answer → ClosureResult → Type 0
+IsResultBy m answer (Agrees n agrees) = (ask_of m ≡ ShowPair n) × (answer ≡ Yes agrees)
+IsResultBy m answer (Inserts shown) = (ask_of m ≡ show shown) × (answer ≡ Op ops.Insert)
+IsResultBy m answer (Makes shown n) = WasReturned m shown × MakesPair (ask_of m) × (answer ≡ Made n)
+IsResultBy m answer (Removes n) = (ask_of m ≡ ShowPair n) × (answer ≡ Op ops.Remove)
 
 -- the machine acts on a pair for an absent key, and `said` is this result
-abbrev pub KeepsFill : Machine → Said → Type 0
-KeepsFill m said = (i : ℕ) × (said ≡ Makes None i) × StandsOn m said
+abbrev pub KeepsFill : Machine → ClosureResult → Type 0
+KeepsFill m said = (i : ℕ) × (said ≡ Makes None i) × ActsOn m said
 
 -- a pair that was made of what the closure returned for None is the pair for an absent key, and the
 -- machine acts on nothing else: no pair with which the closure was called before comes again
 abbrev pub IsFilledBy : Machine → ℕ → Type 0
-IsFilledBy m n = StandsOn m (Inserts None) × ((said : Said) → StandsOn (after m (Made n)) said
+IsFilledBy m n = ActsOn m (Inserts None) × ((said : ClosureResult) → ActsOn (after m (Made n)) said
     → said ≡ Makes None n)
 
 -- a pair that was made of what the closure returned for a pair takes the place of any older result
 -- for a pair; the pair for an absent key stays
 abbrev pub IsReplacedBy : Machine → ℕ → Type 0
-IsReplacedBy m n = (i : ℕ) × WasSaid m (Some i)
-    × ((said : Said) → StandsOn (after m (Made n)) said
+IsReplacedBy m n = (i : ℕ) × WasReturned m (Some i)
+    × ((said : ClosureResult) → ActsOn (after m (Made n)) said
     → (said ≡ Makes (Some i) n) ⊎ KeepsFill m said)
 
 -- what a compute acts on once pair n was made
@@ -175,24 +175,24 @@ abbrev pub IsPaired : Machine → ℕ → Type 0
 IsPaired m n = IsFilledBy m n ⊎ IsReplacedBy m n
 
 -- the exchange of a slot, of pair `old` for pair `new`, is what the closure of a compute returned
-abbrev pub IsSaidExchange : Machine → (old new : ℕ) → Type 0
-IsSaidExchange m old new =
-    ((kind_of_ask m ≡ Some kinds.Claim) × StandsOn m (Makes None new))
-    ⊎ ((kind_of_ask m ≡ Some kinds.Replace) × StandsOn m (Makes (Some old) new))
-    ⊎ ((kind_of_ask m ≡ Some kinds.Bury) × StandsOn m (Removes old))
+abbrev pub IsResultExchange : Machine → (old new : ℕ) → Type 0
+IsResultExchange m old new =
+    ((kind_of_ask m ≡ Some kinds.Claim) × ActsOn m (Makes None new))
+    ⊎ ((kind_of_ask m ≡ Some kinds.Replace) × ActsOn m (Makes (Some old) new))
+    ⊎ ((kind_of_ask m ≡ Some kinds.Bury) × ActsOn m (Removes old))
 
 -- the change of a call with a closure, from `old` to `new`, is what the closure returned
-abbrev pub IsSaidChange : Task → Machine → (old new : Option ℕ) → Type 0
-IsSaidChange Get m old new = ⊥
-IsSaidChange (Insert replace) m old new = Unit {0}
-IsSaidChange RemoveIf m (Some n) None = StandsOn m (Agrees n true)
-IsSaidChange RemoveIf m (Some n) (Some q) = ⊥
-IsSaidChange RemoveIf m None new = ⊥
-IsSaidChange Compute m old (Some n) = StandsOn m (Makes old n)
-IsSaidChange Compute m (Some n) None = StandsOn m (Removes n)
-IsSaidChange Compute m None None = ⊥
+abbrev pub IsResultChange : Task → Machine → (old new : Option ℕ) → Type 0
+IsResultChange Get m old new = ⊥
+IsResultChange (Insert replace) m old new = Unit {0}
+IsResultChange RemoveIf m (Some n) None = ActsOn m (Agrees n true)
+IsResultChange RemoveIf m (Some n) (Some q) = ⊥
+IsResultChange RemoveIf m None new = ⊥
+IsResultChange Compute m old (Some n) = ActsOn m (Makes old n)
+IsResultChange Compute m (Some n) None = ActsOn m (Removes n)
+IsResultChange Compute m None None = ⊥
 
--- a pair for an absent key is remembered; `HasShownNone` says that the closure was called with
+-- a pair for an absent key is remembered; `HasCalledNone` says that the closure was called with
 -- None, or never will be
 abbrev pub IsFilled : Option ℕ → Type 0
 IsFilled None = ⊥
@@ -203,8 +203,8 @@ IsToFill (Fill gap) fill = Unit {0}
 IsToFill (Replace write) fill = IsFilled fill
 IsToFill (Again write) fill = IsFilled fill
 
-abbrev pub HasShownNone : Option ℕ → State → Type 0
-HasShownNone fill (Offering gap) = ⊥
-HasShownNone fill (Pairing purpose) = IsToFill purpose fill
-HasShownNone fill (Ended reply) = Unit {0}
-HasShownNone fill _ = IsFilled fill
+abbrev pub HasCalledNone : Option ℕ → State → Type 0
+HasCalledNone fill (Offering gap) = ⊥
+HasCalledNone fill (Pairing purpose) = IsToFill purpose fill
+HasCalledNone fill (Ended reply) = Unit {0}
+HasCalledNone fill _ = IsFilled fill

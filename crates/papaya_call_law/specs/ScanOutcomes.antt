@@ -41,16 +41,16 @@ pub record IsScanCause (scanner : Scanner) (answer : Answer) (refused : Cause) :
       ⊎ WouldBeTooLong (resizer_of scanner stage) answer refused
 
 -- the scanner scans the root of these words, or is about to, and copies nothing
-abbrev pub StandsAtRoot : {P : Type 0} → Words P → ScannerState → Type 0
-StandsAtRoot s (Copying stages.AtRoot) = Unit {0}
-StandsAtRoot s (Copying (stages.Looking root len room)) = s.root ≡ root
-StandsAtRoot s (Copying _) = ⊥
-StandsAtRoot s AtRoot = Unit {0}
-StandsAtRoot s (Sizing table) = s.root ≡ table
-StandsAtRoot s (Looking spot) = s.root ≡ spot.table
-StandsAtRoot s (Giving spot word) = s.root ≡ spot.table
-StandsAtRoot s (Showing spot word) = s.root ≡ spot.table
-StandsAtRoot s (Burying spot word) = s.root ≡ spot.table
-StandsAtRoot s (Uncounting spot) = s.root ≡ spot.table
-StandsAtRoot s Done = Unit {0}
-StandsAtRoot s (Refused refused) = ⊥
+abbrev pub IsAtRoot : {P : Type 0} → Words P → ScannerState → Type 0
+IsAtRoot s (Copying stages.AtRoot) = Unit {0}
+IsAtRoot s (Copying (stages.Looking root len room)) = s.root ≡ root
+IsAtRoot s (Copying _) = ⊥
+IsAtRoot s AtRoot = Unit {0}
+IsAtRoot s (Sizing table) = s.root ≡ table
+IsAtRoot s (Looking spot) = s.root ≡ spot.table
+IsAtRoot s (Giving spot word) = s.root ≡ spot.table
+IsAtRoot s (Showing spot word) = s.root ≡ spot.table
+IsAtRoot s (Burying spot word) = s.root ≡ spot.table
+IsAtRoot s (Uncounting spot) = s.root ≡ spot.table
+IsAtRoot s Done = Unit {0}
+IsAtRoot s (Refused refused) = ⊥

@@ -11,7 +11,7 @@ use Rattle.papaya_words_law.specs.Meaning.{IsAtMoment, map_of}
 use Rattle.papaya_words_law.specs.View.{held, look}
 use Rattle.papaya_call_law.specs.Copier.{AreThere}
 use Rattle.papaya_call_law.specs.Relies.{IsCutAs, IsModeOf}
-use Rattle.papaya_call_law.specs.Told.{IsOneOf}
+use Rattle.papaya_call_law.specs.TrueAnswers.{IsOneOf}
 use Rattle.papaya_call.specs.declared.copy.link.Link.{Link}
 use Rattle.papaya_call_law.specs.Resizers.{IsStageAsked, ReliesStage, link_of}
 use Rattle.papaya_call.specs.declared.chain.ask.ScanAsk.{ScanAsk}
@@ -23,7 +23,7 @@ use Rattle.papaya_call.specs.declared.chain.scanner.Scan.{Scan}
 use Rattle.papaya_call.specs.declared.chain.scanner.Scan.TheVariants.{Clear, Retain, Walk}
 use Rattle.papaya_call.specs.declared.chain.scanner.Scanner.{Scanner}
 use Rattle.papaya_call_law.specs.ScanTaken.{IsTakenOut}
-use Rattle.papaya_call_law.specs.ScanTold.{IsLastAnswer, LoadedPairs, count_of, last_of}
+use Rattle.papaya_call_law.specs.ScanAnswers.{IsLastAnswer, LoadedPairs, count_of, last_of}
 
 -- a search for the key k finds its pair in this slot of the table
 pub record IsHeldIn {K P : Type 0} (g : Setting K P) (s : Words P) (table : ℕ) (k : K)

@@ -4,7 +4,7 @@ ghost use Rattle.std.specs.Prelude.{◌≡◌, ◌⊎◌, ℕ, List, [], Option,
 ghost use Rattle.papaya_words.specs.declared.resize_mode.ResizeMode.{ResizeMode};
 ghost use Rattle.papaya_call.specs.declared.ask.Answer.TheVariants.{Exchanged};
 ghost use Rattle.papaya_call.specs.declared.copy_ask.CopyAsk.TheVariants.{Exchange as Copy_exchange};
-ghost use Rattle.papaya_call.specs.Machine.{IsStanding, ask_of as call_ask_of, kind_of_ask as call_kind};
+ghost use Rattle.papaya_call.specs.Machine.{IsValid, ask_of as call_ask_of, kind_of_ask as call_kind};
 ghost use Rattle.papaya_words_law.specs.Allows.{AllAllowed, Allows};
 ghost use Rattle.papaya_words_law.specs.Class.{IsOn};
 ghost use Rattle.papaya_words_law.specs.Code.{Coding, IsHashed};
@@ -13,12 +13,12 @@ ghost use Rattle.papaya_words_law.specs.Grows.{Agrees};
 ghost use Rattle.papaya_words_law.specs.Hints.{IsHint};
 ghost use Rattle.papaya_call_law.specs.Copier.{AreThere, HasWords, IsCopyAsked};
 ghost use Rattle.papaya_call_law.specs.Relies.{IsCutAs, IsModeOf, Relies as CallRelies, change_in};
-ghost use Rattle.papaya_call_law.specs.Says.{HasShownNone, IsSaidBy, Said, ShowsPairs, StandsOn};
-ghost use Rattle.papaya_call_law.specs.Told.{IsWritten, word_of};
+ghost use Rattle.papaya_call_law.specs.Says.{HasCalledNone, IsResultBy, ClosureResult, NamesPairs, ActsOn};
+ghost use Rattle.papaya_call_law.specs.TrueAnswers.{IsWritten, word_of};
 ghost use Rattle.papaya_call.specs.ChainMachine.{after, ask_of, follows_of, kind_of_ask, started};
 ghost use Rattle.papaya_call_law.specs.Goes.{Goes, IsCause, IsOwnStep, change_by, grown_by, link_in, owed_in};
 ghost use Rattle.papaya_call_law.specs.ChainRelies.{Relies};
-ghost use Rattle.papaya_call_law.specs.ChainTold.{IsTold, LoadedPairs, nothing_loaded};
+ghost use Rattle.papaya_call_law.specs.ChainAnswers.{IsTrueOf, LoadedPairs, nothing_loaded};
 
 use papaya_call::ask::{Answer as CallAnswer, Ask as CallAsk, At, OpKind};
 use papaya_call::call::{Reply, Task};
@@ -96,7 +96,7 @@ pub fn learns<K, P>()
         → Relies g c begun since k m loaded → (answer : Answer)
         → (answer ≡ Answer.Call Exchanged → HasWords g (link_in m.phase))
         → (es : List (Exchange P)) (loaded' : LoadedPairs P)
-        → IsTold g c k (run (begun ++ since) start)
+        → IsTrueOf g c k (run (begun ++ since) start)
         (kind_of_ask m) (follows_of m) loaded (ask_of m) answer es loaded'
         → AllAllowed g start (begun ++ (since ++ es))
         × Relies g c begun (since ++ es) k (after m answer) loaded' }
@@ -110,43 +110,43 @@ pub fn goes<K, P>()
         (m : Machine) (loaded : LoadedPairs P) → Relies g c begun since k m loaded
         → (answer : Answer)
         (es : List (Exchange P)) (loaded' : LoadedPairs P)
-        → IsTold g c k (run (begun ++ since) start)
+        → IsTrueOf g c k (run (begun ++ since) start)
         (kind_of_ask m) (follows_of m) loaded (ask_of m) answer es loaded' → Goes m answer }
     ensures changes { (g : Setting K P) (c : Coding K P) → IsHashed g c
         → (begun since : List (Exchange P)) (k : K) (m : Machine) (loaded : LoadedPairs P)
         → Relies g c begun since k m loaded → (answer : Answer) (es : List (Exchange P))
-        (loaded' : LoadedPairs P) → IsTold g c k (run (begun ++ since) start) (kind_of_ask m)
+        (loaded' : LoadedPairs P) → IsTrueOf g c k (run (begun ++ since) start) (kind_of_ask m)
         (follows_of m) loaded (ask_of m) answer es loaded' → change_in (after m answer).call.state
         ≡ change_by (kind_of_ask m) (ask_of m) answer (change_in m.call.state) }
     ensures counts { (g : Setting K P) (c : Coding K P) (begun since : List (Exchange P)) (k : K)
         (m : Machine) (loaded : LoadedPairs P) → Relies g c begun since k m loaded
         → (answer : Answer)
         (es : List (Exchange P)) (loaded' : LoadedPairs P)
-        → IsTold g c k (run (begun ++ since) start)
+        → IsTrueOf g c k (run (begun ++ since) start)
         (kind_of_ask m) (follows_of m) loaded (ask_of m) answer es loaded'
         → owed_in (ask_of (after m answer)) ≡ grown_by (kind_of_ask m) (ask_of m) answer }
     ensures task { (g : Setting K P) (c : Coding K P) (begun since : List (Exchange P)) (k : K)
         (m : Machine) (loaded : LoadedPairs P) → Relies g c begun since k m loaded
         → (answer : Answer)
         (es : List (Exchange P)) (loaded' : LoadedPairs P)
-        → IsTold g c k (run (begun ++ since) start)
+        → IsTrueOf g c k (run (begun ++ since) start)
         (kind_of_ask m) (follows_of m) loaded (ask_of m) answer es loaded'
         → ((after m answer).call.task ≡ m.call.task) × ((after m answer).call.hash ≡ m.call.hash) }
     ensures words { (g : Setting K P) (c : Coding K P) (begun since : List (Exchange P)) (k : K)
         (m : Machine) (loaded : LoadedPairs P) → Relies g c begun since k m loaded
         → (answer : Answer)
         (es : List (Exchange P)) (loaded' : LoadedPairs P)
-        → IsTold g c k (run (begun ++ since) start)
+        → IsTrueOf g c k (run (begun ++ since) start)
         (kind_of_ask m) (follows_of m) loaded (ask_of m) answer es loaded'
-        → ShowsPairs m.call → ShowsPairs (after m answer).call }
+        → NamesPairs m.call → NamesPairs (after m answer).call }
     ensures says { (g : Setting K P) (c : Coding K P) (begun since : List (Exchange P)) (k : K)
         (m : Machine) (loaded : LoadedPairs P) → Relies g c begun since k m loaded
         → (answer : Answer)
         (es : List (Exchange P)) (loaded' : LoadedPairs P)
-        → IsTold g c k (run (begun ++ since) start)
-        (kind_of_ask m) (follows_of m) loaded (ask_of m) answer es loaded' → IsStanding m.call
-        → ShowsPairs m.call → (said : Said) → StandsOn (after m answer).call said
-        → StandsOn m.call said ⊎ ((own : IsOwnStep m answer) × IsSaidBy m.call own.told said) }
+        → IsTrueOf g c k (run (begun ++ since) start)
+        (kind_of_ask m) (follows_of m) loaded (ask_of m) answer es loaded' → IsValid m.call
+        → NamesPairs m.call → (said : ClosureResult) → ActsOn (after m answer).call said
+        → ActsOn m.call said ⊎ ((own : IsOwnStep m answer) × IsResultBy m.call own.told said) }
 {}
 
 /// States that a closure is called at most once without a pair, however often the call is set
@@ -156,13 +156,13 @@ pub fn once<K, P>()
         (m : Machine) (loaded : LoadedPairs P) → Relies g c begun since k m loaded
         → (answer : Answer)
         (es : List (Exchange P)) (loaded' : LoadedPairs P)
-        → IsTold g c k (run (begun ++ since) start)
+        → IsTrueOf g c k (run (begun ++ since) start)
         (kind_of_ask m) (follows_of m) loaded (ask_of m) answer es loaded'
-        → HasShownNone m.call.remembered.fill m.call.state
+        → HasCalledNone m.call.remembered.fill m.call.state
         → (ask_of m ≡ Ask.Call CallAsk.ShowNone → ⊥)
-        × HasShownNone (after m answer).call.remembered.fill (after m answer).call.state }
+        × HasCalledNone (after m answer).call.remembered.fill (after m answer).call.state }
     ensures shown { (m : Machine) (kind : OpKind) → ask_of m ≡ Ask.Call CallAsk.ShowNone
-        → HasShownNone (after m (Answer.Call (CallAnswer.Op kind))).call.remembered.fill
+        → HasCalledNone (after m (Answer.Call (CallAnswer.Op kind))).call.remembered.fill
         (after m (Answer.Call (CallAnswer.Op kind))).call.state }
 {}
 
@@ -174,7 +174,7 @@ pub fn refusals<K, P>()
         (m : Machine) (loaded : LoadedPairs P) → Relies g c begun since k m loaded
         → (answer : Answer)
         (es : List (Exchange P)) (loaded' : LoadedPairs P)
-        → IsTold g c k (run (begun ++ since) start)
+        → IsTrueOf g c k (run (begun ++ since) start)
         (kind_of_ask m) (follows_of m) loaded (ask_of m) answer es loaded' → (refused : Refused)
         → ((reply : Reply) → ask_of m ≡ Ask.Call (CallAsk.Done reply) → ⊥)
         → ask_of (after m answer) ≡ Ask.Call (CallAsk.Done (Reply.Refused refused))

@@ -26,7 +26,7 @@ ghost use Rattle.papaya_words_law.specs.Invariant.{IsKeeping};
 ghost use Rattle.papaya_call_law.specs.Copier.{AreThere, HasWords, IsCopyAsked, ReliesAim, ReliesCopied, ReliesCopying};
 ghost use Rattle.papaya_call_law.specs.Copier.{aim_of, last_after, link_in_copying, told_last};
 ghost use Rattle.papaya_call_law.specs.Relies.{IsCutAs, IsModeOf};
-ghost use Rattle.papaya_call_law.specs.Told.{IsWritten, word_of};
+ghost use Rattle.papaya_call_law.specs.TrueAnswers.{IsWritten, word_of};
 
 /// States that a copier's facts stay true, whatever others exchange and whichever tables are made.
 pub fn copiers_stable<K, P>()

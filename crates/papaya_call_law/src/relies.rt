@@ -15,14 +15,14 @@ ghost use Rattle.papaya_words_law.specs.Exchange.{Setting, State, Exchange, afte
 ghost use Rattle.papaya_words_law.specs.Further.{coding_with, with_key};
 ghost use Rattle.papaya_words_law.specs.Hints.{IsHint};
 ghost use Rattle.papaya_words_law.specs.Grows.{Agrees};
-ghost use Rattle.papaya_call.specs.Machine.{IsStanding, IsWriter, ask_of, kind_of_ask, after, started};
+ghost use Rattle.papaya_call.specs.Machine.{IsValid, IsWriter, ask_of, kind_of_ask, after, started};
 ghost use Rattle.papaya_call_law.specs.Owed.{owed_by, grows_by};
 ghost use Rattle.papaya_call_law.specs.Relies.{Relies, IsAtLimit, IsModeOf, IsReply, WasAtMoment, change_in, change_of_reply, change_after};
-ghost use Rattle.papaya_call_law.specs.Says.{Agrees as Said_agrees, HasShownNone, HasValue};
-ghost use Rattle.papaya_call_law.specs.Says.{Inserts, IsPaired, IsSaidBy, IsSaidChange};
-ghost use Rattle.papaya_call_law.specs.Says.{IsSaidExchange, KeepsFill, MakesPair};
-ghost use Rattle.papaya_call_law.specs.Says.{Removes, Said, ShowsPairs, StandsOn, said_in, said_in_reply, show};
-ghost use Rattle.papaya_call_law.specs.Told.{IsOneOf, IsAsked, IsTold, IsWritten, LoadedPairs, nothing_loaded, word_of};
+ghost use Rattle.papaya_call_law.specs.Says.{Agrees as Said_agrees, HasCalledNone, HasValue};
+ghost use Rattle.papaya_call_law.specs.Says.{Inserts, IsPaired, IsResultBy, IsResultChange};
+ghost use Rattle.papaya_call_law.specs.Says.{IsResultExchange, KeepsFill, MakesPair};
+ghost use Rattle.papaya_call_law.specs.Says.{Removes, ClosureResult, NamesPairs, ActsOn, result_in, result_in_reply, show};
+ghost use Rattle.papaya_call_law.specs.TrueAnswers.{IsOneOf, IsAsked, IsTrueOf, IsWritten, LoadedPairs, nothing_loaded, word_of};
 ghost use Rattle.papaya_words_law.specs.Code.{IsHashed};
 
 use papaya_call::ask::{Answer, Ask, At, OpKind, StepKind};
@@ -118,7 +118,7 @@ pub fn follows()
         → IsAtTable (told_table (ask_of m) answer table) (after m answer).state }
     ensures named { (m : Machine) (table t : ℕ) → IsAtTable table m.state
         → table_asked (ask_of m) ≡ Some t → t ≡ table }
-    ensures asks { (m : Machine) → IsStanding m → MayAsk m.task (kind_of_ask m) (ask_of m) }
+    ensures asks { (m : Machine) → IsValid m → MayAsk m.task (kind_of_ask m) (ask_of m) }
     ensures opens { (m : Machine) (answer : Answer) (t n : ℕ) → ask_of m ≡ Ask.Exchange At.Root 0 t
         → (answer ≡ Answer.Exchanged) ⊎ ((word : ℕ) × (answer ≡ Answer.Found word))
         → ask_of (after m answer) ≡ Ask.Exchange At.Root 0 n → ⊥ }
@@ -154,43 +154,43 @@ pub fn shows<K, P>()
 /// last. A compute exchanges in a slot only what it keeps.
 pub fn says()
     ensures begins { (task : Task) (hash : ℕ) (mode : ResizeMode) (initial : ℕ) (limit : Option ℕ)
-        (said : Said) → StandsOn (started task hash mode initial limit) said → ⊥ }
-    ensures words { (m : Machine) (answer : Answer) → ShowsPairs m → ShowsPairs (after m answer) }
+        (said : ClosureResult) → ActsOn (started task hash mode initial limit) said → ⊥ }
+    ensures words { (m : Machine) (answer : Answer) → NamesPairs m → NamesPairs (after m answer) }
     ensures values { (m : Machine) (answer : Answer) → HasValue m → HasValue (after m answer) }
-    ensures said { (m : Machine) (answer : Answer) (said : Said) → IsStanding m → ShowsPairs m
-        → StandsOn (after m answer) said → StandsOn m said ⊎ IsSaidBy m answer said }
+    ensures said { (m : Machine) (answer : Answer) (said : ClosureResult) → IsValid m → NamesPairs m
+        → ActsOn (after m answer) said → ActsOn m said ⊎ IsResultBy m answer said }
     ensures pairs { (m : Machine) (n : ℕ) (shown : Option ℕ) → MakesPair (ask_of m)
-        → StandsOn (after m (Answer.Made n)) (Inserts shown) → ⊥ }
-    ensures one { (m : Machine) (shown other : Option ℕ) → StandsOn m (Inserts shown)
-        → StandsOn m (Inserts other) → shown ≡ other }
-    ensures silent { (m : Machine) (shown other : Option ℕ) → StandsOn m (Inserts shown)
+        → ActsOn (after m (Answer.Made n)) (Inserts shown) → ⊥ }
+    ensures one { (m : Machine) (shown other : Option ℕ) → ActsOn m (Inserts shown)
+        → ActsOn m (Inserts other) → shown ≡ other }
+    ensures silent { (m : Machine) (shown other : Option ℕ) → ActsOn m (Inserts shown)
         → ask_of m ≡ show other → ⊥ }
-    ensures chosen { (m : Machine) (n : ℕ) (said : Said) → m.task ≡ Task.Compute
-        → ask_of m ≡ Ask.ShowPair n → StandsOn (after m (Answer.Op OpKind.Remove)) said
+    ensures chosen { (m : Machine) (n : ℕ) (said : ClosureResult) → m.task ≡ Task.Compute
+        → ask_of m ≡ Ask.ShowPair n → ActsOn (after m (Answer.Op OpKind.Remove)) said
         → (said ≡ Removes n) ⊎ KeepsFill m said }
-    ensures paired { (m : Machine) (n : ℕ) → m.task ≡ Task.Compute → IsStanding m
-        → ShowsPairs m → MakesPair (ask_of m) → IsPaired m n }
+    ensures paired { (m : Machine) (n : ℕ) → m.task ≡ Task.Compute → IsValid m
+        → NamesPairs m → MakesPair (ask_of m) → IsPaired m n }
     ensures exchanges { (m : Machine) (t x old new : ℕ) → m.task ≡ Task.Compute → m.hash < 2 ^ 64
-        → IsStanding m → ask_of m ≡ Ask.Exchange (At.Slot t x) old new
-        → IsSaidExchange m (pair_of old) (pair_of new) }
+        → IsValid m → ask_of m ≡ Ask.Exchange (At.Slot t x) old new
+        → IsResultExchange m (pair_of old) (pair_of new) }
     ensures computes { (m : Machine) (n : ℕ) (agrees : Bool) → m.task ≡ Task.Compute
-        → StandsOn m (Said_agrees n agrees) → ⊥ }
+        → ActsOn m (Said_agrees n agrees) → ⊥ }
     ensures fresh { (m : Machine) (shown n : ℕ) (agrees : Bool) → ask_of m ≡ Ask.ShowPair shown
-        → StandsOn m (Said_agrees n agrees) → ⊥ }
-    ensures changes { (m : Machine) (answer : Answer) (old new : Option ℕ) → IsStanding m
+        → ActsOn m (Said_agrees n agrees) → ⊥ }
+    ensures changes { (m : Machine) (answer : Answer) (old new : Option ℕ) → IsValid m
         → change_in m.state ≡ None → change_in (after m answer).state ≡ Some (old, new)
-        → IsSaidChange m.task m old new }
+        → IsResultChange m.task m old new }
     ensures replies { (m : Machine) (reply : Reply) → ask_of m ≡ Ask.Done reply
-        → said_in m.task m.state ≡ said_in_reply m.task reply }
+        → result_in m.task m.state ≡ result_in_reply m.task reply }
     ensures aborts { (m : Machine) (answer : Answer) (with : ℕ)
         → ((reply : Reply) → ask_of m ≡ Ask.Done reply → ⊥)
         → ask_of (after m answer) ≡ Ask.Done (Reply.Aborted with)
         → (shown : Option ℕ) × (ask_of m ≡ show shown) × (answer ≡ Answer.Op (OpKind.Abort with)) }
-    ensures once { (m : Machine) (answer : Answer) → HasShownNone m.remembered.fill m.state
-        → (ask_of m ≡ Ask.ShowNone → ⊥) × HasShownNone (after m answer).remembered.fill
+    ensures once { (m : Machine) (answer : Answer) → HasCalledNone m.remembered.fill m.state
+        → (ask_of m ≡ Ask.ShowNone → ⊥) × HasCalledNone (after m answer).remembered.fill
         (after m answer).state }
     ensures shown { (m : Machine) (kind : OpKind) → ask_of m ≡ Ask.ShowNone
-        → HasShownNone (after m (Answer.Op kind)).remembered.fill (after m (Answer.Op kind)).state }
+        → HasCalledNone (after m (Answer.Op kind)).remembered.fill (after m (Answer.Op kind)).state }
 {}
 
 /// States that a removal is never refused while no table has a next one.
@@ -222,7 +222,7 @@ pub fn learns<K, P>()
     ensures { (g : Setting K P) (c : Coding K P) → IsHashed g c → (begun since : List (Exchange P))
         → AllAllowed g start (begun ++ since) → (k : K) (m : Machine) (loaded : LoadedPairs P)
         → Relies g c begun since k m loaded → (answer : Answer) (es : List (Exchange P))
-        (loaded' : LoadedPairs P) → IsTold g c k (run (begun ++ since) start) (kind_of_ask m) loaded
+        (loaded' : LoadedPairs P) → IsTrueOf g c k (run (begun ++ since) start) (kind_of_ask m) loaded
         (ask_of m) answer es loaded' → AllAllowed g start (begun ++ (since ++ es))
         × Relies g c begun (since ++ es) k (after m answer) loaded' }
 {}
@@ -237,7 +237,7 @@ pub fn replies<K, P>()
     ensures change { (g : Setting K P) (c : Coding K P) → IsHashed g c
         → (begun since : List (Exchange P)) (k : K) (m : Machine) (loaded : LoadedPairs P)
         → Relies g c begun since k m loaded → (s : _) (answer : Answer) (es : List (Exchange P))
-        (loaded' : LoadedPairs P) → IsTold g c k s (kind_of_ask m) loaded (ask_of m) answer es
+        (loaded' : LoadedPairs P) → IsTrueOf g c k s (kind_of_ask m) loaded (ask_of m) answer es
         loaded'
         → change_in (after m answer).state ≡ change_after (kind_of_ask m) (ask_of m) answer
         (change_in m.state) }
@@ -261,7 +261,7 @@ pub fn counts<K, P>()
     ensures { (g : Setting K P) (c : Coding K P) (k : K) (s : _) (m : Machine)
         (loaded : LoadedPairs P)
         (answer : Answer) (es : List (Exchange P)) (loaded' : LoadedPairs P)
-        → IsTold g c k s (kind_of_ask m) loaded (ask_of m) answer es loaded'
+        → IsTrueOf g c k s (kind_of_ask m) loaded (ask_of m) answer es loaded'
         → owed_by (ask_of (after m answer)) ≡ grows_by (kind_of_ask m) (ask_of m) answer }
 {}
 

@@ -15,11 +15,11 @@ ghost use Rattle.papaya_words_law.specs.Hints.{IsHint};
 ghost use Rattle.papaya_words_law.specs.Invariant.{IsKeeping};
 ghost use Rattle.papaya_call_law.specs.Copier.{AreThere, HasWords};
 ghost use Rattle.papaya_call_law.specs.Relies.{IsCutAs, IsModeOf};
-ghost use Rattle.papaya_call_law.specs.Told.{IsWritten, word_of};
+ghost use Rattle.papaya_call_law.specs.TrueAnswers.{IsWritten, word_of};
 ghost use Rattle.papaya_call.specs.Resizer.{after, ask_of, begun, reply_of};
-ghost use Rattle.papaya_call_law.specs.Resizers.{IsResizeCause, IsStageAsked, IsStageTold};
+ghost use Rattle.papaya_call_law.specs.Resizers.{IsResizeCause, IsStageAsked, IsTrueOfStage};
 ghost use Rattle.papaya_call_law.specs.Resizers.{ReliesResizer, link_of};
-ghost use Rattle.papaya_call_law.specs.ChainTold.{LoadedPairs};
+ghost use Rattle.papaya_call_law.specs.ChainAnswers.{LoadedPairs};
 
 use papaya_call::ask::At;
 use papaya_call::chain::ask::Answer;
@@ -72,12 +72,12 @@ pub fn resizers_go_on<K, P>()
         → ReliesResizer g c s resizer loaded → (answer : Answer)
         → (answer ≡ Answer.Call Exchanged → HasWords g (link_of resizer.state))
         → (es : List (Exchange P)) (loaded' : LoadedPairs P)
-        → IsStageTold g c s resizer.state loaded answer es loaded'
+        → IsTrueOfStage g c s resizer.state loaded answer es loaded'
         → AllAllowed g s es × ReliesResizer g c (run es s) (after resizer answer) loaded' }
     ensures refusals { (g : Setting K P) (c : Coding K P) (s : State P) (resizer : Resizer)
         (loaded : LoadedPairs P) → ReliesResizer g c s resizer loaded
         → (answer : Answer) (es : List (Exchange P)) (loaded' : LoadedPairs P)
-        → IsStageTold g c s resizer.state loaded answer es loaded' → (refused : Refused)
+        → IsTrueOfStage g c s resizer.state loaded answer es loaded' → (refused : Refused)
         → reply_of (after resizer answer) ≡ Some (Reply_refused refused)
         → IsResizeCause resizer answer refused }
 {}

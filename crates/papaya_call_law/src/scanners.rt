@@ -16,11 +16,11 @@ ghost use Rattle.papaya_words_law.specs.Hints.{IsHint};
 ghost use Rattle.papaya_words_law.specs.Invariant.{IsKeeping};
 ghost use Rattle.papaya_call_law.specs.Copier.{HasWords};
 ghost use Rattle.papaya_call_law.specs.Relies.{IsCutAs, IsModeOf};
-ghost use Rattle.papaya_call_law.specs.Told.{IsWritten, word_of};
+ghost use Rattle.papaya_call_law.specs.TrueAnswers.{IsWritten, word_of};
 ghost use Rattle.papaya_call.specs.Scanner.{after, ask_of, begun, kind_of_ask, reply_of};
 ghost use Rattle.papaya_call.specs.declared.chain.ask.ScanAsk.TheVariants.{Copy as Copy_ask};
-ghost use Rattle.papaya_call_law.specs.ScanOutcomes.{HasDone, IsScanCause, StandsAtRoot};
-ghost use Rattle.papaya_call_law.specs.ScanTold.{IsScanTold, LoadedPairs, nothing_loaded};
+ghost use Rattle.papaya_call_law.specs.ScanOutcomes.{HasDone, IsScanCause, IsAtRoot};
+ghost use Rattle.papaya_call_law.specs.ScanAnswers.{IsTrueOfScan, LoadedPairs, nothing_loaded};
 ghost use Rattle.papaya_call_law.specs.Scans.{HasCleared, HasRetained, HasWalked};
 ghost use Rattle.papaya_call_law.specs.Scans.{IsNamed, IsScanAsked, ReliesScanner, link_in_scan};
 
@@ -82,7 +82,7 @@ pub fn scanners_learn<K, P>()
         → ReliesScanner g c s m since scanner loaded → (answer : Answer)
         → (answer ≡ Answer.Call Exchanged → HasWords g (link_in_scan scanner.state))
         → (es : List (Exchange P)) (loaded' : LoadedPairs P)
-        → IsScanTold g c (run since s) since scanner.state loaded answer es loaded'
+        → IsTrueOfScan g c (run since s) since scanner.state loaded answer es loaded'
         → AllAllowed g s (since ++ es)
         × ReliesScanner g c s m (since ++ es) (after scanner answer) loaded' }
 {}
@@ -95,13 +95,13 @@ pub fn scanners_do<K, P>()
         (since : List (Exchange P)) (scanner : Scanner) (loaded : LoadedPairs P)
         → ReliesScanner g c s m since scanner loaded
         → (answer : Answer) (es : List (Exchange P)) (loaded' : LoadedPairs P)
-        → IsScanTold g c (run since s) since scanner.state loaded answer es loaded'
+        → IsTrueOfScan g c (run since s) since scanner.state loaded answer es loaded'
         → HasDone g scanner answer es }
     ensures refusals { (g : Setting K P) (c : Coding K P) (s : State P) (m : K → Option P)
         (since : List (Exchange P)) (scanner : Scanner) (loaded : LoadedPairs P)
         → ReliesScanner g c s m since scanner loaded
         → (answer : Answer) (es : List (Exchange P)) (loaded' : LoadedPairs P)
-        → IsScanTold g c (run since s) since scanner.state loaded answer es loaded'
+        → IsTrueOfScan g c (run since s) since scanner.state loaded answer es loaded'
         → (refused : Refused) → reply_of (after scanner answer) ≡ Some (Reply_refused refused)
         → IsScanCause scanner answer refused }
 {}
@@ -110,17 +110,17 @@ pub fn scanners_do<K, P>()
 /// So no table is made for it and it is not refused.
 pub fn scanners_undisturbed<K, P>()
     ensures begins { (s : State P) (scan : Scan) (mode : ResizeMode) (initial number : ℕ)
-        → StandsAtRoot s (begun scan mode initial number).state }
+        → IsAtRoot s (begun scan mode initial number).state }
     ensures stable { (g : Setting K P) (c : Coding K P) (s : State P) (m : K → Option P)
         (since : List (Exchange P)) (scanner : Scanner) (loaded : LoadedPairs P)
         → ReliesScanner g c s m since scanner loaded
-        → (run since s).next (run since s).root ≡ 0 → StandsAtRoot (run since s) scanner.state
+        → (run since s).next (run since s).root ≡ 0 → IsAtRoot (run since s) scanner.state
         → (answer : Answer) (es : List (Exchange P)) (loaded' : LoadedPairs P)
-        → IsScanTold g c (run since s) since scanner.state loaded answer es loaded'
+        → IsTrueOfScan g c (run since s) since scanner.state loaded answer es loaded'
         → ((run (since ++ es) s).next (run (since ++ es) s).root ≡ 0)
-        × StandsAtRoot (run (since ++ es) s) (after scanner answer).state }
+        × IsAtRoot (run (since ++ es) s) (after scanner answer).state }
     ensures unrefused { (s : State P) (scanner : Scanner) (refused : Refused)
-        → StandsAtRoot s scanner.state → reply_of scanner ≡ Some (Reply_refused refused) → ⊥ }
+        → IsAtRoot s scanner.state → reply_of scanner ≡ Some (Reply_refused refused) → ⊥ }
 {}
 
 /// States what a scan has done when it ends. An iteration has returned exactly once each key that

@@ -37,7 +37,7 @@ use Rattle.papaya_core_timeline.specs.Core.{CoreState}
 use Rattle.papaya_core_timeline.specs.Kept.{IsLawfulCore}
 use Rattle.papaya_core_timeline.specs.Resizes.{Resizes}
 use Rattle.papaya_core_timeline.specs.Runs.{Steps}
-use Rattle.papaya_core_timeline.specs.ScanGoes.{Scans, unheard}
+use Rattle.papaya_core_timeline.specs.ScanGoes.{Scans, list_refusal}
 use Rattle.papaya_core_timeline.proofs.StoreLemmas.{LogsOrNot, matched, of_logs, own_logs, part_logs}
 use Rattle.papaya_core.specs.Limits.{IsSpent}
 use Rattle.papaya_core.proofs.NumbersTaken.{spent_by}
@@ -61,7 +61,7 @@ refuses_other most count told (inl memory) e = absurd (cc (memory, e))
 refuses_other most count told (inr (capacity, full)) e = absurd (cc (capacity, e))
 
 -- a scan is told nothing where its list could not grow
-unheard_told : (ask : ScanAsk) (answer : Answer) → unheard ask answer ≡ Some Limit → answer ≡ answers.Call (Was_refused Limit)
+unheard_told : (ask : ScanAsk) (answer : Answer) → list_refusal ask answer ≡ Some Limit → answer ≡ answers.Call (Was_refused Limit)
 unheard_told (scan_asks.Given n) (answers.Call (Was_refused refused)) e = let f : refused ≡ Limit = cc e in ap (λ y. answers.Call (Was_refused y)) f
 unheard_told ask answer e = absurd cc
 

@@ -19,7 +19,7 @@ use Rattle.papaya_core_timeline.specs.Advances.{AddsToShard, Advances}
 use Rattle.papaya_core_timeline.specs.Callers.{call_in, resizer_in, running, scanner_in, scanning, with_work, working}
 use Rattle.papaya_core_timeline.specs.Core.{CoreState}
 use Rattle.papaya_core_timeline.specs.Counted.{IsCounted}
-use Rattle.papaya_core_timeline.specs.Kept.{IsKept, IsLawfulCore, coding_of, low, setting_of}
+use Rattle.papaya_core_timeline.specs.Kept.{IsConsistent, IsLawfulCore, coding_of, low, setting_of}
 use Rattle.papaya_core_timeline.specs.Intends.{KeepsIntents}
 use Rattle.papaya_core_timeline.specs.Moves.{MovesMap}
 use Rattle.papaya_core_timeline.specs.Resizes.{Resizes}
@@ -37,7 +37,7 @@ use Rattle.papaya_core_timeline.proofs.LawfulScans.{lawful_asks, lawful_scan_cau
 use Rattle.papaya_call.specs.declared.chain.ask.ScanAsk.TheVariants as scan_asks
 use Rattle.papaya_call.specs.Scanner as scanner
 use Rattle.papaya_core_store.specs.declared.scans.Scanning.{Scanning}
-use Rattle.papaya_core.specs.Goes.{CallGoes, IsStandingWork, ResizerGoes, ScanGoes, WorkGoes}
+use Rattle.papaya_core.specs.Goes.{CallGoes, IsValidWork, ResizerGoes, ScanGoes, WorkGoes}
 
 -- a resizer that has not ended asks something
 pub unended_asks : (stage : Stage) → resizer.reply_in stage ≡ None → resizer.asks_in stage ≡ None → ⊥
@@ -49,8 +49,8 @@ unended_asks stage going none = absurd cc
 pub work_stands : {K V S A H : Type 0} (eq : K → K → Bool) (input : K → List (List ℕ)) (build : S → H) (write : H → List ℕ → H) (finish : H → ℕ)
     (classes : IsEquivalence eq) (respects : (x y : K) → eq x y ≡ true → input x ≡ input y) (says : Says K V A) (s : CoreState K V S A)
     → IsLawfulCore eq (hash_of input build write finish s.store.hasher) s.store s.callers s.mode → (caller : ℕ) (work : Work K V A)
-    → working s.callers caller ≡ Some work → IsStandingWork work
-work_stands eq input build write finish classes respects says s lawful caller (works.Call r) was = lawful.core.standing caller r (ap call_in was)
+    → working s.callers caller ≡ Some work → IsValidWork work
+work_stands eq input build write finish classes respects says s lawful caller (works.Call r) was = lawful.core.valid caller r (ap call_in was)
 work_stands eq input build write finish classes respects says s lawful caller (works.Resize z) was = lawful.core.resizers caller z (ap resizer_in was)
 work_stands eq input build write finish classes respects says s lawful caller (works.Scan v) was = (
   (lawful.core.scanners caller v (ap scanner_in was)).0,
@@ -143,7 +143,7 @@ module _ {K V S A H : Type 0} (eq : K → K → Bool) (input : K → List (List 
           steps = inr (inl x);
           lawful = record {
             core = core';
-            law = subst (λ y. (es : _) × ((call_traces : _) × IsKept eq (hashes y) s'.mode s'.store s'.callers es call_traces))
+            law = subst (λ y. (es : _) × ((call_traces : _) × IsConsistent eq (hashes y) s'.mode s'.store s'.callers es call_traces))
                 (sym (left eq (hashes s.store.hasher) law refuse s caller s' event reply x refl es call_traces lawful.core kept).hasher_is)
                 (_, (_, resize_kept eq (hashes s.store.hasher) law refuse s caller s' event reply x refl es call_traces lawful.core kept));
           };

@@ -8,7 +8,7 @@ use Rattle.papaya_call.specs.Answers.{Says}
 use Rattle.papaya_call.specs.declared.chain.ask.Ask.TheVariants as asks
 use Rattle.papaya_call.specs.declared.chain.ask.Answer.{Answer}
 use Rattle.papaya_call.specs.declared.chain.resizer.Resizer.{Resizer}
-use Rattle.papaya_call.specs.ChainMachine.{IsStanding, after, ask_of, kind_of_ask}
+use Rattle.papaya_call.specs.ChainMachine.{IsValid, after, ask_of, kind_of_ask}
 use Rattle.papaya_call.specs.Resizer as resizer
 use Rattle.papaya_core_store.specs.declared.pairs.Running.{Running}
 use Rattle.papaya_core_store.specs.Asks.{PerformsAsk}
@@ -19,7 +19,7 @@ use Rattle.papaya_core_timeline.specs.declared.seat.Work.TheVariants as works
 use Rattle.papaya_core_timeline.specs.declared.trace.Event.{Event}
 use Rattle.papaya_core_timeline.specs.Advances.{event_of, goes_on, reply_in}
 use Rattle.papaya_core_timeline.specs.Callers.{as_work}
-use Rattle.papaya_core_timeline.specs.ScanGoes.{event_of_scan, reply_or, unheard}
+use Rattle.papaya_core_timeline.specs.ScanGoes.{event_of_scan, reply_or, list_refusal}
 use Rattle.papaya_call.specs.declared.chain.ask.ScanAsk.{ScanAsk}
 use Rattle.papaya_call.specs.declared.chain.ask.ScanAsk.TheVariants as scan_asks
 use Rattle.papaya_call.specs.Scanner as scanner
@@ -64,7 +64,7 @@ module _ {K V S A : Type 0} (eq : K → K → Bool) (says : Says K V A) (hash : 
     pub later : Scanning A
     pub performs : PerformsScan eq says hash refuse ask store before answer store' later
     pub event_is : event ≡ event_of_scan (scanner.kind_of_ask before.scanner) ask answer
-    pub reply_is : reply ≡ reply_or (unheard ask answer)
+    pub reply_is : reply ≡ reply_or (list_refusal ask answer)
         (scanner.reply_of (scanner.after before.scanner answer))
     pub work_is : work ≡ goes_on reply
         (works.Scan (record later { scanner = scanner.after before.scanner answer }))
@@ -77,8 +77,8 @@ module _ {K V S A : Type 0} (eq : K → K → Bool) (says : Says K V A) (hash : 
   WorkGoes (works.Scan before) = ScanGoes before
 
 -- the work is within its tables, and has not ended
-abbrev pub IsStandingWork : {K V A : Type 0} → Work K V A → Type 0
-IsStandingWork (works.Call r) = IsStanding r.machine
-IsStandingWork (works.Resize z) = resizer.IsStandingResizer z × (resizer.reply_of z ≡ None)
-IsStandingWork (works.Scan v) = scanner.IsStandingScanner v.scanner
+abbrev pub IsValidWork : {K V A : Type 0} → Work K V A → Type 0
+IsValidWork (works.Call r) = IsValid r.machine
+IsValidWork (works.Resize z) = resizer.IsValidResizer z × (resizer.reply_of z ≡ None)
+IsValidWork (works.Scan v) = scanner.IsValidScanner v.scanner
     × IsSome (scanner.ask_of v.scanner)

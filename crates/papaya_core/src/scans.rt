@@ -4,10 +4,10 @@ ghost use Rattle.papaya_words.specs.Table.{TableWords};
 ghost use Rattle.papaya_call.specs.Search.{IsSize};
 ghost use Rattle.papaya_words_keys.specs.Hashes.{hash_of};
 ghost use Rattle.papaya_core_store.specs.Tables.{table_of};
-ghost use Rattle.papaya_call.specs.Scanner.{IsStandingScanner, ask_of};
+ghost use Rattle.papaya_call.specs.Scanner.{IsValidScanner, ask_of};
 ghost use Rattle.papaya_core.specs.Goes.{ScanGoes};
 ghost use Rattle.papaya_core_timeline.specs.Outcomes.{AnswersWalk, ListsGiven, as_reply, reply_told};
-ghost use Rattle.papaya_core_timeline.specs.ScanGoes.{unheard};
+ghost use Rattle.papaya_core_timeline.specs.ScanGoes.{list_refusal};
 
 use crate::entries::event_of_scan;
 use papaya_call::answers::Answers;
@@ -25,8 +25,8 @@ use std::alloc::Global;
 use std::hash::{BuildHasher, Hash};
 
 /// Returns why the list of a scan could not grow, if it could not.
-fn unheard(ask: ScanAsk, answer: Answer) -> Option<Refused>
-    ensures { result ≡ unheard ask answer }
+fn list_refusal(ask: ScanAsk, answer: Answer) -> Option<Refused>
+    ensures { result ≡ list_refusal ask answer }
 {
     match (ask, answer) {
         (ScanAsk::Given(_), Answer::Call(CallAnswer::Refused(refused))) => Some(refused),
@@ -56,7 +56,7 @@ pub(crate) fn advance_scan<K: Hash + Eq + Drop, V: Drop, S: BuildHasher, A: Answ
 ) -> (Event, Option<Outcome>, Option<Work<K, V, A>>)
     requires sizes { (n : ℕ) (t : TableWords) → table_of store.old.words.tables n ≡ Some t
         → IsSize (length t.slots) t.limit }
-    requires standing { IsStandingScanner scanning.scanner }
+    requires valid { IsValidScanner scanning.scanner }
     requires asks { IsSome (ask_of scanning.scanner) }
     ensures goes { ScanGoes K.eq (record { op = A.op_gives; yes = A.yes_gives })
         (hash_of K.hash_input S.build_hasher S.Hasher.write S.Hasher.finish) refuse store.old caller
@@ -70,7 +70,7 @@ pub(crate) fn advance_scan<K: Hash + Eq + Drop, V: Drop, S: BuildHasher, A: Answ
     };
     let answer = perform_scan(store, alloc, caller, &mut scanning, ask, refuse);
     let event = event_of_scan(kind, ask, answer);
-    if let Some(refused) = unheard(ask, answer) {
+    if let Some(refused) = list_refusal(ask, answer) {
         return (event, Some(Outcome::Replied(Reply::Refused(refused))), None);
     }
     scanning.scanner.answer(answer);

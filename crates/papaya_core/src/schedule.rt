@@ -14,14 +14,14 @@ ghost use Rattle.std.specs.Int.{IsPowerOfTwo};
 ghost use Rattle.papaya_words_law.specs.Content.{AreApart};
 ghost use Rattle.papaya_words.specs.Mode.{IsChunked};
 ghost use Rattle.papaya_call.specs.Made.{IsLimit};
-ghost use Rattle.papaya_call.specs.ChainMachine.{IsStanding};
+ghost use Rattle.papaya_call.specs.ChainMachine.{IsValid};
 ghost use Rattle.papaya_words.specs.Table.{TableWords};
 ghost use Rattle.papaya_call.specs.Search.{IsSize};
-ghost use Rattle.papaya_call.specs.Resizer.{IsStandingResizer, reply_of as reply_of_resizer};
+ghost use Rattle.papaya_call.specs.Resizer.{IsValidResizer, reply_of as reply_of_resizer};
 ghost use Rattle.papaya_core_store.specs.Tables.{table_of};
 ghost use Rattle.papaya_core_timeline.specs.Callers.{scanner_in, scanning, working};
 ghost use Rattle.papaya_core_timeline.specs.Maps.{key_of};
-ghost use Rattle.papaya_core.specs.Goes.{CallGoes, IsStandingWork, ResizerGoes, WorkGoes};
+ghost use Rattle.papaya_core.specs.Goes.{CallGoes, IsValidWork, ResizerGoes, WorkGoes};
 ghost use Rattle.papaya_core.specs.Limits.{IsSpent, IsWithin, NeedsNumber};
 ghost use Rattle.papaya_core_timeline.specs.Outcomes.{AnswersWalk, as_reply};
 ghost use Rattle.papaya_core_store.specs.Store.{KeepsPairs, pair_of};
@@ -219,7 +219,7 @@ fn advance_call<K: Hash + Eq + Drop, V: Drop, S: BuildHasher, A: Answers<K, V> +
 ) -> (Event, Option<Outcome>, Option<Work<K, V, A>>)
     requires sizes { (n : ℕ) (t : TableWords) → table_of store.old.words.tables n ≡ Some t
         → IsSize (length t.slots) t.limit }
-    requires standing { IsStanding running.machine }
+    requires valid { IsValid running.machine }
     ensures goes { CallGoes K.eq (record { op = A.op_gives; yes = A.yes_gives })
         (hash_of K.hash_input S.build_hasher S.Hasher.write S.Hasher.finish) refuse store.old caller
         store.new result.0 (as_reply result.1) result.2 running }
@@ -246,7 +246,7 @@ fn advance_resizer<K: Hash + Eq + Drop, V: Drop, S: BuildHasher, A>(
 ) -> (Event, Option<Outcome>, Option<Work<K, V, A>>)
     requires sizes { (n : ℕ) (t : TableWords) → table_of store.old.words.tables n ≡ Some t
         → IsSize (length t.slots) t.limit }
-    requires standing { IsStandingResizer resizer }
+    requires valid { IsValidResizer resizer }
     requires going { reply_of_resizer resizer ≡ None }
     ensures goes { ResizerGoes K.eq
         (hash_of K.hash_input S.build_hasher S.Hasher.write S.Hasher.finish) refuse store.old
@@ -278,7 +278,7 @@ fn advance_work<K: Hash + Eq + Drop, V: Drop, S: BuildHasher, A: Answers<K, V> +
 ) -> (Event, Option<Outcome>, Option<Work<K, V, A>>)
     requires sizes { (n : ℕ) (t : TableWords) → table_of store.old.words.tables n ≡ Some t
         → IsSize (length t.slots) t.limit }
-    requires standing { IsStandingWork work }
+    requires valid { IsValidWork work }
     ensures goes { WorkGoes K.eq (record { op = A.op_gives; yes = A.yes_gives })
         (hash_of K.hash_input S.build_hasher S.Hasher.write S.Hasher.finish) refuse store.old caller
         store.new result.0 (as_reply result.1) result.2 work }

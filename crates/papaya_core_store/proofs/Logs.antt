@@ -7,7 +7,7 @@ use Rattle.papaya_core_store.specs.declared.pairs.Part.{Part}
 use Rattle.papaya_core_store.specs.declared.pairs.Part.TheVariants.{Own, Logged}
 use Rattle.papaya_core_store.specs.declared.pairs.Running.{Running}
 use Rattle.papaya_core_store.specs.Pairs.{brought_by, key_brought, key_from, key_in, key_part, owned, pair_with, value_at, value_brought, value_in, value_part}
-use Rattle.papaya_core_store.specs.Performs.{LogsOf, LogsOwn, LogsPair, own_key, own_value}
+use Rattle.papaya_core_store.specs.Performs.{PushesOf, PushesOwn, PushesPair, own_key, own_value}
 use Rattle.papaya_core_store.specs.Store.{StoreState, Stored, pair_of, stored_at, stored_in}
 
 -- an item of a list, after more was added
@@ -138,7 +138,7 @@ module _ {K V S : Type 0} (s : StoreState K V S) where
 -- a pair was logged
 module _ {K V S A : Type 0} (s : StoreState K V S) (r : Running K V A) (s' : StoreState K V S) (r' : Running K V A) where
   -- the call has its value still
-  pub value_logged : (key later : Part K) (a : Answer) (v : V) → own_value s r ≡ Some v → LogsPair key later a s r s' r' → own_value s' r' ≡ Some v
+  pub value_logged : (key later : Part K) (a : Answer) (v : V) → own_value s r ≡ Some v → PushesPair key later a s r s' r' → own_value s' r' ≡ Some v
   value_logged key later a v value_is (value, has, is, few, grown, left) =
       let more : List (Pair K V) = pair_with key value ∷ [] in
       let brought : value_brought (slice_get (s.pairs ++ more) (length s.pairs)) ≡ owned value = ap value_brought
@@ -147,15 +147,15 @@ module _ {K V S A : Type 0} (s : StoreState K V S) (r : Running K V A) (s' : Sto
       ∙ value_known (s.pairs ++ more) (length s.pairs) value brought ∙ value-more s.pairs more value v (sym (ap (value_at s.pairs) has) ∙ value_is)
 
   -- What it means, and what the call has.
-  pub record IsLogged (k : K) (v : V) : Type 0 where
+  pub record IsInArena (k : K) (v : V) : Type 0 where
     pub pair : pair_of s' (length s.pairs) ≡ Some (record { number = length s.pairs; key = k; value = v })
     pub value : own_value s' r' ≡ Some v
 
   pub pair_logged : (key later : Part K) (a : Answer) (k : K) (v : V) → key_in s.pairs key ≡ Some k → own_value s r ≡ Some v
-      → LogsPair key later a s r s' r' → IsLogged k v
+      → PushesPair key later a s r s' r' → IsInArena k v
   pair_logged key later a k v key_is value_is logs = record { pair = stands logs; value = value_logged key later a v value_is logs }
     where
-      stands : LogsPair key later a s r s' r' → pair_of s' (length s.pairs) ≡ Some (record { number = length s.pairs; key = k; value = v })
+      stands : PushesPair key later a s r s' r' → pair_of s' (length s.pairs) ≡ Some (record { number = length s.pairs; key = k; value = v })
       stands (value, has, is, few, grown, left) =
           let more : List (Pair K V) = pair_with key value ∷ [] in
           let longer : StoreState K V S = record s { pairs = s.pairs ++ more } in
@@ -165,13 +165,13 @@ module _ {K V S A : Type 0} (s : StoreState K V S) (r : Running K V A) (s' : Sto
           (ap (value_in longer.pairs) (value_with key value) ∙ value-more s.pairs more value v (sym (ap (value_at s.pairs) has) ∙ value_is))
 
   -- a call's own key stays its own
-  pub own_logged : (a : Answer) (k : K) (v : V) → own_key s r ≡ Some k → own_value s r ≡ Some v → LogsOwn a s r s' r' → IsLogged k v × (own_key s' r' ≡ Some k)
+  pub own_logged : (a : Answer) (k : K) (v : V) → own_key s r ≡ Some k → own_value s r ≡ Some v → PushesOwn a s r s' r' → IsInArena k v × (own_key s' r' ≡ Some k)
   own_logged a k v key_is value_is logs = (
     pair_logged r.key (Logged (brought_by (length s.pairs) r.key)) a k v key_is value_is logs,
     known logs,
   )
     where
-      known : LogsOwn a s r s' r' → own_key s' r' ≡ Some k
+      known : PushesOwn a s r s' r' → own_key s' r' ≡ Some k
       known (value, has, is, few, grown, left) =
           let more : List (Pair K V) = pair_with r.key value ∷ [] in
           let brought : key_brought (slice_get (s.pairs ++ more) (length s.pairs)) ≡ owned r.key = ap key_brought
@@ -180,14 +180,14 @@ module _ {K V S A : Type 0} (s : StoreState K V S) (r : Running K V A) (s' : Sto
           ∙ key_known (s.pairs ++ more) (length s.pairs) r.key brought ∙ key-more s.pairs more r.key k key_is
 
   -- and so it does where its pair has the key of another
-  pub of_logged : (a : Answer) (n : ℕ) (p : Stored K V) (v : V) → pair_of s n ≡ Some p → own_value s r ≡ Some v → LogsOf n a s r s' r'
-      → IsLogged p.key v × ((k : K) → own_key s r ≡ Some k → own_key s' r' ≡ Some k)
+  pub of_logged : (a : Answer) (n : ℕ) (p : Stored K V) (v : V) → pair_of s n ≡ Some p → own_value s r ≡ Some v → PushesOf n a s r s' r'
+      → IsInArena p.key v × ((k : K) → own_key s r ≡ Some k → own_key s' r' ≡ Some k)
   of_logged a n p v there value_is (first, from, logs) = (
     pair_logged (Logged first) r.key a p.key v (key_from-same s n p there first from) value_is logs,
     λ k own. kept logs k own,
   )
     where
-      kept : LogsPair (Logged first) r.key a s r s' r' → (k : K) → own_key s r ≡ Some k → own_key s' r' ≡ Some k
+      kept : PushesPair (Logged first) r.key a s r s' r' → (k : K) → own_key s r ≡ Some k → own_key s' r' ≡ Some k
       kept (value, has, is, few, grown, left) k own =
           ap (λ (y : StoreState K V S). key_in y.pairs r'.key) grown
           ∙ ap (λ (y : Running K V A). key_in (s.pairs ++ pair_with (Logged first) value ∷ []) y.key) left

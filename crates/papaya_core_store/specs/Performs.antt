@@ -73,8 +73,8 @@ module _ {K V S : Type 0} where
       ((answer ≡ Found_instead found) × (s' ≡ s))
 
   -- a pair with this key and this value was added to the end of the arena, and n is its number
-  abbrev pub IsLogged : ℕ → Part K → Part V → StoreState K V S → StoreState K V S → Type 0
-  IsLogged n key value s s' = (n ≡ length s.pairs) × (length s.pairs < MAX_LOG_LEN)
+  abbrev pub IsPushed : ℕ → Part K → Part V → StoreState K V S → StoreState K V S → Type 0
+  IsPushed n key value s s' = (n ≡ length s.pairs) × (length s.pairs < MAX_LOG_LEN)
       × (s' ≡ record s { pairs = s.pairs ++ pair_with key value ∷ [] })
 
   -- a table of this size is added to the end of the tables, and the answer is its number
@@ -108,9 +108,9 @@ module _ {K V S A : Type 0} where
 
   -- a pair with this key and the call's value is added to the end of the arena; after that the call
   -- names both by the numbers of the pairs that own them
-  abbrev pub LogsPair : (key later : Part K) → Answer → StoreState K V S → Running K V A
+  abbrev pub PushesPair : (key later : Part K) → Answer → StoreState K V S → Running K V A
       → StoreState K V S → Running K V A → Type 0
-  LogsPair key later answer s r s' r' =
+  PushesPair key later answer s r s' r' =
       (value : Part V) × (r.value ≡ Some value)
       × (answer ≡ Made_number (length s.pairs)) × (length s.pairs < MAX_LOG_LEN)
       × (s' ≡ record s { pairs = s.pairs ++ pair_with key value ∷ [] })
@@ -120,16 +120,16 @@ module _ {K V S A : Type 0} where
       })
 
   -- the same with the call's own key
-  abbrev pub LogsOwn : Answer → StoreState K V S → Running K V A → StoreState K V S → Running K V A
+  abbrev pub PushesOwn : Answer → StoreState K V S → Running K V A → StoreState K V S → Running K V A
       → Type 0
-  LogsOwn answer s r s' r' =
-      LogsPair r.key (Logged (brought_by (length s.pairs) r.key)) answer s r s' r'
+  PushesOwn answer s r s' r' =
+      PushesPair r.key (Logged (brought_by (length s.pairs) r.key)) answer s r s' r'
 
   -- the same with the key of pair n, by the number of the pair that owns it
-  abbrev pub LogsOf : ℕ → Answer → StoreState K V S → Running K V A → StoreState K V S
+  abbrev pub PushesOf : ℕ → Answer → StoreState K V S → Running K V A → StoreState K V S
       → Running K V A → Type 0
-  LogsOf n answer s r s' r' = (first : ℕ) × (key_from n (slice_get s.pairs n) ≡ Some first)
-      × LogsPair (Logged first) r.key answer s r s' r'
+  PushesOf n answer s r s' r' = (first : ℕ) × (key_from n (slice_get s.pairs n) ≡ Some first)
+      × PushesPair (Logged first) r.key answer s r s' r'
 
   -- the answer says nothing, as there is no closure or no such pair; no machine asks then
   abbrev pub ShowsNothing : Answer → StoreState K V S → Running K V A → StoreState K V S
@@ -206,11 +206,11 @@ module _ {K V S A : Type 0} where
   Performs eq says refuse MakePair s r answer s' r' =
       MakesOr refuse answer s r s' r'
       ((Refuses MAX_LOG_LEN (length s.pairs) answer × Stays s r s' r')
-      ⊎ (HasNoPair answer r × Stays s r s' r') ⊎ LogsOwn answer s r s' r')
+      ⊎ (HasNoPair answer r × Stays s r s' r') ⊎ PushesOwn answer s r s' r')
   Performs eq says refuse (MakePairOf n) s r answer s' r' =
       MakesOr refuse answer s r s' r'
       ((Refuses MAX_LOG_LEN (length s.pairs) answer × Stays s r s' r')
-      ⊎ (HasNoPairOf n answer s r × Stays s r s' r') ⊎ LogsOf n answer s r s' r')
+      ⊎ (HasNoPairOf n answer s r × Stays s r s' r') ⊎ PushesOf n answer s r s' r')
   Performs eq says refuse (MakeTable slots limit chunks) s r answer s' r' =
       MakesOr refuse answer s r s' r'
       (((Refuses MAX_TABLES (length s.words.tables) answer × (s' ≡ s))

@@ -15,9 +15,9 @@ use Rattle.papaya_core_store.specs.declared.scans.Scanning.{Scanning}
 
 -- the closure is called with pair n, and the answer is whether the pair stays; the answer says
 -- nothing if there is no closure or no such pair, but no machine asks then
-abbrev pub Shows : {K V S A : Type 0} → Says K V A → ℕ → StoreState K V S → Scanning A
+abbrev pub CallsClosure : {K V S A : Type 0} → Says K V A → ℕ → StoreState K V S → Scanning A
     → Call_answer → Scanning A → Type 0
-Shows {K = K} {V = V} {A = A} says n s v answer v' =
+CallsClosure {K = K} {V = V} {A = A} says n s v answer v' =
     (((v.answers ≡ None) ⊎ (pair_of s n ≡ None)) × (answer ≡ Ok) × (v' ≡ v))
     ⊎ ((a : A) × (p : Stored K V) × (stays : Bool) × (a' : A) × (v.answers ≡ Some a)
     × (pair_of s n ≡ Some p) × says.yes a p.key p.value stays a' × (answer ≡ Yes stays)
@@ -42,7 +42,7 @@ abbrev pub PerformsScan : {K V S A : Type 0} → (K → K → Bool) → Says K V
 PerformsScan eq says hash refuse (Copy ask) s v answer s' v' =
     PerformsCopy eq hash refuse ask s answer s' × (v' ≡ v)
 PerformsScan eq says hash refuse (Show n) s v answer s' v' =
-    IsCallAnswer answer (λ told. Shows says n s v told v') × (s' ≡ s)
+    IsCallAnswer answer (λ told. CallsClosure says n s v told v') × (s' ≡ s)
 PerformsScan eq says hash refuse (Given n) s v answer s' v' =
     IsCallAnswer answer (λ told. Gives n v told v') × (s' ≡ s)
 PerformsScan eq says hash refuse (AddToShard by) s v answer s' v' = (answer ≡ answers.Call Ok)

@@ -3,7 +3,7 @@ ghost use Rattle.std.specs.Prelude.{◌≡◌, ◌<◌, length, vec_len, vec_cap
 ghost use Rattle.std.specs.Prelude.{MatchOption, OnOk, IfOk, IfErr, IsSome, slice_get};
 ghost use Rattle.papaya_core_store.specs.Pairs.{brought_by, key_brought, key_from, value_brought};
 ghost use Rattle.papaya_core_store.specs.Store.{pair_of, stored_in};
-ghost use Rattle.papaya_core_store.specs.Performs.{IsLogged, Refuses};
+ghost use Rattle.papaya_core_store.specs.Performs.{IsPushed, Refuses};
 
 use crate::pairs::{Pair, Part};
 use crate::store::Store;
@@ -73,7 +73,7 @@ impl<K: Hash + Eq, V, S: BuildHasher> Store<K, V, S> {
 
     /// Returns the key and the value of a pair that is stored.
     #[inline(always)]
-    pub fn logged(&self, n: u64) -> (&K, &V)
+    pub fn stored_entry(&self, n: u64) -> (&K, &V)
         requires { IsSome (pair_of self.now n) }
         ensures { pair_of self.now n ≡ Some (record {
           number = n;
@@ -83,26 +83,26 @@ impl<K: Hash + Eq, V, S: BuildHasher> Store<K, V, S> {
     {
         match &self.pairs[n as usize] {
             Pair::Own(key, value) => (key, value),
-            Pair::Keyed(first, value) => (self.logged_key(*first), value),
-            pair => self.logged_apart(n as usize, pair),
+            Pair::Keyed(first, value) => (self.stored_key(*first), value),
+            pair => self.stored_apart(n as usize, pair),
         }
     }
 
     /// Returns the value of a pair that is stored, and reads nothing of a key of another pair.
     #[inline(always)]
-    pub fn logged_value(&self, n: u64) -> &V
+    pub fn stored_value(&self, n: u64) -> &V
         requires { IsSome (pair_of self.now n) }
         ensures { (p : _) → pair_of self.now n ≡ Some p → result.now ≡ p.value }
     {
         match &self.pairs[n as usize] {
             Pair::Own(_, value) | Pair::Keyed(_, value) => value,
-            pair => self.logged_apart(n as usize, pair).1,
+            pair => self.stored_apart(n as usize, pair).1,
         }
     }
 
     /// Returns the key of pair `n`, which brought one.
     #[inline(always)]
-    fn logged_key(&self, n: usize) -> &K
+    fn stored_key(&self, n: usize) -> &K
         requires { IsSome (key_brought (slice_get self.now.pairs n)) }
         ensures { key_brought (slice_get self.now.pairs n) ≡ Some result.now }
     {
@@ -115,7 +115,7 @@ impl<K: Hash + Eq, V, S: BuildHasher> Store<K, V, S> {
     /// Returns the key and the value of pair `n`, whose value another pair brought.
     #[cold]
     #[inline(never)]
-    fn logged_apart<'a>(&'a self, n: usize, pair: &'a Pair<K, V>) -> (&'a K, &'a V)
+    fn stored_apart<'a>(&'a self, n: usize, pair: &'a Pair<K, V>) -> (&'a K, &'a V)
         requires { IsSome (stored_in self.now.pairs n (Some pair.now)) }
         ensures { stored_in self.now.pairs n (Some pair.now) ≡ Some (record {
           number = n;
@@ -194,8 +194,8 @@ impl<K: Hash + Eq + Drop, V: Drop, S: BuildHasher> Store<K, V, S> {
     ///
     /// Fails with `Refused::Memory` or `Refused::Capacity`, and then leaves both as they are.
     #[inline(always)]
-    pub fn log_pair(&mut self, key: &mut Part<K>, value: &mut Part<V>) -> Result<u64, Refused>
-        ensures ok { IfOk result (λ n. IsLogged n key.old value.old self.old self.new
+    pub fn store_pair(&mut self, key: &mut Part<K>, value: &mut Part<V>) -> Result<u64, Refused>
+        ensures ok { IfOk result (λ n. IsPushed n key.old value.old self.old self.new
             × (key.new ≡ Part.Logged (brought_by n key.old))
             × (value.new ≡ Part.Logged (brought_by n value.old))) }
         ensures err { IfErr result (λ e. Refuses MAX_LOG_LEN (length self.old.pairs)

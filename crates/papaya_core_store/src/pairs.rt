@@ -2,7 +2,7 @@
 ghost use Rattle.std.specs.Prelude.{◌≡◌, ℕ, List, ◌++◌, length, Some};
 ghost use Rattle.papaya_call.specs.declared.ask.Answer.{Answer};
 ghost use Rattle.papaya_core_store.specs.Pairs.{brought_by, key_part, owned, pair_with};
-ghost use Rattle.papaya_core_store.specs.Performs.{LogsOf, LogsOwn, own_key, own_value};
+ghost use Rattle.papaya_core_store.specs.Performs.{PushesOf, PushesOwn, own_key, own_value};
 ghost use Rattle.papaya_core_store.specs.Store.{StoreState, Stored, pair_of};
 
 use papaya_call::chain::machine::Machine;
@@ -98,13 +98,13 @@ pub fn numbers_mean<K, V, S, A>()
     ensures stays { (s : StoreState K V S) (more : List (Pair K V)) (n : ℕ) (p : Stored K V)
         → pair_of s n ≡ Some p → pair_of (record s { pairs = s.pairs ++ more }) n ≡ Some p }
     ensures own { (s s' : StoreState K V S) (r r' : Running K V A) (a : Answer) (k : K) (v : V)
-        → own_key s r ≡ Some k → own_value s r ≡ Some v → LogsOwn a s r s' r'
+        → own_key s r ≡ Some k → own_value s r ≡ Some v → PushesOwn a s r s' r'
         → (pair_of s' (length s.pairs)
         ≡ Some (record { number = length s.pairs; key = k; value = v }))
         × (own_key s' r' ≡ Some k) × (own_value s' r' ≡ Some v) }
     ensures of { (s s' : StoreState K V S) (r r' : Running K V A) (a : Answer) (k : K) (n : ℕ)
         (p : Stored K V) (v : V) → own_key s r ≡ Some k → pair_of s n ≡ Some p
-        → own_value s r ≡ Some v → LogsOf n a s r s' r' → (pair_of s' (length s.pairs)
+        → own_value s r ≡ Some v → PushesOf n a s r s' r' → (pair_of s' (length s.pairs)
         ≡ Some (record { number = length s.pairs; key = p.key; value = v }))
         × (own_key s' r' ≡ Some k) × (own_value s' r' ≡ Some v) }
 {}

@@ -5,8 +5,8 @@ ghost use Rattle.papaya_call.specs.Answers.{op_kind};
 ghost use Rattle.papaya_core_store.specs.Pairs.{key_in};
 ghost use Rattle.papaya_core_store.specs.Store.{pair_of};
 ghost use Rattle.papaya_core_store.specs.Performs.{Performs, IsMake, Judges, DecidesPair, DecidesNone};
-ghost use Rattle.papaya_core_store.specs.Performs.{ShowsPair, value_answered, Stays, Refuses, LogsOf};
-ghost use Rattle.papaya_core_store.specs.Performs.{LogsOwn, HasNoPair, HasNoPairOf, same};
+ghost use Rattle.papaya_core_store.specs.Performs.{ShowsPair, value_answered, Stays, Refuses, PushesOf};
+ghost use Rattle.papaya_core_store.specs.Performs.{PushesOwn, HasNoPair, HasNoPairOf, same};
 
 use crate::pairs::{Part, Running};
 use crate::store::Store;
@@ -68,12 +68,12 @@ impl<K: Hash + Eq + Drop, V: Drop, S: BuildHasher> Store<K, V, S> {
         ensures makes { (Refuses MAX_LOG_LEN (length self.old.pairs) result
             × Stays self.old running.old self.new running.new)
             ⊎ (HasNoPair result running.old × Stays self.old running.old self.new running.new)
-            ⊎ LogsOwn result self.old running.old self.new running.new }
+            ⊎ PushesOwn result self.old running.old self.new running.new }
     {
         let Some(mut value) = running.value.take() else {
             return Answer::Ok;
         };
-        let logged = self.log_pair(&mut running.key, &mut value);
+        let logged = self.store_pair(&mut running.key, &mut value);
         running.value = Some(value);
         match logged {
             Ok(n) => Answer::Made(n),
@@ -90,7 +90,7 @@ impl<K: Hash + Eq + Drop, V: Drop, S: BuildHasher> Store<K, V, S> {
             × Stays self.old running.old self.new running.new)
             ⊎ (HasNoPairOf of result self.old running.old
             × Stays self.old running.old self.new running.new)
-            ⊎ LogsOf of result self.old running.old self.new running.new }
+            ⊎ PushesOf of result self.old running.old self.new running.new }
     {
         let Some(first) = self.key_from(of) else {
             return Answer::Ok;
@@ -98,7 +98,7 @@ impl<K: Hash + Eq + Drop, V: Drop, S: BuildHasher> Store<K, V, S> {
         let Some(mut value) = running.value.take() else {
             return Answer::Ok;
         };
-        let logged = self.log_pair(&mut Part::Logged(first), &mut value);
+        let logged = self.store_pair(&mut Part::Logged(first), &mut value);
         running.value = Some(value);
         match logged {
             Ok(n) => Answer::Made(n),
@@ -155,7 +155,7 @@ impl<K: Hash + Eq + Drop, V: Drop, S: BuildHasher> Store<K, V, S> {
     }
 
     /// Calls the closure of a call with pair `n`.
-    fn show<A: Answers<K, V>>(&self, n: u64, running: &mut Running<K, V, A>) -> Answer
+    fn call_closure<A: Answers<K, V>>(&self, n: u64, running: &mut Running<K, V, A>) -> Answer
         ensures machine { running.new.machine ≡ running.old.machine }
         ensures shows { ShowsPair running.old.machine.call.task
             (record { op = A.op_gives; yes = A.yes_gives }) n self.now running.old result self.now
@@ -221,7 +221,7 @@ impl<K: Hash + Eq + Drop, V: Drop, S: BuildHasher> Store<K, V, S> {
             }
             Ask::SameKey(n) => Answer::Yes(self.same_key(n, &running.key)),
             Ask::ShowNone => self.decide_none(running),
-            Ask::ShowPair(n) => self.show(n, running),
+            Ask::ShowPair(n) => self.call_closure(n, running),
             Ask::SizeOf(n) => self.size_of(n),
             Ask::MakeKey
             | Ask::MakeValue

@@ -2,7 +2,7 @@
 ghost use Rattle.std.specs.Prelude.{◌≡◌, ℤ, ◌⊎◌, ◌++◌, ◌∷◌, [], None, IfErr, OnOk};
 ghost use Rattle.papaya_words.specs.Counter.{added};
 ghost use Rattle.papaya_words_keys.specs.Hashes.{hash_of};
-ghost use Rattle.papaya_core_store.specs.Scans.{Gives, PerformsScan, Shows};
+ghost use Rattle.papaya_core_store.specs.Scans.{Gives, PerformsScan, CallsClosure};
 
 use crate::store::Store;
 use papaya_call::answers::Answers;
@@ -69,14 +69,14 @@ impl Numbers {
 
 impl<A> Scanning<A> {
     /// Calls the closure with pair `n`, and returns whether the pair stays.
-    fn show<K: Hash + Eq, V, S: BuildHasher>(
+    fn call_closure<K: Hash + Eq, V, S: BuildHasher>(
         &mut self,
         store: &Store<K, V, S>,
         n: u64,
     ) -> CallAnswer
     where
         A: Answers<K, V>,
-        ensures { Shows (record { op = A.op_gives; yes = A.yes_gives }) n store.now self.old result
+        ensures { CallsClosure (record { op = A.op_gives; yes = A.yes_gives }) n store.now self.old result
             self.new }
     {
         let Some(answers) = self.answers.as_mut() else {
@@ -118,7 +118,7 @@ pub fn perform_scan<K: Hash + Eq + Drop, V: Drop, S: BuildHasher, A: Answers<K, 
 {
     match ask {
         ScanAsk::Copy(ask) => store.perform_copy(alloc, ask, refuse),
-        ScanAsk::Show(n) => Answer::Call(scanning.show(store, n)),
+        ScanAsk::Show(n) => Answer::Call(scanning.call_closure(store, n)),
         ScanAsk::Given(n) => Answer::Call(scanning.give(n)),
         ScanAsk::AddToShard(by) => {
             store.add_to_shard(caller, by);

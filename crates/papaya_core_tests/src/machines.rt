@@ -2,7 +2,7 @@
 // that specs and code might share.
 ghost use Rattle.std.specs.Prelude.{◌<◌, ◌^◌};
 ghost use Rattle.papaya_words.specs.Mode.{IsChunked};
-ghost use Rattle.papaya_call.specs.Machine.{IsFit, IsStanding};
+ghost use Rattle.papaya_call.specs.Machine.{IsFit, IsValid};
 
 use crate::expect::is;
 use papaya_call::ask::{Answer, Ask, At, OpKind, StepKind};
@@ -44,9 +44,9 @@ const LIVE_13: u64 = 13_313;
 
 /// Checks that the machine asks this, and answers it.
 fn told(rt: &impl Abort, machine: &mut Machine, ask: Ask, answer: Answer)
-    requires standing { IsStanding machine.old }
+    requires valid { IsValid machine.old }
     requires fit { IsFit answer }
-    ensures { IsStanding machine.new }
+    ensures { IsValid machine.new }
 {
     is(rt, machine.ask() == ask, true);
     machine.answer(answer);
@@ -54,16 +54,16 @@ fn told(rt: &impl Abort, machine: &mut Machine, ask: Ask, answer: Answer)
 
 /// Lets the machine load the root, and enter that table, which has 8 slots.
 fn enters_root(rt: &impl Abort, machine: &mut Machine, table: u64)
-    requires { IsStanding machine.old }
-    ensures { IsStanding machine.new }
+    requires { IsValid machine.old }
+    ensures { IsValid machine.new }
 {
     told(rt, machine, Ask::Load(At::Root), Answer::Word(table));
     enters(rt, machine, table);
 }
 
 fn enters(rt: &impl Abort, machine: &mut Machine, table: u64)
-    requires { IsStanding machine.old }
-    ensures { IsStanding machine.new }
+    requires { IsValid machine.old }
+    ensures { IsValid machine.new }
 {
     let size = Answer::Size { len: 8, limit: 7 };
     told(rt, machine, Ask::SizeOf(table), size);
@@ -71,16 +71,16 @@ fn enters(rt: &impl Abort, machine: &mut Machine, table: u64)
 
 /// Lets the machine load a hint.
 fn hints(rt: &impl Abort, machine: &mut Machine, table: u64, slot: usize, hint: u64)
-    requires { IsStanding machine.old }
-    ensures { IsStanding machine.new }
+    requires { IsValid machine.old }
+    ensures { IsValid machine.new }
 {
     told(rt, machine, Ask::LoadHint(table, slot), Answer::Word(hint));
 }
 
 /// Lets the machine load a slot. The slot's hint is the key's, or 0 if it has no pair.
 fn loads(rt: &impl Abort, machine: &mut Machine, table: u64, slot: usize, word: u64)
-    requires { IsStanding machine.old }
-    ensures { IsStanding machine.new }
+    requires { IsValid machine.old }
+    ensures { IsValid machine.new }
 {
     hints(
         rt,
@@ -95,15 +95,15 @@ fn loads(rt: &impl Abort, machine: &mut Machine, table: u64, slot: usize, word: 
 
 /// Lets the machine compare its key with a pair's.
 fn compares(rt: &impl Abort, machine: &mut Machine, pair: u64, same: bool)
-    requires { IsStanding machine.old }
-    ensures { IsStanding machine.new }
+    requires { IsValid machine.old }
+    ensures { IsValid machine.new }
 {
     told(rt, machine, Ask::SameKey(pair), Answer::Yes(same));
 }
 
 /// Checks the machine's reply.
 fn replies(rt: &impl Abort, machine: &Machine, reply: Reply)
-    requires { IsStanding machine.now }
+    requires { IsValid machine.now }
 {
     is(rt, machine.ask() == Ask::Done(reply), true);
 }
@@ -143,9 +143,9 @@ fn lookup_follows_a_copied_pair(rt: HostRuntime) {
 
 /// Lets the machine try to delete the pair at the first place of table 1.
 fn buries(rt: &impl Abort, machine: &mut Machine, old: u64, new: u64, answer: Answer)
-    requires standing { IsStanding machine.old }
+    requires valid { IsValid machine.old }
     requires fit { IsFit answer }
-    ensures { IsStanding machine.new }
+    ensures { IsValid machine.new }
 {
     is(rt, machine.kind() == Some(StepKind::Bury), true);
     told(rt, machine, Ask::Exchange(At::Slot(1, 2), old, new), answer);
@@ -153,8 +153,8 @@ fn buries(rt: &impl Abort, machine: &mut Machine, old: u64, new: u64, answer: An
 
 /// Lets the machine call its closure without a pair, because the key is absent.
 fn shows_none(rt: &impl Abort, machine: &mut Machine, kind: OpKind)
-    requires { IsStanding machine.old }
-    ensures { IsStanding machine.new }
+    requires { IsValid machine.old }
+    ensures { IsValid machine.new }
 {
     is(rt, machine.kind().is_none(), true);
     told(rt, machine, Ask::ShowNone, Answer::Op(kind));
@@ -162,8 +162,8 @@ fn shows_none(rt: &impl Abort, machine: &mut Machine, kind: OpKind)
 
 /// Lets the machine call its closure with a pair.
 fn decides(rt: &impl Abort, machine: &mut Machine, pair: u64, kind: OpKind)
-    requires { IsStanding machine.old }
-    ensures { IsStanding machine.new }
+    requires { IsValid machine.old }
+    ensures { IsValid machine.new }
 {
     is(rt, machine.kind().is_none(), true);
     told(rt, machine, Ask::ShowPair(pair), Answer::Op(kind));
@@ -171,8 +171,8 @@ fn decides(rt: &impl Abort, machine: &mut Machine, pair: u64, kind: OpKind)
 
 /// Lets the machine make the pair 12 of its key and the value that its closure returned.
 fn makes_12(rt: &impl Abort, machine: &mut Machine)
-    requires { IsStanding machine.old }
-    ensures { IsStanding machine.new }
+    requires { IsValid machine.old }
+    ensures { IsValid machine.new }
 {
     is(rt, machine.kind().is_none(), true);
     told(rt, machine, Ask::MakeKey, Answer::Made(0));
@@ -182,9 +182,9 @@ fn makes_12(rt: &impl Abort, machine: &mut Machine)
 
 /// Lets the machine make a pair of the key of the pair 3 and the value that it has stored.
 fn makes_of_3(rt: &impl Abort, machine: &mut Machine, pair: u64)
-    requires standing { IsStanding machine.old }
+    requires valid { IsValid machine.old }
     requires pair { pair < 2 ^ 48 }
-    ensures { IsStanding machine.new }
+    ensures { IsValid machine.new }
 {
     is(rt, machine.kind().is_none(), true);
     told(rt, machine, Ask::MakePairOf(3), Answer::Made(pair));
@@ -192,9 +192,9 @@ fn makes_of_3(rt: &impl Abort, machine: &mut Machine, pair: u64)
 
 /// Lets the machine try to put a pair into an empty slot of table 1.
 fn claims(rt: &impl Abort, machine: &mut Machine, slot: usize, new: u64, answer: Answer)
-    requires standing { IsStanding machine.old }
+    requires valid { IsValid machine.old }
     requires fit { IsFit answer }
-    ensures { IsStanding machine.new }
+    ensures { IsValid machine.new }
 {
     is(rt, machine.kind() == Some(StepKind::Claim), true);
     let ask = Ask::Exchange(At::Slot(1, slot), EMPTY, new);
@@ -203,9 +203,9 @@ fn claims(rt: &impl Abort, machine: &mut Machine, slot: usize, new: u64, answer:
 
 /// Lets the machine try to replace the pair at the first place of table 1.
 fn replaces(rt: &impl Abort, machine: &mut Machine, old: u64, new: u64, answer: Answer)
-    requires standing { IsStanding machine.old }
+    requires valid { IsValid machine.old }
     requires fit { IsFit answer }
-    ensures { IsStanding machine.new }
+    ensures { IsValid machine.new }
 {
     is(rt, machine.kind() == Some(StepKind::Replace), true);
     told(rt, machine, Ask::Exchange(At::Slot(1, 2), old, new), answer);
@@ -257,8 +257,8 @@ fn compute_remembers_what_it_answered_to_a_pair(rt: HostRuntime) {
 
 /// Lets the machine load how many numbers were taken for pairs.
 fn counts(rt: &impl Abort, machine: &mut Machine, made: u64)
-    requires { IsStanding machine.old }
-    ensures { IsStanding machine.new }
+    requires { IsValid machine.old }
+    ensures { IsValid machine.new }
 {
     is(rt, machine.kind().is_none(), true);
     told(rt, machine, Ask::Load(At::Made), Answer::Word(made));
@@ -266,9 +266,9 @@ fn counts(rt: &impl Abort, machine: &mut Machine, made: u64)
 
 /// Lets the machine try to take the next number.
 fn takes(rt: &impl Abort, machine: &mut Machine, made: u64, next: u64, answer: Answer)
-    requires standing { IsStanding machine.old }
+    requires valid { IsValid machine.old }
     requires fit { IsFit answer }
-    ensures { IsStanding machine.new }
+    ensures { IsValid machine.new }
 {
     is(rt, machine.kind() == Some(StepKind::Take), true);
     told(rt, machine, Ask::Exchange(At::Made, made, next), answer);
@@ -276,7 +276,7 @@ fn takes(rt: &impl Abort, machine: &mut Machine, made: u64, next: u64, answer: A
 
 /// Lets an insertion, into a map of at most three pairs, find an empty place.
 fn finds_a_place(rt: &impl Abort) -> Machine
-    ensures { IsStanding result }
+    ensures { IsValid result }
 {
     let task = Task::Insert { replace: true };
     let mut insertion = Machine::new(task, HASH, ResizeMode::Blocking, 1, Some(3));

@@ -21,9 +21,9 @@ use Rattle.papaya_call.specs.Machine.{HasClosure, IsChanger, MayInsert}
 use Rattle.papaya_call.specs.Machine as calls
 use Rattle.papaya_call.specs.ChainMachine.{after, ask_of, follows_of, kind_of_ask}
 use Rattle.papaya_call_law.specs.Relies.{change_in, change_of_reply}
-use Rattle.papaya_call_law.specs.Says.{IsSaidChange}
+use Rattle.papaya_call_law.specs.Says.{IsResultChange}
 use Rattle.papaya_call_law.specs.Goes.{IsInOrder, change_by as changed_by}
-use Rattle.papaya_call_law.specs.ChainTold.{IsTold}
+use Rattle.papaya_call_law.specs.ChainAnswers.{IsTrueOf}
 use Rattle.papaya_call_law.proofs.Goes.{machine_goes}
 use Rattle.papaya_call_law.proofs.Order.{in_order}
 use Rattle.papaya_call_law.proofs.Replies.{chain_changes}
@@ -34,7 +34,7 @@ use Rattle.papaya_core_timeline.specs.declared.trace.Event.TheVariants.{Begun, C
 use Rattle.papaya_core_timeline.specs.Advances.{Advances, event_of}
 use Rattle.papaya_core_timeline.specs.Begins.{task_of_call}
 use Rattle.papaya_core_timeline.specs.Core.{CoreState, IsCore}
-use Rattle.papaya_core_timeline.specs.Kept.{IsKept, CallTrace, setting_of, coding_of, low, told_call_traces}
+use Rattle.papaya_core_timeline.specs.Kept.{IsConsistent, CallTrace, setting_of, coding_of, low, told_call_traces}
 use Rattle.papaya_core_timeline.specs.Content.{map_of}
 use Rattle.papaya_core_timeline.specs.Maps.{IsUpdateBy, Map, Does, IsUpdate, Same, key_of}
 use Rattle.papaya_core_timeline.specs.Intends.{Intends}
@@ -56,7 +56,7 @@ use Rattle.papaya_core_timeline.proofs.StepTells.{Tells, event_tells}
 module _ {K V S A : Type 0} (eq : K → K → Bool) (hash : K → ℕ) (law : IsLawfulKeys eq hash) where
   module _ {says : Says K V A} {hashes : S → K → ℕ} (refuse : Bool) (s s' : CoreState K V S A) (c : ℕ) (event : Event) (reply : Option Reply)
       (x : Advances eq says hashes refuse s c s' event reply) (core : IsCore s.store s.callers s.mode) (core' : IsCore s'.store s'.callers s'.mode)
-      (es : List (Exchange (Stored K V))) (call_traces : ℕ → CallTrace K V) (kept : IsKept eq hash s.mode s.store s.callers es call_traces)
+      (es : List (Exchange (Stored K V))) (call_traces : ℕ → CallTrace K V) (kept : IsConsistent eq hash s.mode s.store s.callers es call_traces)
       (step : IsStep eq hash law refuse s c s' event reply x es call_traces) where
     -- the machine that asks, and the key of its call
     abbrev m : Machine
@@ -108,7 +108,7 @@ module _ {K V S A : Type 0} (eq : K → K → Bool) (hash : K → ℕ) (law : Is
         (ap (λ (l : List (Exchange (Stored K V))). (run l first_state).slot t i) (sym split) ∙ live) number)
         x.answer step.made step.loaded
         (subst (λ (l : List (Exchange (Stored K V))).
-        IsTold g coding k (run l first_state) (kind_of_ask m) (follows_of m) loaded (ask_of m) x.answer step.made step.loaded) (sym split) step.told)
+        IsTrueOf g coding k (run l first_state) (kind_of_ask m) (follows_of m) loaded (ask_of m) x.answer step.made step.loaded) (sym split) step.told)
         (subst (λ (l : List (Exchange (Stored K V))).
         AllAllowed (setting_of eq (low hash) s'.mode s'.store.words.tables) first_state (l ++ step.made)) (sym split) step.kept.allowed)))
 
@@ -163,7 +163,7 @@ module _ {K V S A : Type 0} (eq : K → K → Bool) (hash : K → ℕ) (law : Is
         → (went came : Option (Stored K V)) → number_in came ≡ new → MayPut k m.call.task (call_traces c).loaded.call.made went came
         → Intends s.store (works.Call x.before) old (operation_for came)
     intended kind old new is went came came_is may =
-        let stands = core.standing c x.before x.was in
+        let stands = core.valid c x.before x.was in
         let goes = machine_goes m x.answer order in
         let (at, from, to, asking) = subst (λ e. Tells e (ask_of m) x.answer) is (event_tells m x.answer) in
         let change : change_in (after m x.answer).call.state ≡ Some (old, new) = changed
@@ -174,7 +174,7 @@ module _ {K V S A : Type 0} (eq : K → K → Bool) (hash : K → ℕ) (law : Is
         let number : new ≡ Some q.number = sym came_is ∙ ap number_in some in
         insertion_made m x.answer goes stands kind old q.number (is ∙ ap (Changed kind old) number) (change ∙ ap (λ n. Some (old, n)) number) replace task)
         (λ none. closure went came may none)
-        (subst (λ n. IsSaidChange m.call.task m.call old n) (sym came_is) (chain_changed m x.answer goes stands at from to asking old new change))
+        (subst (λ n. IsResultChange m.call.task m.call old n) (sym came_is) (chain_changed m x.answer goes stands at from to asking old new change))
       where
         logged : (went came : Option (Stored K V)) → MayPut k m.call.task (call_traces c).loaded.call.made went came → (q : Stored K V)
             → came ≡ Some q → pair_numbered s.store q.number ≡ Some q
@@ -243,7 +243,7 @@ module _ {K V S A : Type 0} (eq : K → K → Bool) (hash : K → ℕ) (law : Is
     moves_core : (e : Event) → e ≡ event_of (kind_of_ask m) (ask_of m) x.answer
         → Moves eq k m.call.task (call_traces c).loaded.call.made (replay eq es) (replay eq (es ++ step.made)) e → MovesMap eq s c s' e
     moves_core (Changed kind old new) is moved =
-        let stands = core.standing c x.before x.was in
+        let stands = core.valid c x.before x.was in
         let (at, from, to, asks) = subst (λ e. Tells e (ask_of m) x.answer) (sym is) (event_tells m x.answer) in
         inl (own_change m.call.task refl old new (chain_changer m stands kind old new x.answer (sym is))
         (λ n some. chain_inserts m stands kind old n x.answer (sym is ∙ ap (Changed kind old) some)) (chain_once m at from to asks) moved.went

@@ -22,7 +22,7 @@ use Rattle.papaya_core_timeline.proofs.CallersLemmas.{same_item}
 use Rattle.papaya_core_store.specs.declared.store.Mode.{Mode}
 use Rattle.papaya_words.specs.declared.resize_mode.ResizeMode.{ResizeMode}
 use Rattle.papaya_call.specs.Machine as calls
-use Rattle.papaya_call_law.specs.Says.{Said, StandsOn}
+use Rattle.papaya_call_law.specs.Says.{ClosureResult, ActsOn}
 use Rattle.papaya_core_store.specs.declared.pairs.Pair.{Pair}
 use Rattle.papaya_core_store.specs.declared.pairs.Part.{Part}
 use Rattle.papaya_core_store.specs.declared.pairs.Part.TheVariants.{Own}
@@ -204,8 +204,8 @@ module _ {K V A : Type 0} (hash : K → ℕ) (mode : Mode) (initial number : ℕ
   }
 
 -- a call that begins stands on nothing that its closure said
-pub begun_stands : (task : Task) (hash : ℕ) (mode : ResizeMode) (initial : ℕ) (limit : Option ℕ) (said : Said)
-    → StandsOn (calls.started task hash mode initial limit) said → ⊥
+pub begun_stands : (task : Task) (hash : ℕ) (mode : ResizeMode) (initial : ℕ) (limit : Option ℕ) (said : ClosureResult)
+    → ActsOn (calls.started task hash mode initial limit) said → ⊥
 begun_stands task hash mode initial limit said stands = search rules
 
 -- what it was handed is at hand

@@ -12,7 +12,7 @@ use Rattle.papaya_words_law.specs.Invariant.{IsSound}
 use Rattle.papaya_words_law.proofs.Chain.{walk_between}
 use Rattle.papaya_words_law.proofs.Codes.{code_kind}
 use Rattle.papaya_call_law.specs.Copier.{IsCopyAsked}
-use Rattle.papaya_call_law.specs.Told.{IsAsked, LoadedPairs, word_of}
+use Rattle.papaya_call_law.specs.TrueAnswers.{IsAsked, LoadedPairs, word_of}
 use Rattle.papaya_core_timeline.specs.Ends.{changes_of, changes_of_word, links_of}
 use Rattle.papaya_core_timeline.proofs.BudgetTables.{IsChunkOf, changes_at}
 use Rattle.papaya_core_timeline.proofs.CallersLemmas.{differs}

@@ -30,7 +30,7 @@ use Rattle.papaya_words_law.specs.Invariant.{IsSound}
 use Rattle.papaya_words_law.specs.Meaning.{map_left}
 use Rattle.papaya_words_law.proofs.Logs.{on_comes}
 use Rattle.papaya_words_law.proofs.OneMap.{keeping, keeping_sound}
-use Rattle.papaya_call_law.specs.Told.{IsAsked, IsWritten, word_of}
+use Rattle.papaya_call_law.specs.TrueAnswers.{IsAsked, IsWritten, word_of}
 use Rattle.papaya_call_law.specs.Copier.{IsCopyAsked}
 use Rattle.papaya_call.specs.declared.chain.ask.Ask.{Ask}
 use Rattle.papaya_call.specs.declared.chain.ask.Ask.TheVariants as asks
@@ -49,7 +49,7 @@ use Rattle.papaya_core_timeline.specs.declared.seat.Seat.{Seat}
 use Rattle.papaya_core_timeline.specs.Callers.{running}
 use Rattle.papaya_core_timeline.specs.Core.{IsCore}
 use Rattle.papaya_core_timeline.specs.Ends.{budget_in, budget_of, exchanges_in}
-use Rattle.papaya_core_timeline.specs.Kept.{CallTrace, IsCall, IsKept, IsMade, coding_of, low, places_in, setting_of, slots_in}
+use Rattle.papaya_core_timeline.specs.Kept.{CallTrace, IsCall, IsConsistent, IsMade, coding_of, low, places_in, setting_of, slots_in}
 use Rattle.papaya_core_timeline.proofs.BudgetLaw.{IsFewer, call_chunk, call_fewer, copy_chunk, copy_fewer}
 use Rattle.papaya_core_timeline.proofs.BudgetTables.{IsChunkOf, changes_at, exchanges_few, noted-budget, placed-changes}
 use Rattle.papaya_core_timeline.proofs.KeptExchange.{changes, root_empty}
@@ -94,7 +94,7 @@ made_spends w n slots limit chunks few = let more : length (w.tables ++ new_tabl
 
 module _ {K V S A : Type 0} (eq : K → K → Bool) (hash : K → ℕ) (law : IsLawfulKeys eq hash) (mode : Mode) (store : StoreState K V S)
     (callers : List (Seat K V A)) (core : IsCore store callers mode)
-    (es : List (Exchange (Stored K V))) (call_traces : ℕ → CallTrace K V) (kept : IsKept eq hash mode store callers es call_traces) where
+    (es : List (Exchange (Stored K V))) (call_traces : ℕ → CallTrace K V) (kept : IsConsistent eq hash mode store callers es call_traces) where
   -- the setting, the coding and the state
   abbrev g : Setting K (Stored K V)
   g = setting_of eq (low hash) mode store.words.tables

@@ -20,9 +20,9 @@ use Rattle.papaya_call.specs.declared.chain.ask.Answer.{Answer}
 use Rattle.papaya_call.specs.declared.chain.ask.Answer.TheVariants as answers
 use Rattle.papaya_call.specs.declared.chain.machine.Machine.{Machine}
 use Rattle.papaya_call.specs.declared.chain.machine.Phase.TheVariants.{Calling}
-use Rattle.papaya_call.specs.ChainMachine.{IsStanding, after, ask_of, asks_in, kind_in, kind_of_ask}
+use Rattle.papaya_call.specs.ChainMachine.{IsValid, after, ask_of, asks_in, kind_in, kind_of_ask}
 use Rattle.papaya_call_law.specs.Relies.{change_in}
-use Rattle.papaya_call_law.specs.Says.{IsSaidChange, show}
+use Rattle.papaya_call_law.specs.Says.{IsResultChange, show}
 use Rattle.papaya_call_law.proofs.SaysChanges.{machine_aborted, machine_changed}
 use Rattle.papaya_call_law.specs.Goes.{Goes, IsOwnStep}
 use Rattle.papaya_call_law.specs.ChainRelies.{left_by}
@@ -62,13 +62,13 @@ changes_own m kind old new answer e =
     by_answer (answers.Count count) e = let f : Other ≡ Changed kind old new = e in absurd cc
 
 -- an exchange that changes the map is that of a call that may
-pub chain_changer : (m : Machine) → IsStanding m → (kind : StepKind) (old new : Option ℕ) (answer : Answer)
+pub chain_changer : (m : Machine) → IsValid m → (kind : StepKind) (old new : Option ℕ) (answer : Answer)
     → event_of (kind_of_ask m) (ask_of m) answer ≡ Changed kind old new → IsChanger m.call.task
 chain_changer m stands kind old new answer e = let (told, is) = changes_own m kind old new answer e in
     call_laws.machine_changes m.call stands.call kind old new told is
 
 -- and where a pair comes, that of one that inserts
-pub chain_inserts : (m : Machine) → IsStanding m → (kind : StepKind) (old : Option ℕ) (n : ℕ) (answer : Answer)
+pub chain_inserts : (m : Machine) → IsValid m → (kind : StepKind) (old : Option ℕ) (n : ℕ) (answer : Answer)
     → event_of (kind_of_ask m) (ask_of m) answer ≡ Changed kind old (Some n) → MayInsert m.call.task
 chain_inserts m stands kind old n answer e = let (told, is) = changes_own m kind old (Some n) answer e in
     call_laws.machine_inserts m.call stands.call kind old n told is
@@ -87,9 +87,9 @@ own_exchange m answer (inr (inr (inr (inl begins)))) at old new e = absurd (cc (
 own_exchange m answer (inr (inr (inr (inr ends)))) at old new e = absurd (cc (aside m ends.from ends.left (Ask_exchange at old new) e))
 
 -- a change is what the closure of its call said
-pub chain_changed : (m : Machine) (answer : Answer) → Goes m answer → IsStanding m → (at : At) (from to : ℕ)
+pub chain_changed : (m : Machine) (answer : Answer) → Goes m answer → IsValid m → (at : At) (from to : ℕ)
     → ask_of m ≡ asks.Call (Ask_exchange at from to) → (old new : Option ℕ) → change_in (after m answer).call.state ≡ Some (old, new)
-    → IsSaidChange m.call.task m.call old new
+    → IsResultChange m.call.task m.call old new
 chain_changed m answer goes stands at from to e old new change =
     let own = own_exchange m answer goes at from to (own_asks m (Ask_exchange at from to) e).1 in
     machine_changed m.call own.told old new stands.call (chain_once m at from to e) (sym (ap (λ (d : Call_machine). change_in d.state) own.call) ∙ change)

@@ -29,10 +29,10 @@ use Rattle.papaya_words_law.specs.Invariant.{named}
 use Rattle.papaya_words_law.proofs.Logs.{on_comes}
 use Rattle.papaya_words_law.proofs.Moments.{run-append}
 use Rattle.papaya_call_law.specs.Copier.{AreThere, IsCopyAsked, IsThere, last_after, told_last}
-use Rattle.papaya_call_law.specs.Told.{IsWritten, or_last, word_of}
+use Rattle.papaya_call_law.specs.TrueAnswers.{IsWritten, or_last, word_of}
 use Rattle.papaya_call.specs.declared.chain.ask.Answer.{Answer}
 use Rattle.papaya_call.specs.declared.chain.ask.Answer.TheVariants as answers
-use Rattle.papaya_call_law.specs.ChainTold.{IsCopyTold, LoadedPairs, told_of}
+use Rattle.papaya_call_law.specs.ChainAnswers.{IsTrueOfCopy, LoadedPairs, told_of}
 use Rattle.papaya_core_store.specs.CopyAsks.{IsHash, PerformsCopy, hash_in, same_keys}
 use Rattle.papaya_core_store.specs.Performs.{Exchanges, MakesTable, Refuses, size_of}
 use Rattle.papaya_core_store.specs.Store.{StoreState, Stored, pair_of, stored_in}
@@ -245,7 +245,7 @@ module _ {Q K V S : Type 0} (g : Setting Q (Stored K V)) (c : Coding Q (Stored K
         (kind : Option StepKind) (follows : ℕ) where
       -- what the asker is told
       abbrev pub Hears : CopyAsk → Answer → List (Exchange (Stored K V)) → LoadedPairs (Stored K V) → Type 0
-      Hears ask a made loaded' = IsCopyTold g c now kind follows loaded ask a made loaded'
+      Hears ask a made loaded' = IsTrueOfCopy g c now kind follows loaded ask a made loaded'
 
       -- a table of the chain was made
       on_there : (t : ℕ) → IsOn now.first now.next t → IsMade store t

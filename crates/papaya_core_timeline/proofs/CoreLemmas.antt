@@ -14,14 +14,14 @@ use Rattle.papaya_call.specs.declared.chain.ask.Ask.{Ask}
 use Rattle.papaya_call.specs.declared.chain.ask.Ask.TheVariants as asks
 use Rattle.papaya_call.specs.declared.chain.ask.Answer.{Answer}
 use Rattle.papaya_call.specs.declared.chain.machine.Machine.{Machine}
-use Rattle.papaya_call.specs.ChainMachine.{IsStanding, IsFitAsk, ask_of, started}
+use Rattle.papaya_call.specs.ChainMachine.{IsValid, IsFitAsk, ask_of, started}
 use Rattle.papaya_call.specs.declared.call.Call.{Call}
 use Rattle.papaya_core_timeline.specs.Advances.{reply_in}
 use Rattle.papaya_core_timeline.specs.Begins.{begun_work}
 use Rattle.papaya_call.specs.declared.chain.resizer.Resize.{Resize}
 use Rattle.papaya_call.specs.declared.chain.resizer.Resize.TheVariants as resizes
 use Rattle.papaya_call.specs.declared.chain.resizer.Resizer.{Resizer}
-use Rattle.papaya_call.specs.Resizer.{IsStandingIn, IsStandingResizer, reply_of}
+use Rattle.papaya_call.specs.Resizer.{IsValidIn, IsValidResizer, reply_of}
 use Rattle.papaya_call.specs.Resizer as resizers
 use Rattle.papaya_call.specs.Link.{IsFitCopyAsk}
 use Rattle.papaya_call.specs.declared.copy_ask.CopyAsk.{CopyAsk}
@@ -66,21 +66,21 @@ reply_asked ask reply e = let f : None ≡ Some reply = e in absurd cc
 -- a call that begins stands, and has not replied
 pub begun-core : {K V A : Type 0} (hash : K → ℕ) (mode : Mode) (initial number : ℕ) (call : Call K V A) → IsChunked mode.resize → IsLimit mode.limit
     → IsPowerOfTwo initial
-    → ((r : Running K V A) → begun_work hash mode initial number call ≡ works.Call r → IsStanding r.machine × IsGoing r.machine)
-    × ((z : Resizer) → begun_work hash mode initial number call ≡ works.Resize z → IsStandingResizer z × (reply_of z ≡ None))
+    → ((r : Running K V A) → begun_work hash mode initial number call ≡ works.Call r → IsValid r.machine × IsGoing r.machine)
+    × ((z : Resizer) → begun_work hash mode initial number call ≡ works.Resize z → IsValidResizer z × (reply_of z ≡ None))
 begun-core {K} {V} {A} hash mode initial number call chunked limits power = (
   λ r e. let is = call_begun hash mode initial number call r e in
-      subst (λ (y : Running K V A). IsStanding y.machine × IsGoing y.machine) (sym is.is) (
+      subst (λ (y : Running K V A). IsValid y.machine × IsGoing y.machine) (sym is.is) (
         started_stands is.task (hash is.key) mode.resize initial number mode.limit limits chunked power,
         still_going
             (started is.task (hash is.key) mode.resize initial number mode.limit) refl,
       ),
   λ z e. let is = resizer_begun_is hash mode initial number call z e in
-      subst (λ (y : Resizer). IsStandingResizer y × (reply_of y ≡ None)) (sym is.is)
+      subst (λ (y : Resizer). IsValidResizer y × (reply_of y ≡ None)) (sym is.is)
       (record { chunked = chunked; initial = power; state = standing_begun is.resize }, unreplied is.resize),
 )
   where
-    standing_begun : (resize : Resize) → IsStandingIn (resizers.begun_in resize)
+    standing_begun : (resize : Resize) → IsValidIn (resizers.begun_in resize)
     standing_begun resizes.Chunk = tt
     standing_begun resizes.CopyAll = tt
     standing_begun (resizes.Reserve more) = tt
@@ -92,14 +92,14 @@ begun-core {K} {V} {A} hash mode initial number call chunked limits power = (
 
 -- and so does one that scans a table
 pub begun-scanner : {K V A : Type 0} (hash : K → ℕ) (mode : Mode) (initial number : ℕ) (call : Call K V A) → IsChunked mode.resize
-    → IsPowerOfTwo initial → (v : Scanning A) → begun_work hash mode initial number call ≡ works.Scan v → scanners.IsStandingScanner v.scanner
+    → IsPowerOfTwo initial → (v : Scanning A) → begun_work hash mode initial number call ≡ works.Scan v → scanners.IsValidScanner v.scanner
     × (scanners.reply_of v.scanner ≡ None)
 begun-scanner {A = A} hash mode initial number call chunked power v e =
     let is = scanner_begun_is hash mode initial number call v e in
-    subst (λ (y : Scanning A). scanners.IsStandingScanner y.scanner × (scanners.reply_of y.scanner ≡ None)) (sym is.is)
+    subst (λ (y : Scanning A). scanners.IsValidScanner y.scanner × (scanners.reply_of y.scanner ≡ None)) (sym is.is)
     (record { chunked = chunked; initial = power; state = standing_in mode.resize }, unreplied mode.resize)
   where
-    standing_in : (mode : ResizeMode) → scanners.IsStandingIn (scanners.begun_in mode)
+    standing_in : (mode : ResizeMode) → scanners.IsValidIn (scanners.begun_in mode)
     standing_in (Incremental chunk) = tt
     standing_in Blocking = tt
 
@@ -110,17 +110,17 @@ begun-scanner {A = A} hash mode initial number call chunked power v e =
 module _ {K V S A : Type 0} where
   -- work was put into a seat, or taken out of it
   pub with_work-core : (store : StoreState K V S) (callers : List (Seat K V A)) (mode : Mode) (caller : ℕ) (work : Option (Work K V A))
-      → IsCore store callers mode → ((r : Running K V A) → work ≡ Some (works.Call r) → IsStanding r.machine × IsGoing r.machine)
-      → ((z : Resizer) → work ≡ Some (works.Resize z) → IsStandingResizer z × (reply_of z ≡ None))
-      → ((v : Scanning A) → work ≡ Some (works.Scan v) → scanners.IsStandingScanner v.scanner × (scanners.reply_of v.scanner ≡ None))
+      → IsCore store callers mode → ((r : Running K V A) → work ≡ Some (works.Call r) → IsValid r.machine × IsGoing r.machine)
+      → ((z : Resizer) → work ≡ Some (works.Resize z) → IsValidResizer z × (reply_of z ≡ None))
+      → ((v : Scanning A) → work ≡ Some (works.Scan v) → scanners.IsValidScanner v.scanner × (scanners.reply_of v.scanner ≡ None))
       → IsCore store (with_work callers caller work) mode
   with_work-core store callers mode caller work core stands resizes scans = record {
     chunked = core.chunked;
     limit = core.limit;
     sizes = core.sizes;
-    standing = λ other r e. elim (cases_same other caller) [
+    valid = λ other r e. elim (cases_same other caller) [
       | inl same ↦ (stands r (running-here callers caller work r (subst (λ (d : ℕ). running (with_work callers caller work) d ≡ Some r) same e))).0
-      | inr differ ↦ core.standing other r (sym (running-elsewhere callers caller other work differ) ∙ e)
+      | inr differ ↦ core.valid other r (sym (running-elsewhere callers caller other work differ) ∙ e)
     ];
     going = λ other r e. elim (cases_same other caller) [
       | inl same ↦ (stands r (running-here callers caller work r (subst (λ (d : ℕ). running (with_work callers caller work) d ≡ Some r) same e))).1
@@ -148,7 +148,7 @@ module _ {K V S A : Type 0} where
     chunked = core.chunked;
     limit = core.limit;
     sizes = core.sizes;
-    standing = λ other r e. core.standing other r (sym (running-with_seat callers caller other) ∙ e);
+    valid = λ other r e. core.valid other r (sym (running-with_seat callers caller other) ∙ e);
     going = λ other r e. core.going other r (sym (running-with_seat callers caller other) ∙ e);
     resizers = λ other z e. core.resizers other z (sym (resizing-with_seat callers caller other) ∙ e);
     scanners = λ other v e. core.scanners other v (sym (scanning-with_seat callers caller other) ∙ e);
@@ -164,7 +164,7 @@ module _ {K V S A : Type 0} where
     limit = core.limit;
     sizes = numbered store'.words.tables (performed_ask eq hash says refuse (ask_of r.machine) store r a store' later
         (unnumbered store.words.tables core.sizes) fit performs).sized;
-    standing = core.standing;
+    valid = core.valid;
     going = core.going;
     resizers = core.resizers;
     scanners = core.scanners;
@@ -178,7 +178,7 @@ module _ {K V S A : Type 0} where
     chunked = core.chunked;
     limit = core.limit;
     sizes = numbered store'.words.tables (performed_copy eq hash refuse ask store a store' (unnumbered store.words.tables core.sizes) fit performs).sized;
-    standing = core.standing;
+    valid = core.valid;
     going = core.going;
     resizers = core.resizers;
     scanners = core.scanners;
@@ -201,7 +201,7 @@ new-core store callers mode capacity initial chunked limits power most words non
   chunked = chunked;
   limit = limits;
   sizes = numbered store.words.tables (new-sized capacity initial store.words power most words);
-  standing = λ caller r e. let f : None ≡ Some r = sym (ap (λ (y : List (Seat _ _ _)). running y caller) none) ∙ e in cc;
+  valid = λ caller r e. let f : None ≡ Some r = sym (ap (λ (y : List (Seat _ _ _)). running y caller) none) ∙ e in cc;
   going = λ caller r e. let f : None ≡ Some r = sym (ap (λ (y : List (Seat _ _ _)). running y caller) none) ∙ e in absurd cc;
   resizers = λ caller z e. let f : None ≡ Some z = sym (ap (λ (y : List (Seat _ _ _)). resizing y caller) none) ∙ e in absurd cc;
   scanners = λ caller v e. let f : None ≡ Some v = sym (ap (λ (y : List (Seat _ _ _)). scanning y caller) none) ∙ e in absurd cc;

@@ -21,7 +21,7 @@ use Rattle.papaya_words_law.proofs.ChainContent.{chain_apart}
 use Rattle.papaya_words_law.proofs.OneMap.{keeping}
 use Rattle.papaya_core_timeline.specs.declared.seat.Seat.{Seat}
 use Rattle.papaya_core_timeline.specs.Content.{content, listed, pairs_from, pairs_of_kind, pairs_of_slots}
-use Rattle.papaya_core_timeline.specs.Kept.{IsKept, IsLogged, CallTrace, setting_of, coding_of, low}
+use Rattle.papaya_core_timeline.specs.Kept.{IsConsistent, IsInArena, CallTrace, setting_of, coding_of, low}
 use Rattle.papaya_core_store.specs.Store.{StoreState, Stored, pair_of}
 use Rattle.papaya_core_store.specs.Tables.{table_of}
 use Rattle.papaya_core_store.proofs.Logs.{pair_below, pair_number}
@@ -31,7 +31,7 @@ use Rattle.papaya_core_store.specs.declared.store.Mode.{Mode}
 module _ {K V S : Type 0} (store : StoreState K V S) where
   -- each pair of the list is in the log, under its number
   abbrev AllLogged : List (Stored K V) → Type 0
-  AllLogged = AllByRecursion (IsLogged store)
+  AllLogged = AllByRecursion (IsInArena store)
 
   -- two lists
   append_logged : (ps qs : List (Stored K V)) → AllLogged ps → AllLogged qs → AllLogged (ps ++ qs)
@@ -60,7 +60,7 @@ module _ {K V S : Type 0} (store : StoreState K V S) where
 
   module _ (eq : K → K → Bool) where
     -- a pair that comes in, if its key has none
-    found_logged : (o : Option (Stored K V)) (q : Stored K V) → IsLogged store q → AllLogged (unless_found o q)
+    found_logged : (o : Option (Stored K V)) (q : Stored K V) → IsInArena store q → AllLogged (unless_found o q)
     found_logged None q h = (h, tt)
     found_logged (Some p) q h = tt
 
@@ -155,7 +155,7 @@ module _ {K V S : Type 0} (eq : K → K → Bool) (hash : K → ℕ) (mode : Mod
   c = coding_of (low hash)
 
   module _ {A : Type 0} (callers : List (Seat K V A)) (es : List (Exchange (Stored K V))) (call_traces : ℕ → CallTrace K V)
-      (kept : IsKept eq hash mode store callers es call_traces) where
+      (kept : IsConsistent eq hash mode store callers es call_traces) where
     -- the words of the law
     abbrev now : State (Stored K V)
     now = run es start

@@ -35,7 +35,7 @@ use Rattle.papaya_core_timeline.specs.Begins.{Begins, begun_work}
 use Rattle.papaya_core_timeline.specs.Content.{content, pairs_from, pairs_of_kind, pairs_of_slots}
 use Rattle.papaya_core_timeline.specs.Core.{CoreState, IsCore, work_of}
 use Rattle.papaya_core_timeline.specs.Counted.{IsCounted, owed_in, owed_of, owed_scan, owed_work}
-use Rattle.papaya_core_timeline.specs.Kept.{IsKept, CallTrace, setting_of, coding_of, low, told_call_traces}
+use Rattle.papaya_core_timeline.specs.Kept.{IsConsistent, CallTrace, setting_of, coding_of, low, told_call_traces}
 use Rattle.papaya_core_store.specs.Store.{StoreState, Stored}
 use Rattle.papaya_core_store.specs.Tables.{table_of}
 use Rattle.papaya_core_timeline.proofs.CountedContent.{content_apart, content_few}
@@ -117,7 +117,7 @@ module _ {K V S A : Type 0} (eq : K → K → Bool) (hash : K → ℕ) (law : Is
     (s : CoreState K V S A) (caller : ℕ) (s' : CoreState K V S A) (event : Event) (reply : Option Reply)
     (a : Advances eq says hashes refuse s caller s' event reply) (hasher : hashes s.store.hasher ≡ hash) (es : List (Exchange (Stored K V)))
     (call_traces : ℕ → CallTrace K V)
-    (core : IsCore s.store s.callers s.mode) (core' : IsCore s'.store s'.callers s'.mode) (kept : IsKept eq hash s.mode s.store s.callers es call_traces) where
+    (core : IsCore s.store s.callers s.mode) (core' : IsCore s'.store s'.callers s'.mode) (kept : IsConsistent eq hash s.mode s.store s.callers es call_traces) where
   -- the setting after the step
   abbrev g' : Setting K (Stored K V)
   g' = setting_of eq (low hash) s'.mode s'.store.words.tables

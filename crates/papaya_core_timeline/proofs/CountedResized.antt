@@ -17,7 +17,7 @@ use Rattle.papaya_core_timeline.specs.Callers.{working}
 use Rattle.papaya_core_timeline.specs.Content.{content}
 use Rattle.papaya_core_timeline.specs.Core.{CoreState, IsCore}
 use Rattle.papaya_core_timeline.specs.Counted.{IsCounted, owed_in, owed_work}
-use Rattle.papaya_core_timeline.specs.Kept.{CallTrace, IsKept, low, setting_of}
+use Rattle.papaya_core_timeline.specs.Kept.{CallTrace, IsConsistent, low, setting_of}
 use Rattle.papaya_core_timeline.specs.Resizes.{Resizes}
 use Rattle.papaya_core_timeline.proofs.CallersLemmas.{resizer-under_way}
 use Rattle.papaya_core_timeline.proofs.CountedContent.{content_apart}
@@ -36,7 +36,7 @@ module _ {K V S A : Type 0} (eq : K → K → Bool) (hash : K → ℕ) (law : Is
     (s : CoreState K V S A) (caller : ℕ) (s' : CoreState K V S A) (event : Event) (reply : Option Reply)
     (x : Resizes eq hashes refuse s caller s' event reply) (hasher : hashes s.store.hasher ≡ hash)
     (es : List (Exchange (Stored K V))) (call_traces : ℕ → CallTrace K V) (core : IsCore s.store s.callers s.mode)
-    (core' : IsCore s'.store s'.callers s'.mode) (kept : IsKept eq hash s.mode s.store s.callers es call_traces) where
+    (core' : IsCore s'.store s'.callers s'.mode) (kept : IsConsistent eq hash s.mode s.store s.callers es call_traces) where
   -- the work that goes on
   abbrev resumed : Resizer → Answer → Work K V A
   resumed z a = Resize (after z a)

@@ -20,9 +20,9 @@ use Rattle.papaya_core_timeline.specs.Callers.{working}
 use Rattle.papaya_core_timeline.specs.Content.{map_in}
 use Rattle.papaya_core_timeline.specs.Core.{CoreState, IsCore}
 use Rattle.papaya_core_timeline.specs.Counted.{IsCounted, owed_in, owed_scan, owed_work}
-use Rattle.papaya_core_timeline.specs.Kept.{CallTrace, IsKept, coding_of, low, scan_trace, setting_of}
+use Rattle.papaya_core_timeline.specs.Kept.{CallTrace, IsConsistent, coding_of, low, scan_trace, setting_of}
 use Rattle.papaya_core_timeline.specs.Moves.{MovesMap}
-use Rattle.papaya_core_timeline.specs.ScanGoes.{Scans, event_of_scan, reply_or, unheard}
+use Rattle.papaya_core_timeline.specs.ScanGoes.{Scans, event_of_scan, reply_or, list_refusal}
 use Rattle.papaya_core_timeline.specs.Scans.{IsCountedBeside, MovesByScan}
 use Rattle.papaya_core_timeline.proofs.CallersLemmas.{same_item, scanner-under_way}
 use Rattle.papaya_core_timeline.proofs.CountedSeats.{owed-with_work}
@@ -36,8 +36,8 @@ use Rattle.papaya_call.specs.declared.chain.ask.ScanAsk.TheVariants.{Copy, Given
 use Rattle.papaya_call.specs.declared.chain.scanner.ScannerState.{ScannerState}
 use Rattle.papaya_call.specs.declared.chain.scanner.ScannerState.TheVariants.{Copying, AtRoot, Sizing, Looking, Giving, Showing, Burying, Uncounting, Done, Refused}
 use Rattle.papaya_call.specs.Scanner.{asks_in, copy_asks, kind_of_ask, reply_in, reply_of}
-use Rattle.papaya_call_law.specs.ScanTold as told_by
-use Rattle.papaya_call_law.specs.ScanTold.{IsScanTold}
+use Rattle.papaya_call_law.specs.ScanAnswers as told_by
+use Rattle.papaya_call_law.specs.ScanAnswers.{IsTrueOfScan}
 use Rattle.papaya_core_store.specs.declared.scans.Scanning.{Scanning}
 
 -- a scanner that has ended owes nothing
@@ -60,22 +60,22 @@ goes_owes K V None v is = refl
 goes_owes K V (Some reply) v is = sym (ended_owes v.scanner.state reply (sym is))
 
 -- only a list that could not grow is not heard of
-copy_heard : (o : Option CopyAsk) (ask : ScanAsk) (a : Answer) → copy_asks o ≡ Some ask → unheard ask a ≡ None
+copy_heard : (o : Option CopyAsk) (ask : ScanAsk) (a : Answer) → copy_asks o ≡ Some ask → list_refusal ask a ≡ None
 copy_heard None ask a e = let f : None ≡ Some ask = e in absurd cc
-copy_heard (Some is) ask a e = ap (λ y. unheard y a) (sym (same_item (Copy is) ask e))
+copy_heard (Some is) ask a e = ap (λ y. list_refusal y a) (sym (same_item (Copy is) ask e))
 
 module _ {K V : Type 0} (g : Setting K (Stored K V)) (c : Coding K (Stored K V)) (w : Words (Stored K V)) (since : List (Exchange (Stored K V)))
     (loaded : told_by.LoadedPairs (Stored K V)) (a : Answer) (made : List (Exchange (Stored K V))) (loaded' : told_by.LoadedPairs (Stored K V))
     (ask : ScanAsk) where
-  pub was_heard : (state : ScannerState) → IsScanTold g c w since state loaded a made loaded' → asks_in state ≡ Some ask → unheard ask a ≡ None
+  pub was_heard : (state : ScannerState) → IsTrueOfScan g c w since state loaded a made loaded' → asks_in state ≡ Some ask → list_refusal ask a ≡ None
   was_heard (Copying stage) h e = copy_heard (resizers.asks_in stage) ask a e
-  was_heard AtRoot h e = ap (λ y. unheard y a) (sym (same_item _ ask e))
-  was_heard (Sizing table) h e = ap (λ y. unheard y a) (sym (same_item _ ask e))
-  was_heard (Looking spot) h e = ap (λ y. unheard y a) (sym (same_item _ ask e))
-  was_heard (Giving spot word) h e = ap (λ y. unheard y a) (sym (same_item (Given (pair_of word)) ask e)) ∙ ap (unheard (Given (pair_of word))) h.is
-  was_heard (Showing spot word) h e = ap (λ y. unheard y a) (sym (same_item _ ask e))
-  was_heard (Burying spot word) h e = ap (λ y. unheard y a) (sym (same_item _ ask e))
-  was_heard (Uncounting spot) h e = ap (λ y. unheard y a) (sym (same_item _ ask e))
+  was_heard AtRoot h e = ap (λ y. list_refusal y a) (sym (same_item _ ask e))
+  was_heard (Sizing table) h e = ap (λ y. list_refusal y a) (sym (same_item _ ask e))
+  was_heard (Looking spot) h e = ap (λ y. list_refusal y a) (sym (same_item _ ask e))
+  was_heard (Giving spot word) h e = ap (λ y. list_refusal y a) (sym (same_item (Given (pair_of word)) ask e)) ∙ ap (list_refusal (Given (pair_of word))) h.is
+  was_heard (Showing spot word) h e = ap (λ y. list_refusal y a) (sym (same_item _ ask e))
+  was_heard (Burying spot word) h e = ap (λ y. list_refusal y a) (sym (same_item _ ask e))
+  was_heard (Uncounting spot) h e = ap (λ y. list_refusal y a) (sym (same_item _ ask e))
   was_heard Done h e = let f : None ≡ Some ask = e in absurd cc
   was_heard (Refused refused) h e = let f : None ≡ Some ask = e in absurd cc
 
@@ -83,7 +83,7 @@ module _ {K V S A : Type 0} (eq : K → K → Bool) (hash : K → ℕ) (law : Is
     (s : CoreState K V S A) (caller : ℕ) (s' : CoreState K V S A) (event : Event) (reply : Option Reply)
     (x : Scans eq says hashes refuse s caller s' event reply) (hasher : hashes s.store.hasher ≡ hash)
     (es : List (Exchange (Stored K V))) (call_traces : ℕ → CallTrace K V) (core : IsCore s.store s.callers s.mode)
-    (kept : IsKept eq hash s.mode s.store s.callers es call_traces) where
+    (kept : IsConsistent eq hash s.mode s.store s.callers es call_traces) where
   abbrev bare : CoreState K V S A
   bare = scanned.bare eq hash law says hashes refuse s caller s' event reply x
 

@@ -21,13 +21,13 @@ use Rattle.papaya_call.specs.declared.chain.ask.Ask.{Ask}
 use Rattle.papaya_call.specs.declared.chain.ask.Ask.TheVariants as asks
 use Rattle.papaya_call.specs.declared.chain.ask.Answer.{Answer}
 use Rattle.papaya_call_law.specs.Goes.{grown_by, owed_in}
-use Rattle.papaya_call_law.specs.ChainTold as chain_told
+use Rattle.papaya_call_law.specs.ChainAnswers as chain_told
 use Rattle.papaya_words_law.specs.Code.{Coding}
 use Rattle.papaya_words_law.specs.Content.{IsCountAfter}
 use Rattle.papaya_words_law.specs.Exchange.{Setting, State, Exchange}
 use Rattle.papaya_call_law.specs.Owed.{owed_by, grows_of, grows_by}
 use Rattle.papaya_call_law.specs.Copier.{IsCopyAsked}
-use Rattle.papaya_call_law.specs.Told.{IsAsked, IsTold, LoadedPairs, word_of}
+use Rattle.papaya_call_law.specs.TrueAnswers.{IsAsked, IsTrueOf, LoadedPairs, word_of}
 use Rattle.papaya_core_store.specs.declared.pairs.Running.{Running}
 use Rattle.papaya_core_store.specs.Asks.{PerformsAsk}
 use Rattle.papaya_core_store.specs.CopyAsks.{PerformsCopy}
@@ -146,7 +146,7 @@ IsGrowth {P = P} by es = ((es ≡ []) × (by ≡ pos 0)) ⊎ ((e : Exchange P) �
 module _ {K P : Type 0} (g : Setting K P) (c : Coding K P) (k : K) (s : State P) (kind : Option StepKind) where
   -- what is told of an ask of the call itself
   call_grows : (loaded : LoadedPairs P) (ask : Call_ask) (a : Call_answer) (es : List (Exchange P)) (loaded' : LoadedPairs P)
-      → IsTold g c k s kind loaded ask a es loaded' → IsGrowth (grows_by kind ask a) es
+      → IsTrueOf g c k s kind loaded ask a es loaded' → IsGrowth (grows_by kind ask a) es
   call_grows loaded (Ask_exchange at old new) a es loaded' h =
       matched (IsGrowth (grows_by kind (Ask_exchange at old new) a) es) (word_of g c s at == old) _ _ h
       (λ _ done. inr (let asked = done.1 in (
@@ -175,7 +175,7 @@ module _ {K P : Type 0} (g : Setting K P) (c : Coding K P) (k : K) (s : State P)
 
   -- and of one of a copy
   copied_grows : (follows : ℕ) (loaded : chain_told.LoadedPairs P) (ask : CopyAsk) (a : Answer) (es : List (Exchange P))
-      (loaded' : chain_told.LoadedPairs P) → chain_told.IsCopyTold g c s kind follows loaded ask a es loaded' → IsGrowth (pos 0) es
+      (loaded' : chain_told.LoadedPairs P) → chain_told.IsTrueOfCopy g c s kind follows loaded ask a es loaded' → IsGrowth (pos 0) es
   copied_grows follows loaded (copies.Exchange at old new) a es loaded' h =
       matched (IsGrowth (pos 0) es) (word_of g c s at == old) _ _ h
       (λ _ done. inr (let asked = done.1 in (asked.0, asked.2, copy_grows c kind at new s loaded.kept asked.0 asked.1)))
@@ -191,7 +191,7 @@ module _ {K P : Type 0} (g : Setting K P) (c : Coding K P) (k : K) (s : State P)
 
   -- an answer told of an exchange by which the map grew so, or of none
   pub told_grows : (follows : ℕ) (loaded : chain_told.LoadedPairs P) (ask : Ask) (a : Answer) (es : List (Exchange P))
-      (loaded' : chain_told.LoadedPairs P) → chain_told.IsTold g c k s kind follows loaded ask a es loaded' → IsGrowth (grown_by kind ask a) es
+      (loaded' : chain_told.LoadedPairs P) → chain_told.IsTrueOf g c k s kind follows loaded ask a es loaded' → IsGrowth (grown_by kind ask a) es
   told_grows follows loaded (asks.Call ask) a es loaded' h = subst (λ y. IsGrowth (grown_by kind (asks.Call ask) y) es) (sym h.is)
       (call_grows loaded.call ask h.told es h.call h.tells)
   told_grows follows loaded (asks.Copy ask) a es loaded' h = copied_grows follows loaded ask a es loaded' h

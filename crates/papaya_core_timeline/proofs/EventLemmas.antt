@@ -21,7 +21,7 @@ use Rattle.papaya_words_law.specs.Exchange.{Setting, State, Exchange}
 use Rattle.papaya_words_law.specs.Code.{Coding}
 use Rattle.papaya_call_law.specs.Relies.{Change, change_after, change_of_kind}
 use Rattle.papaya_call_law.specs.Says.{show}
-use Rattle.papaya_call_law.specs.Told.{IsTold, IsAsked, LoadedPairs, word_of}
+use Rattle.papaya_call_law.specs.TrueAnswers.{IsTrueOf, IsAsked, LoadedPairs, word_of}
 use Rattle.papaya_core_timeline.specs.declared.trace.Event.{Event}
 use Rattle.papaya_core_timeline.specs.declared.trace.Event.TheVariants.{Changed, Moved, Asked, Shown, Other}
 use Rattle.papaya_core_timeline.specs.Advances.{call_event, answered_event, kind_event, shown_event}
@@ -62,7 +62,7 @@ module _ {K P : Type 0} (g : Setting K P) (c : Coding K P) (k : K) (s : State P)
   Cases ask answer es = IsQuiet kind ask answer es ⊎ IsExchanged g c k s kind loaded ask answer es ⊎ IsShowing kind ask answer es ⊎ IsShown kind ask answer es
 
   -- what is told is one of them
-  pub told_cases : (ask : Ask) (answer : Answer) (es : List (Exchange P)) (loaded' : LoadedPairs P) → IsTold g c k s kind loaded ask answer es loaded'
+  pub told_cases : (ask : Ask) (answer : Answer) (es : List (Exchange P)) (loaded' : LoadedPairs P) → IsTrueOf g c k s kind loaded ask answer es loaded'
       → Cases ask answer es
   told_cases (Load at) answer es loaded' h = inl (h.1, refl)
   told_cases (Ask_exchange at old new) answer es loaded' h =
@@ -110,7 +110,7 @@ module _ {K P : Type 0} (g : Setting K P) (c : Coding K P) (k : K) (s : State P)
 
   -- so at most one exchange
   pub one_exchange : (ask : Ask) (answer : Answer) (es : List (Exchange P)) (loaded' : LoadedPairs P)
-      → IsTold g c k s kind loaded ask answer es loaded' → (es ≡ []) ⊎ ((e : Exchange P) × (es ≡ e ∷ []))
+      → IsTrueOf g c k s kind loaded ask answer es loaded' → (es ≡ []) ⊎ ((e : Exchange P) × (es ≡ e ∷ []))
   one_exchange ask answer es loaded' h =
       let none : (es ≡ []) → (es ≡ []) ⊎ ((e : Exchange P) × (es ≡ e ∷ [])) = λ e. inl e in
       ⊎_elim (λ quiet. none quiet.0) (λ x. ⊎_elim (λ y. inr (y.by, y.made)) (λ z. ⊎_elim (λ y. none y.4) (λ y. none y.4) z) x)

@@ -8,8 +8,8 @@ use Rattle.papaya_words_law.specs.Meaning.{map_of}
 use Rattle.papaya_call.specs.declared.answers.Operation.TheVariants as ops
 use Rattle.papaya_call.specs.declared.call.Call.TheVariants.{Get, Insert, TryInsert, RemoveIf, Compute, Reserve, CopyAll, Clear, Retain, Walk}
 use Rattle.papaya_call_law.specs.Relies.{change_in}
-use Rattle.papaya_call_law.specs.Says.{HasShownNone, Said, Agrees, Inserts, Makes, Removes, ShowsPairs, StandsOn}
-use Rattle.papaya_call_law.specs.Told.{IsOneOf}
+use Rattle.papaya_call_law.specs.Says.{HasCalledNone, ClosureResult, Agrees, Inserts, Makes, Removes, NamesPairs, ActsOn}
+use Rattle.papaya_call_law.specs.TrueAnswers.{IsOneOf}
 use Rattle.papaya_core_store.specs.declared.pairs.Running.{Running}
 use Rattle.papaya_core_timeline.specs.declared.trace.Turn.{Turn}
 use Rattle.papaya_core_timeline.proofs.Begun.{the_task}
@@ -17,8 +17,8 @@ use Rattle.papaya_core_timeline.specs.Callers.{resizing, running, scanning}
 use Rattle.papaya_call.specs.declared.chain.resizer.Resizer.{Resizer}
 use Rattle.papaya_core_timeline.specs.Core.{CoreState, IsCore}
 use Rattle.papaya_core_timeline.specs.Given.{AreGiven, HasLeft}
-use Rattle.papaya_core_timeline.specs.Headline.{AreLogged, AreNew}
-use Rattle.papaya_core_timeline.specs.Kept.{CallTrace, IsKept, ScanTrace, numbers_of, scan_trace, setting_of}
+use Rattle.papaya_core_timeline.specs.Headline.{AreInArena, AreNew}
+use Rattle.papaya_core_timeline.specs.Kept.{CallTrace, IsConsistent, ScanTrace, numbers_of, scan_trace, setting_of}
 use Rattle.papaya_core_timeline.specs.Maps.{Map, at_key, key_of}
 use Rattle.papaya_core_store.specs.Performs.{own_key, own_value}
 use Rattle.papaya_core_store.specs.Store.{KeepsPairs, StoreState, Stored, pair_of}
@@ -64,12 +64,12 @@ answer_about [] n = None
 answer_about (one ∷ older) n = cond (one.0.number == n) (Some one.1) (answer_about older n)
 
 -- What a machine stands on was said by its closure in the call. A value that it answered is the call's until a pair is made of it, and then is the pair's.
-abbrev pub WasSaid : {K V S A : Type 0} → StoreState K V S → Running K V A → ℕ → History → Answered V → Said → Type 0
-WasSaid store r caller h said (Agrees n agrees) = WasAsked caller n agrees h
-WasSaid {V = V} store r caller h said (Inserts shown) = (v : V) × (own_value store r ≡ Some v) × WasAnswered caller shown (ops.Insert v) h said
-WasSaid {K = K} {V = V} store r caller h said (Makes shown n) = (q : Stored K V) × (pair_of store n ≡ Some q)
+abbrev pub WasReturned : {K V S A : Type 0} → StoreState K V S → Running K V A → ℕ → History → Answered V → ClosureResult → Type 0
+WasReturned store r caller h said (Agrees n agrees) = WasAsked caller n agrees h
+WasReturned {V = V} store r caller h said (Inserts shown) = (v : V) × (own_value store r ≡ Some v) × WasAnswered caller shown (ops.Insert v) h said
+WasReturned {K = K} {V = V} store r caller h said (Makes shown n) = (q : Stored K V) × (pair_of store n ≡ Some q)
     × WasAnswered caller shown (ops.Insert q.value) h said
-WasSaid store r caller h said (Removes n) = WasAnswered caller (Some n) ops.Remove h said
+WasReturned store r caller h said (Removes n) = WasAnswered caller (Some n) ops.Remove h said
 
 module _ {K V : Type 0} (eq : K → K → Bool) where
   -- the map m after these exchanges, whatever tables there are
@@ -131,10 +131,10 @@ module _ {K V : Type 0} (eq : K → K → Bool) where
       pub made : (q : Stored K V) → IsOneOf call_trace.loaded.call.made q → IsValueOf call q.value
       pub change : change_of caller h ≡ change_in r.machine.call.state
       -- what its machine stands on was said by its closure in the call
-      pub said : (said : Said) → StandsOn r.machine.call said → WasSaid store r caller h answers said
-      pub shows : ShowsPairs r.machine.call
+      pub said : (said : ClosureResult) → ActsOn r.machine.call said → WasReturned store r caller h answers said
+      pub shows : NamesPairs r.machine.call
       -- a closure that was shown that there is none will not be shown it again
-      pub once : was_shown_none caller h ≡ true → HasShownNone r.machine.call.remembered.fill r.machine.call.state
+      pub once : was_shown_none caller h ≡ true → HasCalledNone r.machine.call.remembered.fill r.machine.call.state
       -- what its key had after some of the exchanges since the call began, it had at a moment of the call
       pub moments : (so_far rest : List (Exchange (Stored K V))) → so_far ++ rest ≡ call_trace.since
           → AtSomeMoment (λ m. at_key m (key_of call) ≡ at_key (replayed (replay call_trace.begun) so_far) (key_of call)) caller h maps
@@ -147,9 +147,9 @@ module _ {K V : Type 0} (eq : K → K → Bool) where
       pub maps : List (Map K V)
       pub answers : Answered V
       pub core : IsCore s.store s.callers s.mode
-      pub kept : IsKept eq hash s.mode s.store s.callers es call_traces
+      pub kept : IsConsistent eq hash s.mode s.store s.callers es call_traces
       pub timeline : Timeline eq schedule start h (replay es ∷ maps) answers
-      pub logged : AreLogged s.store (replay es ∷ maps)
+      pub logged : AreInArena s.store (replay es ∷ maps)
       pub given : AreGiven says s.store schedule h answers
       -- what the closures of the calls under way have left
       pub left : (caller : ℕ) (r : Running K V A) (call : Call K V A) → running s.callers caller ≡ Some r → open_call schedule caller h ≡ Some call

@@ -20,17 +20,17 @@ use Rattle.papaya_call.specs.declared.chain.ask.Ask.TheVariants as asks
 use Rattle.papaya_call.specs.declared.chain.ask.Answer.TheVariants as told_to
 use Rattle.papaya_call.specs.ChainMachine.{ask_of, follows_of, kind_of_ask, after}
 use Rattle.papaya_call_law.specs.Goes.{Goes, IsInOrder, change_by as changed_by}
-use Rattle.papaya_call_law.specs.ChainTold.{LoadedPairs, nothing_loaded}
+use Rattle.papaya_call_law.specs.ChainAnswers.{LoadedPairs, nothing_loaded}
 use Rattle.papaya_call.specs.declared.chain.scanner.Scan.{Scan}
 use Rattle.papaya_call.specs.declared.chain.scanner.Scan.TheVariants as scan_kinds
-use Rattle.papaya_call_law.specs.ScanTold as scans
+use Rattle.papaya_call_law.specs.ScanAnswers as scans
 use Rattle.papaya_core_store.specs.declared.scans.Scanning.{Scanning}
 use Rattle.papaya_call_law.proofs.Goes.{machine_goes}
 use Rattle.papaya_call_law.proofs.Once.{chain_offered, chain_once as shows_once}
 use Rattle.papaya_call_law.proofs.Replies.{chain_said, chain_shows, chain_task}
 use Rattle.papaya_call_law.specs.Relies.{change_in, change_of_reply}
-use Rattle.papaya_call_law.specs.Says.{HasShownNone, IsSaidChange, show}
-use Rattle.papaya_call_law.specs.Told.{IsOneOf}
+use Rattle.papaya_call_law.specs.Says.{HasCalledNone, IsResultChange, show}
+use Rattle.papaya_call_law.specs.TrueAnswers.{IsOneOf}
 use Rattle.papaya_words_law.specs.Code.{IsHashed}
 use Rattle.papaya_core_store.specs.declared.pairs.Running.{Running}
 use Rattle.papaya_core_timeline.specs.declared.seat.Seat.{Seat}
@@ -49,8 +49,8 @@ use Rattle.papaya_call.specs.declared.chain.resizer.Resizer.{Resizer}
 use Rattle.papaya_core_timeline.specs.Content.{map_of}
 use Rattle.papaya_core_timeline.specs.Core.{CoreState, IsCore}
 use Rattle.papaya_core_timeline.specs.Given.{AreGiven, GivesIn, HasLeft, begun_answers}
-use Rattle.papaya_core_timeline.specs.Headline.{AreLogged, AreNew, ComesNew, HasTimeline}
-use Rattle.papaya_core_timeline.specs.Kept.{IsKept, CallTrace, setting_of, coding_of, low, told_call_traces, begun_call_traces, scan_trace}
+use Rattle.papaya_core_timeline.specs.Headline.{AreInArena, AreNew, ComesNew, HasTimeline}
+use Rattle.papaya_core_timeline.specs.Kept.{IsConsistent, CallTrace, setting_of, coding_of, low, told_call_traces, begun_call_traces, scan_trace}
 use Rattle.papaya_core_timeline.specs.Maps.{Map, Does, at_key, key_of}
 use Rattle.papaya_core_timeline.specs.Runs.{History, with_step}
 use Rattle.papaya_core_store.specs.Store.{KeepsPairs, StoreState, Stored, pair_of}
@@ -227,8 +227,8 @@ module _ {K V S A : Type 0} (eq : K → K → Bool) (hash : K → ℕ) (law : Is
         let tied = good.tied c x.before call x.was e in
         let (at, from, to, asking) = told (Changed kind old new) is in
         let change : change_in (after m x.answer).call.state ≡ Some (old, new) = changed ∙ sym (event_change (change_in m.call.state) (kind_of_ask m) (ask_of m) x.answer (copy_kind m) (chain_once m)) ∙ ap (λ y. change_by y (change_in m.call.state)) (sym x.event_is ∙ is) in
-        let said : IsSaidChange (the_task call) m.call old (number_in came) =
-        subst (λ n. IsSaidChange (the_task call) m.call old n) (sym came_is) (subst (λ t. IsSaidChange t m.call old new) tied.task (chain_changed m x.answer goes_by (good.core.standing c x.before x.was) at from to asking old new change)) in
+        let said : IsResultChange (the_task call) m.call old (number_in came) =
+        subst (λ n. IsResultChange (the_task call) m.call old n) (sym came_is) (subst (λ t. IsResultChange t m.call old new) tied.task (chain_changed m x.answer goes_by (good.core.valid c x.before x.was) at from to asking old new change)) in
         change_agreed call s.store x.before c h good.answers tied.said old came (logged went came may) said
       where
         logged : (went came : Option (Stored K V)) → MayPut step.call.key x.before.machine.call.task (good.call_traces c).loaded.call.made went came → (q : Stored K V) → came ≡ Some q → pair_of s.store q.number ≡ Some q
@@ -279,14 +279,14 @@ module _ {K V S A : Type 0} (eq : K → K → Bool) (hash : K → ℕ) (law : Is
     timeline = (legal, answering.fits, good.timeline)
 
     -- the pairs of the map after it stand in slots
-    standing : (j : K) (p : Stored K V) → replay eq es j ≡ Some p → (t : ℕ) × (i : ℕ) × (named ((run es first_state).slot t i) ≡ Some p)
-    standing = held_in_slot eq (low hash) s'.mode s'.store.words.tables (hashed_setting eq hash law s' core').lawful es step.kept.allowed
+    valid : (j : K) (p : Stored K V) → replay eq es j ≡ Some p → (t : ℕ) × (i : ℕ) × (named ((run es first_state).slot t i) ≡ Some p)
+    valid = held_in_slot eq (low hash) s'.mode s'.store.words.tables (hashed_setting eq hash law s' core').lawful es step.kept.allowed
 
     -- so they are in the log
     in_log : (j : K) (p : Stored K V) → replay eq es j ≡ Some p → pair_of s'.store p.number ≡ Some p
-    in_log j p e = let (t, i, there) = standing j p e in step.kept.logged t i p there
+    in_log j p e = let (t, i, there) = valid j p e in step.kept.logged t i p there
 
-    logged : AreLogged s'.store later_maps
+    logged : AreInArena s'.store later_maps
     logged = (in_log, logged_more s.store s'.store (replay eq good.es ∷ good.maps) grows.pairs_stay good.logged)
 
     -- the pairs that the call has loaded
@@ -315,7 +315,7 @@ module _ {K V S A : Type 0} (eq : K → K → Bool) (hash : K → ℕ) (law : Is
 
     unused : (d : ℕ) (r : Running K V A) → running s'.callers d ≡ Some r → (q : Stored K V) → IsOneOf (call_traces d).loaded.call.made q → change_in r.machine.call.state ≡ None → IsUnused q.number later_maps
     unused d r now q made none = (
-      λ j p e. let (t, i, there) = standing j p e in (step.kept.calls d r now).unwritten q made none t i p there,
+      λ j p e. let (t, i, there) = valid j p e in (step.kept.calls d r now).unwritten q made none t i p there,
       elim (cases_same d c) [
         | inl same ↦
             let is = run_same d r same now in
@@ -353,11 +353,11 @@ module _ {K V S A : Type 0} (eq : K → K → Bool) (hash : K → ℕ) (law : Is
               (step.new q (subst (λ (y : LoadedPairs (Stored K V)). IsOneOf y.call.made q) own_loaded made));
           change = change_of-own c turn event h ∙ ap (change_by event) tied.change ∙ ap (λ y. change_by y (change_in m.call.state)) x.event_is
               ∙ event_change (change_in m.call.state) (kind_of_ask m) (ask_of m) x.answer (copy_kind m) (chain_once m) ∙ sym changed;
-          said = said_after eq says hashes refuse s.store x.before x.answer s'.store x.later x.performs grows.pairs_stay made_now step.call.again tied.shows turn c event x.event_is h good.answers answering (chain_said m x.answer order (good.core.standing c x.before x.was).call tied.shows) tied.said;
+          said = said_after eq says hashes refuse s.store x.before x.answer s'.store x.later x.performs grows.pairs_stay made_now step.call.again tied.shows turn c event x.event_is h good.answers answering (chain_said m x.answer order (good.core.valid c x.before x.was).call tied.shows) tied.said;
           shows = chain_shows m x.answer order tied.shows;
           once = λ shown. ⊎_elim
               (λ was. (shows_once m x.answer order (tied.once was)).1)
-              (λ (now : (ask_of m ≡ asks.Call ShowNone) × ((op : OpKind) × (x.answer ≡ told_to.Call (Op op)))). subst (λ y. HasShownNone (after m y).call.remembered.fill (after m y).call.state) (sym now.1.1) (chain_offered m now.1.0 now.0))
+              (λ (now : (ask_of m ≡ asks.Call ShowNone) × ((op : OpKind) × (x.answer ≡ told_to.Call (Op op)))). subst (λ y. HasCalledNone (after m y).call.remembered.fill (after m y).call.state) (sym now.1.1) (chain_offered m now.1.0 now.0))
               (event_none (was_shown_none c h) (kind_of_ask m) (ask_of m) x.answer (ap (λ y. none_by y (was_shown_none c h)) (sym x.event_is) ∙ sym (was_shown_none-own c turn event h) ∙ shown));
           moments = subst (λ (l : List (Exchange (Stored K V))). (so_far rest : List (Exchange (Stored K V))) → so_far ++ rest ≡ (good.call_traces c).since ++ step.made → AtSomeMoment (λ m. at_key m (key_of call) ≡ at_key (replayed eq (replay eq (good.call_traces c).begun) so_far) (key_of call)) c later_history (replay eq (l ++ step.made) ∷ replay eq good.es ∷ good.maps)) step.call.split
               (moments_more eq (key_of call) c (entry turn c event) h (replay eq good.es ∷ good.maps) (good.call_traces c).begun (good.call_traces c).since step.made one
@@ -618,8 +618,8 @@ module _ {K V S A : Type 0} (eq : K → K → Bool) (hash : K → ℕ) (law : Is
       call_traces : ℕ → CallTrace K V
       call_traces = begun_call_traces good.call_traces c good.es
 
-      logged : AreLogged s'.store (replay eq good.es ∷ good.maps)
-      logged = subst (λ (y : StoreState K V S). AreLogged y (replay eq good.es ∷ good.maps)) (sym x.store) good.logged
+      logged : AreInArena s'.store (replay eq good.es ∷ good.maps)
+      logged = subst (λ (y : StoreState K V S). AreInArena y (replay eq good.es ∷ good.maps)) (sym x.store) good.logged
 
       run_other : (d : ℕ) (r : Running K V A) → d ≢ c → running s'.callers d ≡ Some r → running s.callers d ≡ Some r
       run_other d r differ now =
@@ -732,7 +732,7 @@ module _ {K V S A : Type 0} (eq : K → K → Bool) (hash : K → ℕ) (law : Is
               begun_value call v had = value_is call v (handed_value (value_of_call call) v had)
 
   -- a run begins with no entry and the core's map
-  pub good_start : (says : Says K V A) (schedule : List (Turn K V A)) (s : CoreState K V S A) (es : List (Exchange (Stored K V))) (call_traces : ℕ → CallTrace K V) → IsCore s.store s.callers s.mode → IsKept eq hash s.mode s.store s.callers es call_traces → IsGood eq says hash schedule s.store (map_of eq s) s []
+  pub good_start : (says : Says K V A) (schedule : List (Turn K V A)) (s : CoreState K V S A) (es : List (Exchange (Stored K V))) (call_traces : ℕ → CallTrace K V) → IsCore s.store s.callers s.mode → IsConsistent eq hash s.mode s.store s.callers es call_traces → IsGood eq says hash schedule s.store (map_of eq s) s []
   good_start says schedule s es call_traces core kept = record {
     es = es;
     call_traces = call_traces;
@@ -741,7 +741,7 @@ module _ {K V S A : Type 0} (eq : K → K → Bool) (hash : K → ℕ) (law : Is
     core = core;
     kept = kept;
     timeline = λ j. sym (is_map j);
-    logged = (λ j p e. let (t, i, there) = standing j p e in kept.logged t i p there, tt);
+    logged = (λ j p e. let (t, i, there) = valid j p e in kept.logged t i p there, tt);
     given = tt;
     left = λ d r call now e a had. let f : None ≡ Some call = e in absurd cc;
     resized = λ d z call now e. let f : None ≡ Some call = e in absurd cc;
@@ -749,15 +749,15 @@ module _ {K V S A : Type 0} (eq : K → K → Bool) (hash : K → ℕ) (law : Is
     kept_pairs = λ n p there. there;
     fresh = tt;
     made_new = λ d r call now e q made. let f : None ≡ Some call = e in absurd cc;
-    unused = λ d r now q made none. (λ j p e. let (t, i, there) = standing j p e in (kept.calls d r now).unwritten q made none t i p there, tt);
+    unused = λ d r now q made none. (λ j p e. let (t, i, there) = valid j p e in (kept.calls d r now).unwritten q made none t i p there, tt);
     tied = λ d r call now e. let f : None ≡ Some call = e in cc;
   }
     where
       is_map : (j : K) → map_of eq s j ≡ replay eq es j
       is_map j = map_kept eq hash law s es call_traces core kept j ∙ ap (λ m. m j) (map_replayed eq (low hash) s.mode s.store.words.tables es (λ k. None))
 
-      standing : (j : K) (p : Stored K V) → replay eq es j ≡ Some p → (t : ℕ) × (i : ℕ) × (named ((run es first_state).slot t i) ≡ Some p)
-      standing = held_in_slot eq (low hash) s.mode s.store.words.tables (hashed_setting eq hash law s core).lawful es kept.allowed
+      valid : (j : K) (p : Stored K V) → replay eq es j ≡ Some p → (t : ℕ) × (i : ℕ) × (named ((run es first_state).slot t i) ≡ Some p)
+      valid = held_in_slot eq (low hash) s.mode s.store.words.tables (hashed_setting eq hash law s core).lawful es kept.allowed
 
   -- at its end the maps of a run are a timeline from the core's map to the core's map
   pub good_end : (says : Says K V A) (schedule : List (Turn K V A)) (s s' : CoreState K V S A) (h : History) → IsGood eq says hash schedule s.store (map_of eq s) s' h → HasTimeline eq says schedule s h s'

@@ -18,13 +18,13 @@ use Rattle.papaya_call.specs.declared.chain.resizer.Resizer.{Resizer}
 use Rattle.papaya_call.specs.declared.chain.resizer.ResizerState.{ResizerState as Stage}
 use Rattle.papaya_call.specs.declared.chain.resizer.ResizerState.TheVariants as stages
 use Rattle.papaya_call.specs.Resizer.{after, follows_in, kind_in, reply_in}
-use Rattle.papaya_call_law.specs.Resizers.{IsResizeCause, IsStageTold}
-use Rattle.papaya_call_law.specs.ChainTold.{IsCopyTold, LoadedPairs}
+use Rattle.papaya_call_law.specs.Resizers.{IsResizeCause, IsTrueOfStage}
+use Rattle.papaya_call_law.specs.ChainAnswers.{IsTrueOfCopy, LoadedPairs}
 use Rattle.papaya_words_law.specs.Code.{Coding}
 use Rattle.papaya_words_law.specs.Exchange.{Exchange, Open, Replace, Setting, State, run, start as first_state}
 use Rattle.papaya_words_law.specs.Invariant.{named}
 use Rattle.papaya_call_law.specs.Relies.{Change, change_in}
-use Rattle.papaya_call_law.specs.Told.{IsOneOf}
+use Rattle.papaya_call_law.specs.TrueAnswers.{IsOneOf}
 use Rattle.papaya_core_store.specs.declared.pairs.Running.{Running}
 use Rattle.papaya_core_store.specs.Store.{KeepsPairs, StoreState, Stored, pair_of}
 use Rattle.papaya_core_timeline.specs.declared.seat.Seat.{Seat}
@@ -37,8 +37,8 @@ use Rattle.papaya_core_timeline.specs.Advances.{goes_on}
 use Rattle.papaya_core_timeline.specs.Callers.{resizer_in, resizing, running, scanning, with_work}
 use Rattle.papaya_core_timeline.specs.Core.{CoreState, IsCore}
 use Rattle.papaya_core_timeline.specs.Given.{asks_closure}
-use Rattle.papaya_core_timeline.specs.Headline.{AreLogged, ComesNew}
-use Rattle.papaya_core_timeline.specs.Kept.{IsKept, CallTrace, setting_of, coding_of, low, scan_trace}
+use Rattle.papaya_core_timeline.specs.Headline.{AreInArena, ComesNew}
+use Rattle.papaya_core_timeline.specs.Kept.{IsConsistent, CallTrace, setting_of, coding_of, low, scan_trace}
 use Rattle.papaya_core_timeline.specs.Maps.{Map, Same}
 use Rattle.papaya_core_timeline.specs.Content.{map_of}
 use Rattle.papaya_core_timeline.specs.Moves.{MovesMap}
@@ -121,7 +121,7 @@ module _ {K V : Type 0} (eq : K → K → Bool) (g : Setting K (Stored K V)) (c 
   abbrev pub IsOne : Type 0
   IsOne = ((made ≡ []) ⊎ ((e : Exchange (Stored K V)) × (made ≡ e ∷ []))) × ((es : List (Exchange (Stored K V))) → Same (replay eq es) (replay eq (es ++ made)))
 
-  pub copied_one : (kind : _) (follows : ℕ) (ask : CopyAsk) → IsCopyTold g c s kind follows loaded ask a made loaded' → IsOne
+  pub copied_one : (kind : _) (follows : ℕ) (ask : CopyAsk) → IsTrueOfCopy g c s kind follows loaded ask a made loaded' → IsOne
   copied_one kind follows ask told = (
     ⊎_elim (λ none. inl none) (λ (x : IsCopied g c s kind loaded.kept ask made). inr (x.by, x.made))
         (copy_told g c s kind follows loaded ask a made loaded' told),
@@ -134,7 +134,7 @@ module _ {K V : Type 0} (eq : K → K → Bool) (g : Setting K (Stored K V)) (c 
   open_one : (table : ℕ) → made ≡ Open table ∷ [] → IsOne
   open_one table is = (inr (Open table, is), λ es j. ap (λ fs. replay eq (es ++ fs) j) is ∙ ap (λ m. m j) (replay-append eq es (Open table ∷ [])))
 
-  pub stage_one : (stage : Stage) → IsStageTold g c s stage loaded a made loaded' → IsOne
+  pub stage_one : (stage : Stage) → IsTrueOfStage g c s stage loaded a made loaded' → IsOne
   stage_one (stages.Opening table) told = matched IsOne (s.root == 0) ((a ≡ answers.Call Exchanged) × (made ≡ Open table ∷ []) × (loaded' ≡ loaded))
       ((a ≡ answers.Call (Found_instead s.root)) × ((made ≡ []) × (loaded' ≡ loaded))) told (λ _ opened. open_one table opened.1) (λ _ lost. none_one lost.1.0)
   stage_one stage (ask, asked, told) = copied_one (kind_in stage) (follows_in stage) ask told
@@ -157,7 +157,7 @@ module _ {K V S A : Type 0} (eq : K → K → Bool) (hash : K → ℕ) (law : Is
     abbrev call_traces : ℕ → CallTrace K V
     call_traces = resized.call_traces' eq hash law refuse s c s' event reply x as_hashed good.es good.call_traces good.core good.kept
 
-    kept : IsKept eq hash s'.mode s'.store s'.callers es call_traces
+    kept : IsConsistent eq hash s'.mode s'.store s'.callers es call_traces
     kept = resized.resize_kept eq hash law refuse s c s' event reply x as_hashed good.es good.call_traces good.core good.kept
 
     abbrev later_history : History
@@ -229,13 +229,13 @@ module _ {K V S A : Type 0} (eq : K → K → Bool) (hash : K → ℕ) (law : Is
     open_other d call differ e = sym (open_call-other schedule c d turn event h (λ z. differ (sym z))) ∙ e
 
     -- the pairs of the map after it are logged
-    standing : (j : K) (p : Stored K V) → replay eq es j ≡ Some p → (t : ℕ) × (i : ℕ) × (named ((run es first_state).slot t i) ≡ Some p)
-    standing = held_in_slot eq (low hash) s'.mode s'.store.words.tables (hashed_setting eq hash law s' core').lawful es kept.allowed
+    valid : (j : K) (p : Stored K V) → replay eq es j ≡ Some p → (t : ℕ) × (i : ℕ) × (named ((run es first_state).slot t i) ≡ Some p)
+    valid = held_in_slot eq (low hash) s'.mode s'.store.words.tables (hashed_setting eq hash law s' core').lawful es kept.allowed
 
     in_log : (j : K) (p : Stored K V) → replay eq es j ≡ Some p → pair_of s'.store p.number ≡ Some p
-    in_log j p e = let (t, i, there) = standing j p e in kept.logged t i p there
+    in_log j p e = let (t, i, there) = valid j p e in kept.logged t i p there
 
-    logged : AreLogged s'.store (replay eq good.es ∷ good.maps)
+    logged : AreInArena s'.store (replay eq good.es ∷ good.maps)
     logged = logged_more s.store s'.store (replay eq good.es ∷ good.maps) pairs_stay good.logged
 
     legal : IsLegal eq event schedule c h (replay eq good.es) good.maps (replay eq es) good.answers
@@ -246,7 +246,7 @@ module _ {K V S A : Type 0} (eq : K → K → Bool) (hash : K → ℕ) (law : Is
         → change_in r.machine.call.state ≡ None → IsUnused q.number later_maps
     unused d r now q of_it none =
         let (differ, before) = runs_other d r now in (
-          λ j p e. let (t, i, there) = standing j p e in (kept.calls d r now).unwritten q of_it none t i p there,
+          λ j p e. let (t, i, there) = valid j p e in (kept.calls d r now).unwritten q of_it none t i p there,
           good.unused d r before q (subst (λ (y : LoadedPairs (Stored K V)). IsOneOf y.call.made q) (loaded_other d differ) of_it) none,
         )
 
@@ -417,7 +417,7 @@ module _ {K V S A : Type 0} (eq : K → K → Bool) (hash : K → ℕ) (law : Is
   pub resize_same : {hashes : S → K → ℕ} (refuse : Bool) (s s' : CoreState K V S A) (c : ℕ) (event : Event) (reply : Option Reply)
       (x : Resizes eq hashes refuse s c s' event reply) → hashes s.store.hasher ≡ hash → IsCore s.store s.callers s.mode
       → IsCore s'.store s'.callers s'.mode → (es : List (Exchange (Stored K V))) (call_traces : ℕ → CallTrace K V)
-      → IsKept eq hash s.mode s.store s.callers es call_traces → Same (map_of eq s) (map_of eq s')
+      → IsConsistent eq hash s.mode s.store s.callers es call_traces → Same (map_of eq s) (map_of eq s')
   resize_same refuse s s' c event reply x as_hashed core core' es call_traces kept j =
       let left = resized.left eq hash law refuse s c s' event reply x as_hashed es call_traces core kept in
       let one = stage_one eq (setting_of eq (low hash) s.mode s.store.words.tables) (coding_of (low hash)) (run es first_state) (call_traces c).loaded
@@ -432,7 +432,7 @@ module _ {K V S A : Type 0} (eq : K → K → Bool) (hash : K → ℕ) (law : Is
   pub resize_moves : {hashes : S → K → ℕ} (refuse : Bool) (s s' : CoreState K V S A) (c : ℕ) (event : Event) (reply : Option Reply)
       (x : Resizes eq hashes refuse s c s' event reply) → hashes s.store.hasher ≡ hash → IsCore s.store s.callers s.mode
       → IsCore s'.store s'.callers s'.mode → (es : List (Exchange (Stored K V))) (call_traces : ℕ → CallTrace K V)
-      → IsKept eq hash s.mode s.store s.callers es call_traces → MovesMap eq s c s' event
+      → IsConsistent eq hash s.mode s.store s.callers es call_traces → MovesMap eq s c s' event
   resize_moves refuse s s' c event reply x as_hashed core core' es call_traces kept =
       let same = resize_same refuse s s' c event reply x as_hashed core core' es call_traces kept in
       quiet_cases (MovesMap eq s c s') same (λ kind. same) event

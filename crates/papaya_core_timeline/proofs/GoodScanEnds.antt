@@ -12,11 +12,11 @@ use Rattle.papaya_words_law.specs.Exchange.{Setting, State as Words, Exchange, O
 use Rattle.papaya_words_law.specs.Exchange.{Bury, Link, Mark, Close, Place, Finish, Advance, Promote}
 use Rattle.papaya_words_law.specs.Exchange.{Abort, Take}
 use Rattle.papaya_words_law.specs.Meaning.{IsAtMoment, IsLawful, map_left, map_of}
-use Rattle.papaya_call_law.specs.Told.{IsOneOf}
+use Rattle.papaya_call_law.specs.TrueAnswers.{IsOneOf}
 use Rattle.papaya_core_store.specs.Store.{StoreState, Stored, pair_of}
 use Rattle.papaya_core_timeline.specs.declared.trace.Turn.{Turn}
-use Rattle.papaya_core_timeline.specs.Headline.{AreLogged}
-use Rattle.papaya_core_timeline.specs.Kept.{IsLogged, ScanTrace, WasShown, coding_of, numbers_of, setting_of}
+use Rattle.papaya_core_timeline.specs.Headline.{AreInArena}
+use Rattle.papaya_core_timeline.specs.Kept.{IsInArena, ScanTrace, WasShown, coding_of, numbers_of, setting_of}
 use Rattle.papaya_core_timeline.specs.Maps.{Map, at_key}
 use Rattle.papaya_core_timeline.specs.Runs.{History}
 use Rattle.papaya_core_timeline.specs.Timeline.{Answered, AreSince, AtSomeMoment, FitsDone, HadNumber}
@@ -31,7 +31,7 @@ use Rattle.papaya_core_timeline.proofs.TimelineLemmas.{at_weaker}
 use Rattle.papaya_call.specs.declared.chain.scanner.Scan.{Scan}
 use Rattle.papaya_call.specs.declared.chain.scanner.Scan.TheVariants as scans
 use Rattle.papaya_call_law.specs.ScanTaken.{IsTakenOut, takes_out}
-use Rattle.papaya_call_law.specs.ScanTold.{IsLastAnswer, count_of}
+use Rattle.papaya_call_law.specs.ScanAnswers.{IsLastAnswer, count_of}
 use Rattle.papaya_call_law.specs.Scans.{HadPair, HasScanned}
 use Rattle.papaya_call_law.specs.Scans as scan_law
 use Rattle.papaya_core_store.specs.declared.scans.Scanning.{Scanning}
@@ -71,24 +71,24 @@ module _ {K V : Type 0} (k : K) (since : List (Map K V)) where
 
 module _ {K V S : Type 0} (store : StoreState K V S) where
   -- the maps since a moment have logged pairs
-  since_logged : (c : ℕ) (h : History) (maps since : List (Map K V)) → AreSince c h maps since → AreLogged store maps → AreLogged store since
+  since_logged : (c : ℕ) (h : History) (maps since : List (Map K V)) → AreSince c h maps since → AreInArena store maps → AreInArena store since
   since_logged c [] maps since x l = absurd x
   since_logged c (e ∷ h) [] since x l = absurd x
-  since_logged c (e ∷ h) (m ∷ maps) since (inl (none, is)) l = subst (AreLogged store) (sym is) (l.0, tt)
-  since_logged c (e ∷ h) (m ∷ maps) since (inr (other, (earlier, is, x))) l = subst (AreLogged store) (sym is) (l.0, since_logged c h maps earlier x l.1)
+  since_logged c (e ∷ h) (m ∷ maps) since (inl (none, is)) l = subst (AreInArena store) (sym is) (l.0, tt)
+  since_logged c (e ∷ h) (m ∷ maps) since (inr (other, (earlier, is, x))) l = subst (AreInArena store) (sym is) (l.0, since_logged c h maps earlier x l.1)
 
-  some_logged : (k : K) (p : Stored K V) (since : List (Map K V)) → OfSome (λ m. m k ≡ Some p) since → AreLogged store since → IsLogged store p
+  some_logged : (k : K) (p : Stored K V) (since : List (Map K V)) → OfSome (λ m. m k ≡ Some p) since → AreInArena store since → IsInArena store p
   some_logged k p [] x l = absurd x
   some_logged k p (m ∷ since) (inl is) l = l.0 k p is
   some_logged k p (m ∷ since) (inr x) l = some_logged k p since x l.1
 
   -- two logged pairs of one number are one
-  one_pair : (p q : Stored K V) → IsLogged store p → IsLogged store q → p.number ≡ q.number → p ≡ q
+  one_pair : (p q : Stored K V) → IsInArena store p → IsInArena store q → p.number ≡ q.number → p ≡ q
   one_pair p q is_p is_q number = let both : Some p ≡ Some q = sym is_p ∙ ap (pair_of store) number ∙ is_q in cc
 
   -- what was answered last of a pair was answered last of its number
-  pub last_is : (shown : List (Stored K V × Bool)) (p : Stored K V) (b : Bool) → ((q : Stored K V) → WasShown shown q → IsLogged store q)
-      → IsLogged store p → IsLastAnswer shown p b → answer_about shown p.number ≡ Some b
+  pub last_is : (shown : List (Stored K V × Bool)) (p : Stored K V) (b : Bool) → ((q : Stored K V) → WasShown shown q → IsInArena store q)
+      → IsInArena store p → IsLastAnswer shown p b → answer_about shown p.number ≡ Some b
   last_is [] p b all there x = absurd x
   last_is (one ∷ older) p b all there (inl (is, said)) = ap (λ t. cond t (Some one.1) (answer_about older p.number))
       (eq-eqb one.0.number p.number (ap (λ (q : Stored K V). q.number) is)) ∙ ap (λ t. Some t) said
@@ -97,8 +97,8 @@ module _ {K V S : Type 0} (store : StoreState K V S) where
       (differs one.0.number p.number (λ same. other (one_pair one.0 p (all one.0 (inl refl)) there same)))
       ∙ last_is older p b (λ q was. all q (inr was)) there x
 
-  module _ (eq : K → K → Bool) (k : K) (p : Stored K V) (there : IsLogged store p) (differ : eq k p.key ≡ false) where
-    not_pair : (m : Map K V) → IsKeyed eq m → ((j : K) (q : Stored K V) → m j ≡ Some q → IsLogged store q) → (o : Option (Stored K V)) → m k ≡ o
+  module _ (eq : K → K → Bool) (k : K) (p : Stored K V) (there : IsInArena store p) (differ : eq k p.key ≡ false) where
+    not_pair : (m : Map K V) → IsKeyed eq m → ((j : K) (q : Stored K V) → m j ≡ Some q → IsInArena store q) → (o : Option (Stored K V)) → m k ≡ o
         → number_in o ≡ Some p.number → ⊥
     not_pair m keyed logged None is number = absurd cc
     not_pair m keyed logged (Some q) is number =
@@ -107,7 +107,7 @@ module _ {K V S : Type 0} (store : StoreState K V S) where
         absurd cc
 
     -- a pair of another class is not the key's
-    not_had : (since : List (Map K V)) → OfEach (IsKeyed eq) since → AreLogged store since → HadNumber k since p.number → ⊥
+    not_had : (since : List (Map K V)) → OfEach (IsKeyed eq) since → AreInArena store since → HadNumber k since p.number → ⊥
     not_had [] keyed logged x = x
     not_had (m ∷ since) keyed logged (inl is) = not_pair m keyed.0 logged.0 (m k) refl is
     not_had (m ∷ since) keyed logged (inr x) = not_had since keyed.1 logged.1 x
@@ -179,7 +179,7 @@ module _ {K V : Type 0} (eq : K → K → Bool) (hash : K → ℕ) (mode : Mode)
       since_making = some_weaker (λ f. f had.pair.key ≡ Some had.pair) (HasNumber n) tied.making.since
           (λ f e. (had.pair.key, had.pair, e, had.number)) (in_making had.fs had.is had.pair.key (Some had.pair) had.had)
 
-    module _ (lawful : IsLawful g) (logged : AreLogged store maps) where
+    module _ (lawful : IsLawful g) (logged : AreInArena store maps) where
       -- a given pair of the key's class was the key's
       had_then : (fs : List (Exchange (Stored K V))) → call_trace.loaded.before ++ fs ≡ call_trace.since → (k : K) (p : Stored K V)
           → eq k p.key ≡ true → IsAtMoment g (map_of g (map_left g call_trace.begun) call_trace.loaded.before) fs p.key (Some p)
@@ -207,7 +207,7 @@ module _ {K V : Type 0} (eq : K → K → Bool) (hash : K → ℕ) (mode : Mode)
             → IsAtMoment g (map_of g (map_left g call_trace.begun) call_trace.loaded.before) walked.fs p.key (Some p)
         of_given p one = subst (λ l. IsAtMoment g (map_of g (map_left g call_trace.begun) l) walked.fs p.key (Some p)) (sym walked.moment) (walked.given p one)
 
-        there : (p : Stored K V) → IsOneOf call_trace.loaded.given p → IsLogged store p
+        there : (p : Stored K V) → IsOneOf call_trace.loaded.given p → IsInArena store p
         there p one = some_logged store p.key p since (in_making walked.fs taken_is p.key (Some p) (of_given p one))
             (since_logged store c h maps since tied.making.are logged)
 
@@ -253,7 +253,7 @@ module _ {K V : Type 0} (eq : K → K → Bool) (hash : K → ℕ) (mode : Mode)
               (walked.each k)),
         )
 
-      module _ (newest : (k : K) (p : Stored K V) → HasNow maps k p → (replay eq (call_trace.begun ++ call_trace.since) k ≡ Some p) × IsLogged store p) where
+      module _ (newest : (k : K) (p : Stored K V) → HasNow maps k p → (replay eq (call_trace.begun ++ call_trace.since) k ≡ Some p) × IsInArena store p) where
         -- a key that had a pair as the call began
         not_none : (f : Map K V) → ((k : K) → f k ≡ replay eq call_trace.begun k) → (k : K) (p : Stored K V) → f k ≡ Some p
             → map_left g call_trace.begun k ≡ None → ⊥
@@ -266,7 +266,7 @@ module _ {K V : Type 0} (eq : K → K → Bool) (hash : K → ℕ) (mode : Mode)
             (λ out. tied.gone k p (sym (is k) ∙ was) (out_same call_trace.since k out) (newest k p has).0) (cleared k))
             tied.began
 
-        retain_done : ((q : Stored K V) → WasShown call_trace.loaded.shown q → IsLogged store q)
+        retain_done : ((q : Stored K V) → WasShown call_trace.loaded.shown q → IsInArena store q)
             → scan_law.HasRetained g (coding_of hash) s (map_left g call_trace.begun) call_trace.since call_trace.loaded → HasRetained c h maps
         retain_done shown retained =
             began_weaker (λ f. (k : K) → f k ≡ replay eq call_trace.begun k)
@@ -283,7 +283,7 @@ module _ {K V : Type 0} (eq : K → K → Bool) (hash : K → ℕ) (mode : Mode)
 
         -- so a call that has scanned each slot is done
         pub scan_done : (of : Call K V A) (scan : Scan) → IsScanOf of scan → (scan ≡ scans.Walk → change_of c h ≡ None)
-            → ((q : Stored K V) → WasShown call_trace.loaded.shown q → IsLogged store q)
+            → ((q : Stored K V) → WasShown call_trace.loaded.shown q → IsInArena store q)
             → HasScanned g (coding_of hash) s (map_left g call_trace.begun) call_trace.since scan call_trace.loaded → FitsDone eq of c h maps
         scan_done Clear scans.Clear is unchanged shown over = clear_done over
         scan_done (Retain a) scans.Retain is unchanged shown over = retain_done shown over

@@ -20,7 +20,7 @@ use Rattle.papaya_core_timeline.specs.Kept.{CallTrace}
 use Rattle.papaya_core_timeline.specs.Maps.{Map}
 use Rattle.papaya_core_timeline.specs.Runs.{History}
 use Rattle.papaya_core_timeline.specs.Timeline.{AtSomeMoment, FitsAsked, FitsGiven, HasNumber, IsAgreed, IsUnchanged, MayChange, last_asked}
-use Rattle.papaya_core_timeline.specs.ScanGoes.{reply_or, unheard}
+use Rattle.papaya_core_timeline.specs.ScanGoes.{reply_or, list_refusal}
 use Rattle.papaya_core_timeline.proofs.CallersLemmas.{same_item}
 use Rattle.papaya_core_timeline.proofs.EndingLemmas.{copy_unrefused}
 use Rattle.papaya_core_timeline.proofs.Good.{IsScanOf, IsTied}
@@ -33,7 +33,7 @@ use Rattle.papaya_call.specs.declared.chain.scanner.ScannerState.TheVariants as 
 use Rattle.papaya_call.specs.declared.chain.scanner.Scan.{Scan}
 use Rattle.papaya_call.specs.declared.chain.scanner.Scan.TheVariants as scans
 use Rattle.papaya_call.specs.Scanner.{reply_in}
-use Rattle.papaya_call_law.specs.ScanTold.{LoadedPairs}
+use Rattle.papaya_call_law.specs.ScanAnswers.{LoadedPairs}
 use Rattle.papaya_call_law.specs.Scans.{ReliesState}
 use Rattle.papaya_core_store.specs.declared.scans.Scanning.{Scanning}
 use Rattle.papaya_core_store.specs.Scans.{PerformsScan}
@@ -63,7 +63,7 @@ module _ {K V S A : Type 0} (eq : K → K → Bool) (hash : S → K → ℕ) (re
       ∙ is in absurd cc
 
 -- a list that could not grow was answered so
-pub unheard_is : (ask : ScanAsk) (a : Answer) (refused : Refusal) → unheard ask a ≡ Some refused → a ≡ answers.Call (Was_refused refused)
+pub unheard_is : (ask : ScanAsk) (a : Answer) (refused : Refusal) → list_refusal ask a ≡ Some refused → a ≡ answers.Call (Was_refused refused)
 unheard_is ask a refused e = search rules
 
 -- what a scanner replies

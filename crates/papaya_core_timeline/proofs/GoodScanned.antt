@@ -22,7 +22,7 @@ use Rattle.papaya_words_law.specs.Meaning.{IsLawful, map_left}
 use Rattle.papaya_words_law.proofs.Moments.{allowed_first, allowed_rest}
 use Rattle.papaya_words_law.proofs.OneMap.{keeping}
 use Rattle.papaya_call_law.specs.Relies.{change_in}
-use Rattle.papaya_call_law.specs.Told.{IsOneOf}
+use Rattle.papaya_call_law.specs.TrueAnswers.{IsOneOf}
 use Rattle.papaya_core_store.specs.declared.pairs.Running.{Running}
 use Rattle.papaya_core_store.specs.Store.{KeepsPairs, StoreState, Stored, pair_of}
 use Rattle.papaya_core_timeline.specs.declared.seat.Seat.{Seat}
@@ -35,8 +35,8 @@ use Rattle.papaya_core_timeline.specs.Advances.{goes_on}
 use Rattle.papaya_core_timeline.specs.Callers.{resizing, running, scanning, with_work}
 use Rattle.papaya_core_timeline.specs.Core.{CoreState, IsCore}
 use Rattle.papaya_core_timeline.specs.Given.{HasLeft, asks_closure}
-use Rattle.papaya_core_timeline.specs.Headline.{AreLogged, ComesNew}
-use Rattle.papaya_core_timeline.specs.Kept.{CallTrace, IsKept, IsScanning, ScanTrace, coding_of, low}
+use Rattle.papaya_core_timeline.specs.Headline.{AreInArena, ComesNew}
+use Rattle.papaya_core_timeline.specs.Kept.{CallTrace, IsConsistent, IsScanning, ScanTrace, coding_of, low}
 use Rattle.papaya_core_timeline.specs.Kept.{numbers_of, scan_trace, scanned_call_traces, setting_of}
 use Rattle.papaya_core_timeline.specs.Kept.{told_call_traces}
 use Rattle.papaya_core_timeline.specs.Maps.{IsUpdate, Map, Same}
@@ -46,7 +46,7 @@ use Rattle.papaya_core_timeline.specs.Timeline.{HasNumber, IsAgreed, IsAnsweredI
 use Rattle.papaya_core_timeline.specs.Timeline.{MayChange, OfSome, Timeline, asked_then, begins}
 use Rattle.papaya_core_timeline.specs.Timeline.{begun_by, change_by, change_of, given_by, given_then}
 use Rattle.papaya_core_timeline.specs.Timeline.{last_asked, open_after, open_call}
-use Rattle.papaya_core_timeline.specs.ScanGoes.{Scans, event_of_scan, unheard}
+use Rattle.papaya_core_timeline.specs.ScanGoes.{Scans, event_of_scan, list_refusal}
 use Rattle.papaya_core_timeline.proofs.CallersLemmas.{differs, resizing-elsewhere, resizing-here}
 use Rattle.papaya_core_timeline.proofs.CallersLemmas.{running-elsewhere, running-here, same_item}
 use Rattle.papaya_core_timeline.proofs.CallersLemmas.{scanning-elsewhere, scanning-here}
@@ -73,7 +73,7 @@ use Rattle.papaya_call.specs.declared.chain.scanner.ScannerState.TheVariants as 
 use Rattle.papaya_call.specs.declared.chain.scanner.Scan.{Scan}
 use Rattle.papaya_call.specs.declared.chain.scanner.Scan.TheVariants as scans
 use Rattle.papaya_call.specs.Scanner.{after, asks_in, kind_of_ask, reply_in}
-use Rattle.papaya_call_law.specs.ScanTold.{LoadedPairs}
+use Rattle.papaya_call_law.specs.ScanAnswers.{LoadedPairs}
 use Rattle.papaya_call_law.specs.Scans.{HadPair, MayTake, ReliesState}
 use Rattle.papaya_call_law.proofs.ScanAsks.{state_named}
 use Rattle.papaya_core_store.specs.declared.scans.Scanning.{Scanning}
@@ -177,7 +177,7 @@ module _ {K V S A : Type 0} (eq : K → K → Bool) (hash : K → ℕ) (law : Is
       abbrev call_traces : ℕ → CallTrace K V
       call_traces = scanned_call_traces good.call_traces c made heard.loaded
 
-      kept : IsKept eq hash s'.mode s'.store s'.callers es call_traces
+      kept : IsConsistent eq hash s'.mode s'.store s'.callers es call_traces
       kept = kept_scan.scan_kept eq hash law says hashes refuse s c s' event reply x as_hashed good.es good.call_traces good.core good.kept heard
 
       abbrev later_history : History
@@ -321,13 +321,13 @@ module _ {K V S A : Type 0} (eq : K → K → Bool) (hash : K → ℕ) (law : Is
       steady = (timeline_steady eq schedule start later_history later_maps (None ∷ good.answers) timeline).0
 
       -- the pairs of the map after it are logged, each under a key of its class
-      standing : (j : K) (p : Stored K V) → replay eq es j ≡ Some p → (t : ℕ) × (i : ℕ) × (named ((run es first_state).slot t i) ≡ Some p)
-      standing = held_in_slot eq (low hash) s'.mode s'.store.words.tables (hashed_setting eq hash law s' core').lawful es kept.allowed
+      valid : (j : K) (p : Stored K V) → replay eq es j ≡ Some p → (t : ℕ) × (i : ℕ) × (named ((run es first_state).slot t i) ≡ Some p)
+      valid = held_in_slot eq (low hash) s'.mode s'.store.words.tables (hashed_setting eq hash law s' core').lawful es kept.allowed
 
       in_log : (j : K) (p : Stored K V) → replay eq es j ≡ Some p → pair_of s'.store p.number ≡ Some p
-      in_log j p e = let (t, i, there) = standing j p e in kept.logged t i p there
+      in_log j p e = let (t, i, there) = valid j p e in kept.logged t i p there
 
-      logged : AreLogged s'.store (replay eq good.es ∷ good.maps)
+      logged : AreInArena s'.store (replay eq good.es ∷ good.maps)
       logged = logged_more s.store s'.store (replay eq good.es ∷ good.maps) heard.keeps good.logged
 
       keyed : IsKeyed eq (replay eq es)
@@ -435,7 +435,7 @@ module _ {K V S A : Type 0} (eq : K → K → Bool) (hash : K → ℕ) (law : Is
       unused : (d : ℕ) (r : Running K V A) → running s'.callers d ≡ Some r → (q : Stored K V) → IsOneOf (call_traces d).loaded.call.made q → change_in r.machine.call.state ≡ None → IsUnused q.number later_maps
       unused d r now q of_it none =
           let (differ, before) = runs_other d r now in (
-            λ j p e. let (t, i, there) = standing j p e in (kept.calls d r now).unwritten q of_it none t i p there,
+            λ j p e. let (t, i, there) = valid j p e in (kept.calls d r now).unwritten q of_it none t i p there,
             good.unused d r before q (subst (λ y. IsOneOf y.call.made q) (loaded_other d differ) of_it) none,
           )
 
@@ -498,7 +498,7 @@ module _ {K V S A : Type 0} (eq : K → K → Bool) (hash : K → ℕ) (law : Is
       fits None e rep some = tt
       fits (Some call) e rep some =
           let was = sym opened ∙ e in
-          elim (scan_replies own.scanner.state (unheard x.ask x.answer) rep (sym x.reply_is ∙ some)) [
+          elim (scan_replies own.scanner.state (list_refusal x.ask x.answer) rep (sym x.reply_is ∙ some)) [
             | inl (is, over) ↦ subst (λ y. Fits eq call y c later_history later_maps) (sym is) (done call was over)
             | inr (refused, is) ↦
                 subst (λ y. Fits eq call y c later_history later_maps) (sym is)
@@ -544,7 +544,7 @@ module _ {K V S A : Type 0} (eq : K → K → Bool) (hash : K → ℕ) (law : Is
 
     -- Where its list could not grow it was told nothing, and its call is over.
     module _ (deaf : kept_scan.Unheard eq hash law says hashes refuse s c s' event reply x as_hashed good.es good.call_traces good.core good.kept) where
-      kept_deaf : IsKept eq hash s'.mode s'.store s'.callers good.es good.call_traces
+      kept_deaf : IsConsistent eq hash s'.mode s'.store s'.callers good.es good.call_traces
       kept_deaf = kept_scan.unheard_kept eq hash law says hashes refuse s c s' event reply x as_hashed good.es good.call_traces good.core good.kept deaf
 
       abbrev deaf_history : History
@@ -568,7 +568,7 @@ module _ {K V S A : Type 0} (eq : K → K → Bool) (hash : K → ℕ) (law : Is
       deaf_keyed : IsKeyed eq newest
       deaf_keyed = replay_keyed eq (low hash) s.mode s.store.words.tables hashed.lawful good.es good.kept.allowed
 
-      deaf_logged : AreLogged s'.store (newest ∷ good.maps)
+      deaf_logged : AreInArena s'.store (newest ∷ good.maps)
       deaf_logged = logged_more s.store s'.store (newest ∷ good.maps) deaf_stay good.logged
 
       -- all others stand as they stood

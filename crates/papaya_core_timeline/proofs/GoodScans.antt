@@ -31,7 +31,7 @@ use Rattle.papaya_core_timeline.proofs.GivenLemmas.{left_more}
 use Rattle.papaya_core_timeline.proofs.TimelineLemmas.{change_of-other, change_of-own, entry, not_begin-other}
 use Rattle.papaya_call.specs.declared.chain.scanner.Scan.TheVariants as scans
 use Rattle.papaya_call_law.specs.ScanTaken.{IsTakenOut, takes_out}
-use Rattle.papaya_call_law.specs.ScanTold.{LoadedPairs, nothing_loaded}
+use Rattle.papaya_call_law.specs.ScanAnswers.{LoadedPairs, nothing_loaded}
 use Rattle.papaya_core_store.specs.declared.scans.Scanning.{Scanning}
 use Rattle.papaya_core_store.specs.declared.store.Mode.{Mode}
 

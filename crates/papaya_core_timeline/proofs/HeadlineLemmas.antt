@@ -8,7 +8,7 @@ use Rattle.papaya_call.specs.declared.call.Task.TheVariants.{Compute}
 use Rattle.papaya_call.specs.Answers.{Says}
 use Rattle.papaya_words_law.specs.Exchange.{Exchange}
 use Rattle.papaya_call.specs.declared.chain.ask.Ask.TheVariants as asks
-use Rattle.papaya_call.specs.ChainMachine.{IsStanding, ask_of, after}
+use Rattle.papaya_call.specs.ChainMachine.{IsValid, ask_of, after}
 use Rattle.papaya_call_law.proofs.ChainStanding.{chain_ask_fits, chain_stands}
 use Rattle.papaya_core_store.specs.declared.pairs.Running.{Running}
 use Rattle.papaya_core_timeline.specs.declared.seat.Seat.{Seat}
@@ -21,7 +21,7 @@ use Rattle.papaya_core_timeline.specs.Callers.{as_work, resizer_in, with_seat, w
 use Rattle.papaya_core_timeline.specs.Content.{map_of}
 use Rattle.papaya_core_timeline.specs.Core.{IsGoing, CoreState, IsCore}
 use Rattle.papaya_core_timeline.specs.Headline.{HasTimeline}
-use Rattle.papaya_core_timeline.specs.Kept.{IsKept, IsLawfulCore, CallTrace, setting_of, coding_of, low}
+use Rattle.papaya_core_timeline.specs.Kept.{IsConsistent, IsLawfulCore, CallTrace, setting_of, coding_of, low}
 use Rattle.papaya_core_timeline.specs.Maps.{Map}
 use Rattle.papaya_core_timeline.specs.Moves.{MovesMap}
 use Rattle.papaya_core_timeline.specs.Resizes.{Resizes}
@@ -29,7 +29,7 @@ use Rattle.papaya_core_timeline.specs.declared.seat.Work.{Work}
 use Rattle.papaya_core_timeline.specs.declared.seat.Work.TheVariants as works
 use Rattle.papaya_call.specs.declared.chain.ask.Answer.{Answer}
 use Rattle.papaya_call.specs.declared.chain.resizer.Resizer.{Resizer}
-use Rattle.papaya_call.specs.Resizer.{IsStandingResizer, after as after_resize, reply_of}
+use Rattle.papaya_call.specs.Resizer.{IsValidResizer, after as after_resize, reply_of}
 use Rattle.papaya_core_timeline.proofs.CopyAnswers.{left_logged}
 use Rattle.papaya_core_timeline.proofs.GoodResized.{good_resize, resize_moves}
 use Rattle.papaya_core_timeline.proofs.GoodScanned.{good_scan}
@@ -58,9 +58,9 @@ module _ {K V S A : Type 0} where
       → IsCore s.store s.callers s.mode → IsCore s'.store s'.callers s'.mode
   advance-core eq says hash refuse s caller s' event reply x core =
       let m = x.before.machine in
-      let standing = core.standing caller x.before x.was in
-      let fit = chain_ask_fits m standing in
-      let stands = chain_stands m standing x.answer
+      let valid = core.valid caller x.before x.was in
+      let fit = chain_ask_fits m valid in
+      let stands = chain_stands m valid x.answer
       (performed_ask eq hash says refuse (ask_of m) s.store x.before x.answer s'.store x.later (unnumbered s.store.words.tables core.sizes) fit
       x.performs).fit in
       let kept : IsCore s'.store s.callers s.mode = performed-core eq says hash refuse s.store s.callers s.mode x.before x.answer s'.store x.later
@@ -72,9 +72,9 @@ module _ {K V S A : Type 0} where
       (λ q e. still reply r stands (λ none. still_going (after m x.answer) (sym x.reply_is ∙ none)) q (call-put (goes_on reply r) q e))
       (λ z e. absurd (no-resizer (goes_on reply r) z e)) (λ v e. absurd (no-scanner (goes_on reply r) v e))))
     where
-      still : (reply : Option Reply) (r : Running K V A) → IsStanding r.machine → (reply ≡ None → IsGoing r.machine) → (q : Running K V A)
-          → goes_on reply r ≡ Some q → IsStanding q.machine × IsGoing q.machine
-      still None r stands goes q e = subst (λ (y : Running K V A). IsStanding y.machine × IsGoing y.machine) (same_item r q e) (stands, goes refl)
+      still : (reply : Option Reply) (r : Running K V A) → IsValid r.machine → (reply ≡ None → IsGoing r.machine) → (q : Running K V A)
+          → goes_on reply r ≡ Some q → IsValid q.machine × IsGoing q.machine
+      still None r stands goes q e = subst (λ (y : Running K V A). IsValid y.machine × IsGoing y.machine) (same_item r q e) (stands, goes refl)
       still (Some rep) r stands goes q e = let f : None ≡ Some q = e in cc
 
   -- so it does after a step of a resizer
@@ -82,16 +82,16 @@ module _ {K V S A : Type 0} where
       (event : Event) (reply : Option Reply) → Resizes eq hash refuse s caller s' event reply → IsCore s.store s.callers s.mode
       → IsCore s'.store s'.callers s'.mode
   resize-core eq hash refuse s caller s' event reply x core =
-      let standing = (core.resizers caller x.before x.was).0 in
-      let fit = resizer_fits x.before standing x.ask x.asked in
-      let stands = resizer_stands x.before x.answer standing
+      let valid = (core.resizers caller x.before x.was).0 in
+      let fit = resizer_fits x.before valid x.ask x.asked in
+      let stands = resizer_stands x.before x.answer valid
       (performed_copy eq hash refuse x.ask s.store x.answer s'.store (unnumbered s.store.words.tables core.sizes) fit x.performs).fit in
       let kept : IsCore s'.store s.callers s.mode = copied-core eq hash refuse x.ask s.store s.callers s.mode x.answer s'.store core fit x.performs in
       subst (λ y. IsCore s'.store s'.callers y) (sym x.mode)
       (subst (λ (y : List (Seat K V A)). IsCore s'.store y s.mode) (sym x.callers)
       (with_work-core s'.store s.callers s.mode caller (goes_on reply (works.Resize (after_resize x.before x.answer))) kept
       (λ r e. absurd (goes_on-call reply (after_resize x.before x.answer) r _ refl e))
-      (λ z e. subst (λ y. IsStandingResizer y × (reply_of y ≡ None)) (goes_on-resizer reply (after_resize x.before x.answer) z _ refl e)
+      (λ z e. subst (λ y. IsValidResizer y × (reply_of y ≡ None)) (goes_on-resizer reply (after_resize x.before x.answer) z _ refl e)
       (stands, sym x.reply_is ∙ going reply z (resumed x.before x.answer) e))
       (λ v e. absurd (goes_on-scanner reply (after_resize x.before x.answer) v _ refl e))))
     where
@@ -193,7 +193,7 @@ module _ {K V S A : Type 0} (eq : K → K → Bool) (says : Says K V A) (hash : 
 -- The maps of a run are a legal timeline with its history.
 pub run_timeline : {K V S A : Type 0} (eq : K → K → Bool) (says : Says K V A) (hash : S → K → ℕ) (schedule : List (Turn K V A)) (turns : ℕ)
     (s s' : CoreState K V S A) (h : History) → IsLawfulKeys eq (hash s.store.hasher) → IsCore s.store s.callers s.mode
-    → (es : List (Exchange (Stored K V))) (call_traces : ℕ → CallTrace K V) → IsKept eq (hash s.store.hasher) s.mode s.store s.callers es call_traces
+    → (es : List (Exchange (Stored K V))) (call_traces : ℕ → CallTrace K V) → IsConsistent eq (hash s.store.hasher) s.mode s.store s.callers es call_traces
     → TurnsRun eq says hash schedule turns s s' h → HasTimeline eq says schedule s h s'
 run_timeline eq says hash schedule turns s s' h law core es call_traces kept runs =
     good_end eq (hash s.store.hasher) law says schedule s s' h

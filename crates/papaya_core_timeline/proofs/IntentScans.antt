@@ -33,7 +33,7 @@ use Rattle.papaya_call.specs.declared.chain.scanner.Scan.TheVariants.{Retain}
 use Rattle.papaya_call.specs.Scanner.{after, after_in, ask_of, asks_in, at_root, copied, buries, found_by, kind_in, kind_of_ask, looks, meets, next}
 use Rattle.papaya_core_store.specs.declared.scans.Scanning.{Scanning}
 use Rattle.papaya_core_store.specs.Store.{StoreState, pair_of}
-use Rattle.papaya_core_store.specs.Scans.{PerformsScan, Shows}
+use Rattle.papaya_core_store.specs.Scans.{PerformsScan, CallsClosure}
 use Rattle.papaya_core_timeline.specs.declared.seat.Work.TheVariants as works
 use Rattle.papaya_core_timeline.specs.declared.trace.Event.{Event}
 use Rattle.papaya_core_timeline.specs.declared.trace.Event.TheVariants.{Asked, Changed}
@@ -189,7 +189,7 @@ module _ {K V S A : Type 0} (eq : K → K → Bool) (says : Says K V A) (hash : 
       let answer : said ≡ Yes false = cc (was, told) in
       subst (λ e. AnswersNow says s' e (works.Scan v) (Some n) ops.Remove) (sym event_is) (by_shows said answer same shows)
     where
-      by_shows : (said : Call_answer) → said ≡ Yes false → s' ≡ s → Shows says n s v said v'
+      by_shows : (said : Call_answer) → said ≡ Yes false → s' ≡ s → CallsClosure says n s v said v'
           → AnswersNow says s' (Asked n false) (works.Scan v) (Some n) ops.Remove
       by_shows said answer same (inl (none, ok, stays)) = let f : Yes false ≡ Ok_done = sym answer ∙ ok in absurd cc
       by_shows said answer same (inr (left, p, stays, left', had, there, gives, answers_so, then)) =

@@ -19,7 +19,7 @@ use Rattle.papaya_call_law.proofs.Goes.{machine_goes}
 use Rattle.papaya_call_law.proofs.Replies.{chain_said, chain_task}
 use Rattle.papaya_words_law.specs.Exchange.{Exchange}
 use Rattle.papaya_call_law.specs.Relies.{ReliesFill, ReliesOf}
-use Rattle.papaya_call_law.specs.Told.{IsOneOf}
+use Rattle.papaya_call_law.specs.TrueAnswers.{IsOneOf}
 use Rattle.papaya_core_store.specs.declared.pairs.Running.{Running}
 use Rattle.papaya_core_store.specs.declared.scans.Scanning.{Scanning}
 use Rattle.papaya_core_store.specs.Store.{KeepsPairs, StoreState, Stored, pair_of}
@@ -31,7 +31,7 @@ use Rattle.papaya_core_timeline.specs.Advances.{Advances, goes_on}
 use Rattle.papaya_core_timeline.specs.Callers.{as_work, call_in, running, with_work, working}
 use Rattle.papaya_core_timeline.specs.Core.{CoreState, IsCore}
 use Rattle.papaya_core_timeline.specs.Intends.{AnswersNow, Intends, KeepsIntents}
-use Rattle.papaya_core_timeline.specs.Kept.{CallTrace, IsKept, IsLawfulCore, coding_of, low, setting_of}
+use Rattle.papaya_core_timeline.specs.Kept.{CallTrace, IsConsistent, IsLawfulCore, coding_of, low, setting_of}
 use Rattle.papaya_core_timeline.specs.Resizes.{Resizes}
 use Rattle.papaya_core_timeline.specs.ScanGoes.{Scans}
 use Rattle.papaya_core_timeline.proofs.AdvanceLemmas as advance
@@ -55,7 +55,7 @@ use Rattle.papaya_core_timeline.proofs.GoodScanFits.{scan_pairs}
 use Rattle.papaya_core_timeline.proofs.StoreLemmas.{copy_pairs}
 
 module _ {K V S A : Type 0} (eq : K → K → Bool) (hash : K → ℕ) (s : CoreState K V S A) (es : List (Exchange (Stored K V)))
-    (call_traces : ℕ → CallTrace K V) (kept : IsKept eq hash s.mode s.store s.callers es call_traces) where
+    (call_traces : ℕ → CallTrace K V) (kept : IsConsistent eq hash s.mode s.store s.callers es call_traces) where
   -- the pairs of a call are logged
   call_logged : (d : ℕ) (r : Running K V A) → running s.callers d ≡ Some r → HasLogged s.store r
   call_logged d r runs =
@@ -111,7 +111,7 @@ module _ {K V S A : Type 0} (eq : K → K → Bool) (hash : K → ℕ) (law : Is
   pub advance_intents : {says : Says K V A} {hashes : S → K → ℕ} (refuse : Bool) (s s' : CoreState K V S A) (c : ℕ) (event : Event)
       (reply : Option Reply) (x : Advances eq says hashes refuse s c s' event reply) (core : IsCore s.store s.callers s.mode)
       (core' : IsCore s'.store s'.callers s'.mode)
-      (es : List (Exchange (Stored K V))) (call_traces : ℕ → CallTrace K V) (kept : IsKept eq hash s.mode s.store s.callers es call_traces)
+      (es : List (Exchange (Stored K V))) (call_traces : ℕ → CallTrace K V) (kept : IsConsistent eq hash s.mode s.store s.callers es call_traces)
       (step : IsStep eq hash law refuse s c s' event reply x es call_traces) → KeepsIntents says s c s' event
   advance_intents {says = says} {hashes = hashes} refuse s s' c event reply x core core' es call_traces kept step =
       keeps eq hash s es call_traces kept c s' event (works.Call x.before) (as_work (goes_on reply r'))
@@ -119,7 +119,7 @@ module _ {K V S A : Type 0} (eq : K → K → Bool) (hash : K → ℕ) (law : Is
       (λ later put shown op h. call_intends eq says hashes refuse s.store x.before x.answer s'.store x.later x.performs grows.pairs_stay
       step.call.valued (grows.value_stays step.call.valued) made_now step.call.again step.call.shows
       (call_logged eq hash s es call_traces kept c x.before x.was) (machine_goes m x.answer order) (chain_task m x.answer order).0
-      (chain_said m x.answer order (core.standing c x.before x.was).call step.call.shows) event x.event_is answering shown op
+      (chain_said m x.answer order (core.valid c x.before x.was).call step.call.shows) event x.event_is answering shown op
       (subst (λ w. Intends s'.store w shown op) (goes reply later put) h))
     where
       m : Machine

@@ -21,19 +21,19 @@ use Rattle.papaya_call.specs.declared.machine.Machine.{Machine as Call_machine}
 use Rattle.papaya_call.specs.declared.machine.State.{State as Stage}
 use Rattle.papaya_call.specs.declared.made.Made.{Made}
 use Rattle.papaya_call.specs.Made.{nothing_made}
-use Rattle.papaya_call.specs.Machine.{HasClosure, IsStandingState}
+use Rattle.papaya_call.specs.Machine.{HasClosure, IsValidState}
 use Rattle.papaya_call.specs.Machine as calls
 use Rattle.papaya_call.specs.declared.chain.ask.Ask.TheVariants as asks
 use Rattle.papaya_call.specs.declared.chain.ask.Answer.{Answer}
 use Rattle.papaya_call.specs.declared.chain.ask.Answer.TheVariants as given
 use Rattle.papaya_call.specs.declared.chain.machine.Machine.{Machine}
-use Rattle.papaya_call.specs.ChainMachine.{IsStanding, after, ask_of, kind_of_ask}
+use Rattle.papaya_call.specs.ChainMachine.{IsValid, after, ask_of, kind_of_ask}
 use Rattle.papaya_call_law.specs.Goes.{Goes, IsOwnStep}
 use Rattle.papaya_words_law.specs.Code.{Coding}
 use Rattle.papaya_words_law.specs.Exchange.{Exchange, Setting}
 use Rattle.papaya_call_law.specs.Relies.{IsMadePair, Relies, change_in}
-use Rattle.papaya_call_law.specs.Says.{Agrees, Inserts, IsAnswered, IsSaidBy, IsSaidChange, Makes, MakesPair, Removes, Said, ShowsPairs, StandsOn, show}
-use Rattle.papaya_call_law.specs.Told.{LoadedPairs}
+use Rattle.papaya_call_law.specs.Says.{Agrees, Inserts, IsAnswered, IsResultBy, IsResultChange, Makes, MakesPair, Removes, ClosureResult, NamesPairs, ActsOn, show}
+use Rattle.papaya_call_law.specs.TrueAnswers.{LoadedPairs}
 use Rattle.papaya_core_store.specs.declared.pairs.Running.{Running}
 use Rattle.papaya_core_store.specs.Asks.{PerformsAsk}
 use Rattle.papaya_core_store.specs.Pairs.{value_at, value_in}
@@ -64,11 +64,11 @@ use Rattle.papaya_core_timeline.proofs.TiedLemmas.{value_back}
 -- a pair that a machine stands on is one that its call made
 module _ {K P : Type 0} (g : Setting K P) (c : Coding K P) (begun since : List (Exchange P)) (k : K) where
   pub stands_own : (m : Call_machine) (loaded : LoadedPairs P) → Relies g c begun since k m loaded → (shown : Option ℕ) (n : ℕ)
-      → StandsOn m (Makes shown n) → IsMadePair g c begun since k loaded n
+      → ActsOn m (Makes shown n) → IsMadePair g c begun since k loaded n
   stands_own m loaded relies shown n stands = search rules
 
 -- an insertion writes the pair that it made
-writes_made : (made : Made) (hash : ℕ) (stage : Stage) (replace : Bool) → IsStandingState (tasks.Insert replace) stage → (at : At) (from to : ℕ)
+writes_made : (made : Made) (hash : ℕ) (stage : Stage) (replace : Bool) → IsValidState (tasks.Insert replace) stage → (at : At) (from to : ℕ)
     → calls.asks made hash stage ≡ Ask_exchange at from to → (old : Option ℕ) (n : ℕ) → change_in (calls.at_exchanged made stage) ≡ Some (old, Some n)
     → HasMade made n
 writes_made made hash stage replace stands at from to e old n change = search rules
@@ -79,7 +79,7 @@ exchanged : (kind : Option StepKind) (from to : ℕ) (told : Call_answer) (by : 
 exchanged kind from to told by old new e = search rules
 
 -- so does one over a chain of tables
-pub insertion_made : (m : Machine) (answer : Answer) → Goes m answer → IsStanding m → (kind : StepKind) (old : Option ℕ) (n : ℕ)
+pub insertion_made : (m : Machine) (answer : Answer) → Goes m answer → IsValid m → (kind : StepKind) (old : Option ℕ) (n : ℕ)
     → event_of (kind_of_ask m) (ask_of m) answer ≡ Changed kind old (Some n) → change_in (after m answer).call.state ≡ Some (old, Some n)
     → (replace : Bool) → m.call.task ≡ tasks.Insert replace → HasMade m.call.made n
 insertion_made m answer goes stands kind old n e change replace is =
@@ -91,7 +91,7 @@ insertion_made m answer goes stands kind old n e change replace is =
     let was : own.told ≡ Exchanged = exchanged (kind_of_ask m) from to own.told kind old (Some n) event_is in
     let then : change_in (calls.at_exchanged m.call.made m.call.state) ≡ Some (old, Some n) = ap (λ y. change_in (calls.after m.call y).state)
     (sym was) ∙ ap (λ (d : Call_machine). change_in d.state) (sym own.call) ∙ change in
-    writes_made m.call.made m.call.hash m.call.state replace (subst (λ t. IsStandingState t m.call.state) is stands.call.state) at from to asks_so old n then
+    writes_made m.call.made m.call.hash m.call.state replace (subst (λ t. IsValidState t m.call.state) is stands.call.state) at from to asks_so old n then
 
 -- a pair that a call over a chain has made was made before the answer, or is the answer
 chain_made : (m : Machine) (answer : Answer) → Goes m answer → (n : ℕ) → HasMade (after m answer).call.made n → HasMade m.call.made n
@@ -175,14 +175,14 @@ module _ {K V S A : Type 0} where
   pub change_intended : (store : StoreState K V S) (r : Running K V A) (old : Option ℕ) (came : Option (Stored K V))
       → ((q : Stored K V) → came ≡ Some q → pair_of store q.number ≡ Some q)
       → ((q : Stored K V) → came ≡ Some q → (replace : Bool) → r.machine.call.task ≡ tasks.Insert replace → HasMade r.machine.call.made q.number)
-      → (came ≡ None → HasClosure r.machine.call.task) → IsSaidChange r.machine.call.task r.machine.call old (number_in came)
+      → (came ≡ None → HasClosure r.machine.call.task) → IsResultChange r.machine.call.task r.machine.call old (number_in came)
       → Intends store (works.Call r) old (operation_for came)
   change_intended store r old came logged made closure said = by_task r.machine.call.task refl old came logged made closure said
     where
       by_task : (task : Task) → r.machine.call.task ≡ task → (old : Option ℕ) (came : Option (Stored K V))
           → ((q : Stored K V) → came ≡ Some q → pair_of store q.number ≡ Some q)
           → ((q : Stored K V) → came ≡ Some q → (replace : Bool) → r.machine.call.task ≡ tasks.Insert replace → HasMade r.machine.call.made q.number)
-          → (came ≡ None → HasClosure task) → IsSaidChange task r.machine.call old (number_in came) → IntendsAs store task r old (operation_for came)
+          → (came ≡ None → HasClosure task) → IsResultChange task r.machine.call old (number_in came) → IntendsAs store task r old (operation_for came)
       by_task tasks.Get is old came logged made closure said = absurd said
       by_task (tasks.Insert replace) is old (Some q) logged made closure said = inr (q.number, made q refl replace is, (q, logged q refl, refl))
       by_task (tasks.Insert replace) is old None logged made closure said = absurd (closure refl)
@@ -197,7 +197,7 @@ module _ {K V S A : Type 0} where
   pub record HasLogged (store : StoreState K V S) (r : Running K V A) : Type 0 where
     pub made : (n : ℕ) → HasMade r.machine.call.made n → (q : Stored K V) × (pair_of store n ≡ Some q)
     pub valued : (part : Part V) → r.value ≡ Some part → (v : V) × (value_in store.pairs part ≡ Some v)
-    pub stood : (shown : Option ℕ) (n : ℕ) → StandsOn r.machine.call (Makes shown n) → (q : Stored K V) × (pair_of store n ≡ Some q)
+    pub stood : (shown : Option ℕ) (n : ℕ) → ActsOn r.machine.call (Makes shown n) → (q : Stored K V) × (pair_of store n ≡ Some q)
 
   -- where its machine stays, a longer log gives a call no intent
   pub still_intends : (store store' : StoreState K V S) → KeepsPairs store store'
@@ -233,11 +233,11 @@ module _ {K V S A : Type 0} (eq : K → K → Bool) (says : Says K V A) (hash : 
       (value_stays : (v : V) → own_value s' r' ≡ Some v → (own_value s r ≡ Some v) ⊎ (r.machine.call.task ≡ tasks.Compute))
       (made : (n : ℕ) → MakesOver (ask_of r.machine) → a ≡ given.Call (Made_number n) → (q : Stored K V) × (pair_of s' n ≡ Some q)
       × (own_value s r ≡ Some q.value))
-      (again : (i n : ℕ) → StandsOn r.machine.call (Makes (Some i) n) → IsAnswered r.machine.call.state
-      ⊎ ((p : Stored K V) × (pair_of s n ≡ Some p) × (own_value s r ≡ Some p.value))) (shows : ShowsPairs r.machine.call)
+      (again : (i n : ℕ) → ActsOn r.machine.call (Makes (Some i) n) → IsAnswered r.machine.call.state
+      ⊎ ((p : Stored K V) × (pair_of s n ≡ Some p) × (own_value s r ≡ Some p.value))) (shows : NamesPairs r.machine.call)
       (logged : HasLogged s r) (goes : Goes r.machine a) (task_stays : (after r.machine a).call.task ≡ r.machine.call.task)
-      (said : (said : Said) → StandsOn (after r.machine a).call said → StandsOn r.machine.call said
-      ⊎ ((own : IsOwnStep r.machine a) × IsSaidBy r.machine.call own.told said))
+      (said : (said : ClosureResult) → ActsOn (after r.machine a).call said → ActsOn r.machine.call said
+      ⊎ ((own : IsOwnStep r.machine a) × IsResultBy r.machine.call own.told said))
       (event : Event) (is : event ≡ event_of (kind_of_ask r.machine) (ask_of r.machine) a) (answering : IsAnswering says s' r r' event) where
     -- the call after the step
     abbrev later : Running K V A
@@ -299,7 +299,7 @@ module _ {K V S A : Type 0} (eq : K → K → Bool) (says : Says K V A) (hash : 
         (chain_made r.machine a goes n made_then)
 
     -- a compute's
-    computes_at_hand : (shown : Option ℕ) (v : V) → StandsOn later.machine.call (Inserts shown) → own_value s' later ≡ Some v
+    computes_at_hand : (shown : Option ℕ) (v : V) → ActsOn later.machine.call (Inserts shown) → own_value s' later ≡ Some v
         → Before tasks.Compute shown (ops.Insert v)
     computes_at_hand shown v stands had = elim (said (Inserts shown) stands) [
       | inl before ↦ inl (inl (before, at_hand_before before))
@@ -312,11 +312,11 @@ module _ {K V S A : Type 0} (eq : K → K → Bool) (says : Says K V A) (hash : 
           inr (subst (λ o. Now event shown o) same (answers_now shown op (event_is ∙ ap (λ y. Shown shown y) (sym kind)) now))
     ]
       where
-        at_hand_before : StandsOn r.machine.call (Inserts shown) → own_value s r ≡ Some v
+        at_hand_before : ActsOn r.machine.call (Inserts shown) → own_value s r ≡ Some v
         at_hand_before before = ⊎_elim (λ kept. kept.1 valued v had) (λ showing. absurd (one_value r.machine shown showing.0 before showing.2))
             (at_hand eq says hash refuse s r a s' r' (ask_of r.machine) performs)
 
-    computes_made : (shown : Option ℕ) (v : V) (n : ℕ) → StandsOn later.machine.call (Makes shown n) → HasValue s' n v
+    computes_made : (shown : Option ℕ) (v : V) (n : ℕ) → ActsOn later.machine.call (Makes shown n) → HasValue s' n v
         → Before tasks.Compute shown (ops.Insert v)
     computes_made shown v n stands value = elim (said (Makes shown n) stands) [
       | inl before ↦ inl (inr (n, before, value_before s s' stay n v (logged.stood shown n before) value))
@@ -332,7 +332,7 @@ module _ {K V S A : Type 0} (eq : K → K → Bool) (says : Says K V A) (hash : 
                 | inl waits ↦ absurd (newest waits)
                 | inr (p, there, p_value) ↦ inl (inr (
                   m,
-                  subst (λ y. StandsOn r.machine.call (Makes y m)) (sym is_shown) stood,
+                  subst (λ y. ActsOn r.machine.call (Makes y m)) (sym is_shown) stood,
                   (p, there, same_item p.value v (sym p_value ∙ had)),
                 ))
               ]
@@ -340,7 +340,7 @@ module _ {K V S A : Type 0} (eq : K → K → Bool) (says : Says K V A) (hash : 
           ]
     ]
 
-    removes : (n : ℕ) → StandsOn later.machine.call (Removes n) → Before tasks.Compute (Some n) ops.Remove
+    removes : (n : ℕ) → ActsOn later.machine.call (Removes n) → Before tasks.Compute (Some n) ops.Remove
     removes n stands = elim (said (Removes n) stands) [
       | inl before ↦ inl before
       | inr by ↦
@@ -350,7 +350,7 @@ module _ {K V S A : Type 0} (eq : K → K → Bool) (says : Says K V A) (hash : 
     ]
 
     -- a removal's closure
-    agrees : (n : ℕ) → StandsOn later.machine.call (Agrees n true) → Before tasks.RemoveIf (Some n) ops.Remove
+    agrees : (n : ℕ) → ActsOn later.machine.call (Agrees n true) → Before tasks.RemoveIf (Some n) ops.Remove
     agrees n stands = elim (said (Agrees n true) stands) [
       | inl before ↦ inl before
       | inr by ↦

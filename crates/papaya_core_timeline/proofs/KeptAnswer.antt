@@ -19,7 +19,7 @@ use Rattle.papaya_words_law.specs.Invariant.{named}
 use Rattle.papaya_words_law.proofs.Moments.{run-append}
 use Rattle.papaya_call_law.specs.Relies.{change_in}
 use Rattle.papaya_call_law.specs.Copier.{told_last as copy_told_last}
-use Rattle.papaya_call_law.specs.Told.{LoadedPairs as Call_loaded, IsOneOf, IsTold as IsCallTold, IsWritten, told_of, or_last, word_of}
+use Rattle.papaya_call_law.specs.TrueAnswers.{LoadedPairs as Call_loaded, IsOneOf, IsTrueOf as IsTrueOfCall, IsWritten, told_of, or_last, word_of}
 use Rattle.papaya_call.specs.declared.chain.ask.Ask.{Ask}
 use Rattle.papaya_call.specs.declared.chain.ask.Ask.TheVariants as asks
 use Rattle.papaya_call.specs.declared.chain.ask.Answer.{Answer}
@@ -27,7 +27,7 @@ use Rattle.papaya_call.specs.declared.chain.ask.Answer.TheVariants as answers
 use Rattle.papaya_call.specs.ChainMachine.{ask_of, kind_of_ask, follows_of, after}
 use Rattle.papaya_call_law.specs.Goes.{change_by}
 use Rattle.papaya_call_law.specs.ChainRelies.{Relies}
-use Rattle.papaya_call_law.specs.ChainTold.{IsTold, LoadedPairs}
+use Rattle.papaya_call_law.specs.ChainAnswers.{IsTrueOf, LoadedPairs}
 use Rattle.papaya_call_law.proofs.Order.{in_order}
 use Rattle.papaya_call_law.proofs.Replies.{chain_changes}
 use Rattle.papaya_core_store.specs.declared.pairs.Part.{Part}
@@ -54,7 +54,7 @@ module _ {Q K V S A : Type 0} (g : Setting Q (Stored K V)) (c : Coding Q (Stored
 
   -- what a call is told of an ask of its own, and a copy of its
   abbrev pub Tells : Q → Ask → Answer → List (Exchange (Stored K V)) → LoadedPairs (Stored K V) → Type 0
-  Tells key ask a made loaded = IsTold g c key words_now (kind_of_ask r.machine) (follows_of r.machine) call_trace.loaded ask a made loaded
+  Tells key ask a made loaded = IsTrueOf g c key words_now (kind_of_ask r.machine) (follows_of r.machine) call_trace.loaded ask a made loaded
 
   -- The value that a call has is the one that it had.
   pub record KeepsValue (store' : StoreState K V S) (later : Running K V A) : Type 0 where
@@ -270,7 +270,7 @@ module _ {Q K V S A : Type 0} (g : Setting Q (Stored K V)) (c : Coding Q (Stored
 
     -- what a call is told for itself, of which its copy hears nothing
     pub own_told : (ask : Call_ask) (a : Call_answer) (made : List (Exchange (Stored K V))) (loaded : Call_loaded (Stored K V))
-        → IsCallTold g c key words_now (kind_of_ask r.machine) call_trace.loaded.call ask a made loaded
+        → IsTrueOfCall g c key words_now (kind_of_ask r.machine) call_trace.loaded.call ask a made loaded
         → Tells key (asks.Call ask) (answers.Call a) made (record call_trace.loaded { call = loaded })
     own_told ask a made loaded told = record { told = a; is = refl; call = loaded; tells = told; handed = refl }
 

@@ -12,8 +12,8 @@ use Rattle.papaya_call.specs.declared.ask.At.TheVariants.{Root, Next, Aborted, D
 use Rattle.papaya_call.specs.declared.call.Call.{Call}
 use Rattle.papaya_words_law.specs.Exchange.{Exchange, Open, run, start}
 use Rattle.papaya_call_law.specs.Relies.{IsModeOf}
-use Rattle.papaya_call_law.specs.Told.{IsOneOf, word_of}
-use Rattle.papaya_call_law.specs.ChainTold.{nothing_loaded}
+use Rattle.papaya_call_law.specs.TrueAnswers.{IsOneOf, word_of}
+use Rattle.papaya_call_law.specs.ChainAnswers.{nothing_loaded}
 use Rattle.papaya_core_store.specs.declared.pairs.Pair.{Pair}
 use Rattle.papaya_core_store.specs.declared.pairs.Running.{Running}
 use Rattle.papaya_core_timeline.specs.declared.seat.Seat.{Seat}
@@ -33,7 +33,7 @@ use Rattle.papaya_core_timeline.specs.Maps.{key_of}
 use Rattle.papaya_core_timeline.proofs.Begun.{IsBegun, IsResizeBegun, IsScanBegun, begun_stands, call_begun, handed_there, resizer_begun_is, scanner_begun_is}
 use Rattle.papaya_core_timeline.proofs.ResizerLaws.{resizer_begins}
 use Rattle.papaya_core_timeline.specs.Core.{CoreState}
-use Rattle.papaya_core_timeline.specs.Kept.{HasAnswers, IsKept, IsCall, IsResizing, IsScanning}
+use Rattle.papaya_core_timeline.specs.Kept.{HasAnswers, IsConsistent, IsCall, IsResizing, IsScanning}
 use Rattle.papaya_core_timeline.specs.Kept.{CallTrace, is_blocking, setting_of, coding_of, low}
 use Rattle.papaya_core_timeline.specs.Kept.{begun_call_traces, scan_trace}
 use Rattle.papaya_core_store.specs.New.{HasCapacity}
@@ -49,7 +49,7 @@ use Rattle.papaya_core_timeline.proofs.KeptClosures.{begun_answers}
 use Rattle.papaya_core_timeline.proofs.KeptSettings.{mode_cut}
 use Rattle.papaya_core_timeline.proofs.KeptTables.{word-made}
 use Rattle.papaya_core_timeline.proofs.ScanBegins.{scan_begins}
-use Rattle.papaya_call_law.specs.ScanTold as scans
+use Rattle.papaya_call_law.specs.ScanAnswers as scans
 use Rattle.papaya_core_store.specs.declared.scans.Scanning.{Scanning}
 use Rattle.papaya_core_timeline.proofs.KeptHints.{made-hints}
 use Rattle.papaya_core_store.specs.declared.store.Mode.{Mode}
@@ -78,7 +78,7 @@ no_hints n i = elim (n == 0) as (λ b. word_in (λ t. slot_hint t i) (cond b Non
 
 module _ {K V S A : Type 0} (eq : K → K → Bool) (hash : K → ℕ) where
   module _ (s : CoreState K V S A) (caller : ℕ) (call : Call K V A) (fits : (k : K) → key_of call ≡ Some k → hash k < 2 ^ 64) (number : ℕ)
-      (es : List (Exchange (Stored K V))) (call_traces : ℕ → CallTrace K V) (kept : IsKept eq hash s.mode s.store s.callers es call_traces) where
+      (es : List (Exchange (Stored K V))) (call_traces : ℕ → CallTrace K V) (kept : IsConsistent eq hash s.mode s.store s.callers es call_traces) where
     -- the call as it begins, what is told of it, and the callers then
     abbrev work : Work K V A
     work = begun_work hash s.mode s.initial number call
@@ -224,7 +224,7 @@ module _ {K V S A : Type 0} (eq : K → K → Bool) (hash : K → ℕ) where
     ]
 
     -- the core after the begin
-    pub begin_kept : IsKept eq hash s.mode s.store callers' es call_traces'
+    pub begin_kept : IsConsistent eq hash s.mode s.store callers' es call_traces'
     begin_kept = record {
       allowed = kept.allowed;
       coded = kept.coded;
@@ -243,7 +243,7 @@ module _ {K V S : Type 0} (A : Type 0) (eq : K → K → Bool) (hash : K → ℕ
   module _ (mode : Mode) (store : StoreState K V S) (pairs : store.pairs ≡ []) (call_traces : ℕ → CallTrace K V) where
     -- a core with these words, in which nobody called yet
     abbrev IsFresh : Tables → List (Exchange (Stored K V)) → Type 0
-    IsFresh words es = IsKept {A = A} eq hash mode (record store { words = words }) [] es call_traces
+    IsFresh words es = IsConsistent {A = A} eq hash mode (record store { words = words }) [] es call_traces
 
     few : length store.pairs ≤ MAX_LOG_LEN
     few = subst (λ (l : List (Pair K V)). length l ≤ MAX_LOG_LEN) (sym pairs) (omega arith)
@@ -312,7 +312,7 @@ module _ {K V S : Type 0} (A : Type 0) (eq : K → K → Bool) (hash : K → ℕ
 
     -- a core as it is made, after no exchange or after its first table was opened
     pub new_kept : (capacity initial : ℕ) → HasCapacity capacity initial store.words → (es : List (Exchange (Stored K V)))
-        × IsKept {A = A} eq hash mode store [] es call_traces
+        × IsConsistent {A = A} eq hash mode store [] es call_traces
     new_kept zero initial none = ([], subst (λ (w : Tables). IsFresh w []) (sym none) empty_kept)
     new_kept (suc n) initial (limit, is, opened) =
         (Open 1 ∷ [], subst (λ (w : Tables). IsFresh w (Open 1 ∷ [])) (sym opened) (opened_kept (max initial 8) limit))

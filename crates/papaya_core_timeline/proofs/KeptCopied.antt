@@ -8,7 +8,7 @@ use Rattle.papaya_words_law.specs.Allows.{AllAllowed}
 use Rattle.papaya_words_law.specs.Code.{Coding, IsHashed}
 use Rattle.papaya_words_law.specs.Exchange.{Exchange, Setting, run, start}
 use Rattle.papaya_words_law.specs.Grows.{Comes}
-use Rattle.papaya_call_law.specs.Told.{word_of}
+use Rattle.papaya_call_law.specs.TrueAnswers.{word_of}
 use Rattle.papaya_call.specs.declared.chain.ask.Ask.TheVariants as asks
 use Rattle.papaya_call.specs.declared.chain.ask.Answer.{Answer}
 use Rattle.papaya_call.specs.ChainMachine.{ask_of, follows_of, kind_of_ask}
@@ -32,7 +32,7 @@ use Rattle.papaya_core_store.specs.declared.pairs.Pair.{Pair}
 use Rattle.papaya_core_store.specs.Pairs.{key_in, value_in}
 use Rattle.papaya_words.specs.declared.limits.TheConstants.{MAX_LOG_LEN}
 use Rattle.papaya_call_law.specs.Copier.{AreThere}
-use Rattle.papaya_call_law.specs.Told.{IsOneOf}
+use Rattle.papaya_call_law.specs.TrueAnswers.{IsOneOf}
 pub use Rattle.papaya_core_timeline.proofs.CopyAnswers.{Suits}
 use Rattle.papaya_words_law.specs.Hints.{IsHint}
 

@@ -18,8 +18,8 @@ use Rattle.papaya_call.specs.declared.chain.ask.Ask.TheVariants as asks
 use Rattle.papaya_call.specs.declared.chain.ask.Answer.{Answer}
 use Rattle.papaya_call.specs.ChainMachine.{after, ask_of, kind_of_ask}
 use Rattle.papaya_call_law.specs.Goes.{IsCause}
-use Rattle.papaya_call_law.specs.ChainTold.{nothing_loaded}
-use Rattle.papaya_call_law.specs.ScanTold as scans
+use Rattle.papaya_call_law.specs.ChainAnswers.{nothing_loaded}
+use Rattle.papaya_call_law.specs.ScanAnswers as scans
 use Rattle.papaya_core_timeline.specs.declared.seat.Seat.{Seat}
 use Rattle.papaya_core_store.specs.declared.pairs.Running.{Running}
 use Rattle.papaya_core_timeline.specs.declared.trace.Event.{Event}
@@ -29,7 +29,7 @@ use Rattle.papaya_core_timeline.specs.Advances.{Advances, event_of, goes_on, rep
 use Rattle.papaya_core_timeline.specs.Begins.{Begins}
 use Rattle.papaya_core_timeline.specs.Callers.{running, with_call}
 use Rattle.papaya_core_timeline.specs.Core.{CoreState, IsCore}
-use Rattle.papaya_core_timeline.specs.Kept.{CallTrace, IsKept, IsLawfulCore, coding_of, low, setting_of}
+use Rattle.papaya_core_timeline.specs.Kept.{CallTrace, IsConsistent, IsLawfulCore, coding_of, low, setting_of}
 use Rattle.papaya_core_store.specs.Asks.{PerformsAsk}
 use Rattle.papaya_core_store.specs.New.{HasCapacity}
 use Rattle.papaya_core_store.specs.Performs.{Performs, Stays}
@@ -124,7 +124,7 @@ module _ {K V S A H : Type 0} (eq : K → K → Bool) (input : K → List (List 
       record {
         core = core;
         law = subst (λ h. (es : _)
-            × ((call_traces : _) × IsKept eq (hash_of input build write finish h) s'.mode s'.store s'.callers es call_traces)) same (es, (_, kept'));
+            × ((call_traces : _) × IsConsistent eq (hash_of input build write finish h) s'.mode s'.store s'.callers es call_traces)) same (es, (_, kept'));
       }
 
   -- after a step
@@ -140,7 +140,7 @@ module _ {K V S A H : Type 0} (eq : K → K → Bool) (input : K → List (List 
       record {
         core = core;
         law = subst (λ h. (es : _)
-            × ((call_traces : _) × IsKept eq (hash_of input build write finish h) s'.mode s'.store s'.callers es call_traces)) same
+            × ((call_traces : _) × IsConsistent eq (hash_of input build write finish h) s'.mode s'.store s'.callers es call_traces)) same
             (es ++ step.made, (_, step.kept));
       }
 

@@ -14,7 +14,7 @@ use Rattle.papaya_words_law.specs.Grows.{Comes}
 use Rattle.papaya_words_law.specs.Invariant.{named}
 use Rattle.papaya_call_law.specs.Copier.{IsCopyAsked, last_after}
 use Rattle.papaya_call_law.specs.Relies.{change_of_kind}
-use Rattle.papaya_call_law.specs.Told.{IsAsked, IsOneOf, LoadedPairs}
+use Rattle.papaya_call_law.specs.TrueAnswers.{IsAsked, IsOneOf, LoadedPairs}
 use Rattle.papaya_core_timeline.proofs.KeptAnswer.{Stands}
 
 -- two tests are both met

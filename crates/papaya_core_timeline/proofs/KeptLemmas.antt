@@ -5,8 +5,8 @@ use Rattle.papaya_call.specs.declared.call.Call.{Call}
 use Rattle.papaya_words_law.specs.Exchange.{Exchange, run, start}
 use Rattle.papaya_words_law.specs.Meaning.{map_left}
 use Rattle.papaya_call.specs.ChainMachine.{ask_of, kind_of_ask, follows_of, after}
-use Rattle.papaya_call_law.specs.Told.{IsOneOf}
-use Rattle.papaya_call_law.specs.ChainTold.{IsTold, LoadedPairs}
+use Rattle.papaya_call_law.specs.TrueAnswers.{IsOneOf}
+use Rattle.papaya_call_law.specs.ChainAnswers.{IsTrueOf, LoadedPairs}
 use Rattle.papaya_words_law.specs.Code.{IsHashed}
 use Rattle.papaya_core_store.specs.declared.pairs.Running.{Running}
 use Rattle.papaya_core_timeline.specs.declared.seat.Seat.{Seat}
@@ -14,7 +14,7 @@ use Rattle.papaya_core_timeline.specs.Advances.{Advances, goes_on}
 use Rattle.papaya_core_timeline.specs.Begins.{Begins}
 use Rattle.papaya_core_timeline.specs.Core.{CoreState, IsCore}
 use Rattle.papaya_core_timeline.specs.Content.{map_of}
-use Rattle.papaya_core_timeline.specs.Kept.{IsKept, IsCall, CallTrace, setting_of, coding_of, low, told_call_traces, begun_call_traces}
+use Rattle.papaya_core_timeline.specs.Kept.{IsConsistent, IsCall, CallTrace, setting_of, coding_of, low, told_call_traces, begun_call_traces}
 use Rattle.papaya_core_store.specs.Store.{StoreState, Stored, pair_of}
 use Rattle.papaya_core_timeline.specs.declared.trace.Event.{Event}
 use Rattle.papaya_call.specs.declared.call.Reply.{Reply}
@@ -49,9 +49,9 @@ module _ {K V S A : Type 0} (eq : K → K → Bool) (hash : K → ℕ) (law : Is
     pub made : List (Exchange (Stored K V))
     pub loaded : LoadedPairs (Stored K V)
     pub call : IsCall eq hash s.mode s.store a.before es (call_traces caller)
-    pub told : IsTold (setting_of eq (low hash) s.mode s.store.words.tables) (coding_of (low hash)) call.key (run es start)
+    pub told : IsTrueOf (setting_of eq (low hash) s.mode s.store.words.tables) (coding_of (low hash)) call.key (run es start)
         (kind_of_ask a.before.machine) (follows_of a.before.machine) (call_traces caller).loaded (ask_of a.before.machine) a.answer made loaded
-    pub kept : IsKept eq hash s'.mode s'.store s'.callers (es ++ made) (told_call_traces call_traces caller made loaded)
+    pub kept : IsConsistent eq hash s'.mode s'.store s'.callers (es ++ made) (told_call_traces call_traces caller made loaded)
     -- the stepping call's own facts after its step, also where it has replied
     pub own : IsCall eq hash s'.mode s'.store (record a.later { machine = after a.before.machine a.answer }) (es ++ made)
         (told_call_traces call_traces caller made loaded caller)
@@ -73,7 +73,7 @@ module _ {K V S A : Type 0} (eq : K → K → Bool) (hash : K → ℕ) (law : Is
   pub kept_step : {says : Says K V A} {hashes : S → K → ℕ} (refuse : Bool) (s : CoreState K V S A) (caller : ℕ) (s' : CoreState K V S A)
       (event : Event) (reply : Option Reply) (a : Advances eq says hashes refuse s caller s' event reply) → hashes s.store.hasher ≡ hash
       → (es : List (Exchange (Stored K V))) (call_traces : ℕ → CallTrace K V) → IsCore s.store s.callers s.mode
-      → IsKept eq hash s.mode s.store s.callers es call_traces → IsStep refuse s caller s' event reply a es call_traces
+      → IsConsistent eq hash s.mode s.store s.callers es call_traces → IsStep refuse s caller s' event reply a es call_traces
   kept_step {says = says} {hashes = hashes} refuse s caller s' event reply a hasher es call_traces core kept =
       let r' : Running K V A = record a.later { machine = after a.before.machine a.answer } in
       let left = step.left eq hash law says hashes refuse s caller s' a.before a.answer a.later a.was a.performs hasher a.mode es call_traces core kept in
@@ -102,24 +102,24 @@ module _ {K V S A : Type 0} (eq : K → K → Bool) (hash : K → ℕ) (law : Is
 
   -- a begin leaves the words, and its call relies on the exchanges as they are
   pub kept_begin : (s : CoreState K V S A) (caller : ℕ) (call : Call K V A) (s' : CoreState K V S A) → Begins hash s caller call s'
-      → (es : List (Exchange (Stored K V))) (call_traces : ℕ → CallTrace K V) → IsKept eq hash s.mode s.store s.callers es call_traces
-      → IsKept eq hash s'.mode s'.store s'.callers es (begun_call_traces call_traces caller es)
+      → (es : List (Exchange (Stored K V))) (call_traces : ℕ → CallTrace K V) → IsConsistent eq hash s.mode s.store s.callers es call_traces
+      → IsConsistent eq hash s'.mode s'.store s'.callers es (begun_call_traces call_traces caller es)
   kept_begin s caller call s' begins es call_traces kept =
       let call_traces' : ℕ → CallTrace K V = begun_call_traces call_traces caller es in
-      subst (λ y. IsKept eq hash y s'.store s'.callers es call_traces') (sym begins.mode)
-      (subst (λ (y : StoreState K V S). IsKept eq hash s.mode y s'.callers es call_traces') (sym begins.store)
-      (subst (λ (y : List (Seat K V A)). IsKept eq hash s.mode s.store y es call_traces') (sym begins.callers)
+      subst (λ y. IsConsistent eq hash y s'.store s'.callers es call_traces') (sym begins.mode)
+      (subst (λ (y : StoreState K V S). IsConsistent eq hash s.mode y s'.callers es call_traces') (sym begins.store)
+      (subst (λ (y : List (Seat K V A)). IsConsistent eq hash s.mode s.store y es call_traces') (sym begins.callers)
       (begin_kept eq hash s caller call begins.fits begins.number es call_traces kept)))
 
   -- a core as it is made has made no exchange, or has opened its first table
   pub kept_new : (mode : Mode) (capacity initial : ℕ) (store : StoreState K V S) (callers : List (Seat K V A))
       → HasCapacity capacity initial store.words → store.pairs ≡ [] → callers ≡ [] → (call_traces : ℕ → CallTrace K V)
-      → (es : List (Exchange (Stored K V))) × IsKept eq hash mode store callers es call_traces
+      → (es : List (Exchange (Stored K V))) × IsConsistent eq hash mode store callers es call_traces
   kept_new mode capacity initial store callers words pairs none call_traces =
       let new = new_kept A eq hash mode store pairs call_traces capacity initial words in
-      (new.0, subst (λ (y : List (Seat K V A)). IsKept eq hash mode store y new.0 call_traces) (sym none) new.1)
+      (new.0, subst (λ (y : List (Seat K V A)). IsConsistent eq hash mode store y new.0 call_traces) (sym none) new.1)
 
   -- the core's map is the replay of the exchanges
   pub map_kept : (s : CoreState K V S A) (es : List (Exchange (Stored K V))) (call_traces : ℕ → CallTrace K V) → IsCore s.store s.callers s.mode
-      → IsKept eq hash s.mode s.store s.callers es call_traces → (k : K) → map_of eq s k ≡ map_left (setting_of eq (low hash) s.mode s.store.words.tables) es k
+      → IsConsistent eq hash s.mode s.store s.callers es call_traces → (k : K) → map_of eq s k ≡ map_left (setting_of eq (low hash) s.mode s.store.words.tables) es k
   map_kept s es call_traces core kept k = kept_map eq hash s.mode s.store (hashed_setting s core) s.callers es call_traces kept k

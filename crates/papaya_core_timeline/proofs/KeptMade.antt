@@ -14,7 +14,7 @@ use Rattle.papaya_words_law.specs.Code.{Coding, IsHashed}
 use Rattle.papaya_words_law.specs.Exchange.{Exchange, Setting, run, start}
 use Rattle.papaya_words_law.specs.Grows.{Comes}
 use Rattle.papaya_call_law.specs.Relies.{change_in, change_after}
-use Rattle.papaya_call_law.specs.Told.{IsTold as IsCallTold, LoadedPairs as Call_loaded, word_of}
+use Rattle.papaya_call_law.specs.TrueAnswers.{IsTrueOf as IsTrueOfCall, LoadedPairs as Call_loaded, word_of}
 use Rattle.papaya_call.specs.declared.chain.ask.Ask.{Ask}
 use Rattle.papaya_call.specs.declared.chain.ask.Ask.TheVariants as asks
 use Rattle.papaya_call.specs.declared.chain.ask.Answer.{Answer}
@@ -22,14 +22,14 @@ use Rattle.papaya_call.specs.declared.chain.ask.Answer.TheVariants as answers
 use Rattle.papaya_call.specs.ChainMachine.{ask_of, kind_of_ask}
 use Rattle.papaya_call_law.specs.Goes.{change_by}
 use Rattle.papaya_call_law.specs.ChainRelies.{Relies}
-use Rattle.papaya_call_law.specs.ChainTold.{LoadedPairs}
+use Rattle.papaya_call_law.specs.ChainAnswers.{LoadedPairs}
 use Rattle.papaya_core_store.specs.declared.pairs.Pair.{Pair}
 use Rattle.papaya_core_store.specs.declared.pairs.Part.{Part}
 use Rattle.papaya_core_store.specs.declared.pairs.Part.TheVariants.{Logged}
 use Rattle.papaya_core_store.specs.declared.pairs.Running.{Running}
 use Rattle.papaya_core_timeline.specs.Kept.{CallTrace, IsMade}
 use Rattle.papaya_core_store.specs.Pairs.{brought_by, key_in, pair_with, value_at, value_in}
-use Rattle.papaya_core_store.specs.Performs.{Refuses, Stays, HasNoPair, HasNoPairOf, IsPutOff, LogsOf, LogsOwn, LogsPair, MakesTable, own_key, own_value}
+use Rattle.papaya_core_store.specs.Performs.{Refuses, Stays, HasNoPair, HasNoPairOf, IsPutOff, PushesOf, PushesOwn, PushesPair, MakesTable, own_key, own_value}
 use Rattle.papaya_core_store.specs.Store.{StoreState, Stored, pair_of}
 use Rattle.papaya_core_store.specs.Tables.{hint_at, table_of, word_at}
 use Rattle.papaya_core_timeline.proofs.KeptAnswer.{IsAnswered, Tells, own_told, quiet, same_loaded, same_value, unexchanged}
@@ -75,13 +75,13 @@ module _ {Q K V S A : Type 0} (g : Setting Q (Stored K V)) (c : Coding Q (Stored
 
   -- what a call is told for itself
   told_own : (ask : Call_ask) (a : Call_answer) (loaded : Call_loaded (Stored K V))
-      → IsCallTold g c key (run es start) (kind_of_ask r.machine) call_trace.loaded.call ask a [] loaded
+      → IsTrueOfCall g c key (run es start) (kind_of_ask r.machine) call_trace.loaded.call ask a [] loaded
       → Hears (asks.Call ask) (answers.Call a) (record call_trace.loaded { call = loaded })
   told_own ask a loaded told = own_told g c store r es call_trace own hashed key relies coded there ask a [] loaded told
 
   -- a call's own ask, where nothing was made
   own_nothing : (ask : Call_ask) → ask_of r.machine ≡ asks.Call ask → (a : Call_answer) (store' : StoreState K V S) (later : Running K V A)
-      → store' ≡ store → later ≡ r → IsCallTold g c key (run es start) (kind_of_ask r.machine) call_trace.loaded.call ask a [] call_trace.loaded.call
+      → store' ≡ store → later ≡ r → IsTrueOfCall g c key (run es start) (kind_of_ask r.machine) call_trace.loaded.call ask a [] call_trace.loaded.call
       → change_after (kind_of_ask r.machine) ask a (change_in r.machine.call.state) ≡ change_in r.machine.call.state
       → ((t : ℕ) → a ≡ Made_number t → (slots limit chunks : ℕ) → ask ≡ MakeTable slots limit chunks → ⊥)
       → Leaves (asks.Call ask) (answers.Call a) store' later
@@ -96,7 +96,7 @@ module _ {Q K V S A : Type 0} (g : Setting Q (Stored K V)) (c : Coding Q (Stored
 
   -- a key or a value, which goes into the log with a pair
   pub put_off : (ask : Call_ask) → ask_of r.machine ≡ asks.Call ask → (a : Call_answer) (store' : StoreState K V S) (later : Running K V A)
-      → IsPutOff a store r store' later → IsCallTold g c key (run es start) (kind_of_ask r.machine) call_trace.loaded.call ask a [] call_trace.loaded.call
+      → IsPutOff a store r store' later → IsTrueOfCall g c key (run es start) (kind_of_ask r.machine) call_trace.loaded.call ask a [] call_trace.loaded.call
       → change_after (kind_of_ask r.machine) ask a (change_in r.machine.call.state) ≡ change_in r.machine.call.state
       → ((slots limit chunks : ℕ) → ask ≡ MakeTable slots limit chunks → ⊥) → Leaves (asks.Call ask) (answers.Call a) store' later
   put_off ask e a store' later (is, stays) told still never = own_nothing ask e a store' later stays.0 stays.1 told still
@@ -104,10 +104,10 @@ module _ {Q K V S A : Type 0} (g : Setting Q (Stored K V)) (c : Coding Q (Stored
 
   -- a pair of this key
   logged_pair : (ask : Call_ask) → ask_of r.machine ≡ asks.Call ask
-      → (part left : Part K) (a : Call_answer) (store' : StoreState K V S) (later : Running K V A) → LogsPair part left a store r store' later → (k : K)
+      → (part left : Part K) (a : Call_answer) (store' : StoreState K V S) (later : Running K V A) → PushesPair part left a store r store' later → (k : K)
       → key_in store.pairs part ≡ Some k → own_key store' later ≡ own
       → ((q : Stored K V) → q.key ≡ k → c.number q ≡ q.number → a ≡ Made_number q.number
-      → IsCallTold g c key (run es start) (kind_of_ask r.machine) call_trace.loaded.call ask a []
+      → IsTrueOfCall g c key (run es start) (kind_of_ask r.machine) call_trace.loaded.call ask a []
       (record call_trace.loaded.call { made = q ∷ call_trace.loaded.call.made }))
       → ((q : Stored K V) → c.number q ≡ q.number) → ((part : Part V) → r.value ≡ Some part → (v : V) × (value_in store.pairs part ≡ Some v))
       → change_after (kind_of_ask r.machine) ask a (change_in r.machine.call.state) ≡ change_in r.machine.call.state
@@ -161,7 +161,7 @@ module _ {Q K V S A : Type 0} (g : Setting Q (Stored K V)) (c : Coding Q (Stored
       → ((part : Part V) → r.value ≡ Some part → (v : V) × (value_in store.pairs part ≡ Some v))
       → ask_of r.machine ≡ asks.Call MakePair → (a : Call_answer) (store' : StoreState K V S) (later : Running K V A)
       → (Refuses MAX_LOG_LEN (length store.pairs) a × Stays store r store' later) ⊎ (HasNoPair a r × Stays store r store' later)
-      ⊎ LogsOwn a store r store' later → Leaves (asks.Call MakePair) (answers.Call a) store' later
+      ⊎ PushesOwn a store r store' later → Leaves (asks.Call MakePair) (answers.Call a) store' later
   pair_made k is_key keyed numbered valued e a store' later (inl (refuses, stays)) = let no = refusal _ _ a refuses in
       own_nothing MakePair e a store' later stays.0 stays.1 (inl (inl no, (refl, refl))) refl (λ t is slots limit chunks f. absurd cc)
   pair_made k is_key keyed numbered valued e a store' later (inr (inl (has, stays))) = own_nothing MakePair e a store' later stays.0 stays.1
@@ -179,7 +179,7 @@ module _ {Q K V S A : Type 0} (g : Setting Q (Stored K V)) (c : Coding Q (Stored
       → ((part : Part V) → r.value ≡ Some part → (v : V) × (value_in store.pairs part ≡ Some v)) → ask_of r.machine ≡ asks.Call (MakePairOf n)
       → (a : Call_answer) (store' : StoreState K V S) (later : Running K V A)
       → (Refuses MAX_LOG_LEN (length store.pairs) a × Stays store r store' later) ⊎ (HasNoPairOf n a store r × Stays store r store' later)
-      ⊎ LogsOf n a store r store' later → Leaves (asks.Call (MakePairOf n)) (answers.Call a) store' later
+      ⊎ PushesOf n a store r store' later → Leaves (asks.Call (MakePairOf n)) (answers.Call a) store' later
   pair_of_made k is_key n p last as_loaded keyed numbered valued e a store' later (inl (refuses, stays)) = let no = refusal _ _ a refuses in
       own_nothing (MakePairOf n) e a store' later stays.0 stays.1 (inl (inl no, (refl, refl))) refl (λ t is slots limit chunks f. absurd cc)
   pair_of_made k is_key n p last as_loaded keyed numbered valued e a store' later (inr (inl (has, stays))) = own_nothing (MakePairOf n) e a store'

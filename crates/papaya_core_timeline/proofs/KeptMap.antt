@@ -22,7 +22,7 @@ use Rattle.papaya_words_law.proofs.Logs.{on_comes}
 use Rattle.papaya_words_law.proofs.OneMap.{keeping, sound}
 use Rattle.papaya_core_timeline.specs.declared.seat.Seat.{Seat}
 use Rattle.papaya_core_timeline.specs.Content.{content, listed, pairs_from, pairs_of_kind, pairs_of_slots}
-use Rattle.papaya_core_timeline.specs.Kept.{IsKept, IsLogged, CallTrace, setting_of, coding_of, low, slots_in}
+use Rattle.papaya_core_timeline.specs.Kept.{IsConsistent, IsInArena, CallTrace, setting_of, coding_of, low, slots_in}
 use Rattle.papaya_core_store.specs.Store.{StoreState, Stored, pair_of}
 use Rattle.papaya_core_store.specs.Tables.{table_of, word_in}
 use Rattle.papaya_core_timeline.proofs.KeptTables.{table_low}
@@ -44,11 +44,11 @@ module _ {K V S : Type 0} (eq : K → K → Bool) (hash : K → ℕ) (mode : Mod
   c = coding_of (low hash)
 
   -- a pair that is there, by the number that its word has
-  pair_listed : (w : Word (Stored K V)) (p : Stored K V) → named w ≡ Some p → IsLogged store p → listed (pair_of store (number_of (code g c w))) ≡ p ∷ []
+  pair_listed : (w : Word (Stored K V)) (p : Stored K V) → named w ≡ Some p → IsInArena store p → listed (pair_of store (number_of (code g c w))) ≡ p ∷ []
   pair_listed w p names logged = ap (λ n. listed (pair_of store n)) (code_pair g c hashed.coding w p names) ∙ ap listed logged
 
   -- the pair of a word
-  kind_pairs : (w : Word (Stored K V)) → ((p : Stored K V) → named w ≡ Some p → IsLogged store p)
+  kind_pairs : (w : Word (Stored K V)) → ((p : Stored K V) → named w ≡ Some p → IsInArena store p)
       → pairs_of_kind store (kind w) (number_of (code g c w)) ≡ pairs_of_word w
   kind_pairs Empty logged = refl
   kind_pairs Closed logged = refl
@@ -58,7 +58,7 @@ module _ {K V S : Type 0} (eq : K → K → Bool) (hash : K → ℕ) (mode : Mod
   kind_pairs (Buried p) logged = refl
 
   -- the pair of a number that stands for a word
-  word_pairs : (w : Word (Stored K V)) (word : ℕ) → code g c w ≡ word → ((p : Stored K V) → named w ≡ Some p → IsLogged store p)
+  word_pairs : (w : Word (Stored K V)) (word : ℕ) → code g c w ≡ word → ((p : Stored K V) → named w ≡ Some p → IsInArena store p)
       → pairs_of_kind store (kind_of word) (number_of word) ≡ pairs_of_word w
   word_pairs w word is logged =
       ap (λ y. pairs_of_kind store (kind_of y) (number_of y)) (sym is)
@@ -67,7 +67,7 @@ module _ {K V S : Type 0} (eq : K → K → Bool) (hash : K → ℕ) (mode : Mod
 
   -- the pairs of a table's slots
   slots_pairs : (words : List ℕ) (slot : ℕ → Word (Stored K V)) → ((x : ℕ) → code g c (slot x) ≡ slice_index words x)
-      → ((x : ℕ) (p : Stored K V) → named (slot x) ≡ Some p → IsLogged store p) → pairs_of_slots store words ≡ pairs_in slot (length words)
+      → ((x : ℕ) (p : Stored K V) → named (slot x) ≡ Some p → IsInArena store p) → pairs_of_slots store words ≡ pairs_in slot (length words)
   slots_pairs [] slot coded logged = refl
   slots_pairs (word ∷ words) slot coded logged =
       ap (λ l. l ++ pairs_of_slots store words) (word_pairs (slot 0) word (coded 0) (logged 0))
@@ -75,7 +75,7 @@ module _ {K V S : Type 0} (eq : K → K → Bool) (hash : K → ℕ) (mode : Mod
       ∙ sym (pairs_in-first slot (length words))
 
   module _ {A : Type 0} (callers : List (Seat K V A)) (es : List (Exchange (Stored K V))) (call_traces : ℕ → CallTrace K V)
-      (kept : IsKept eq hash mode store callers es call_traces) where
+      (kept : IsConsistent eq hash mode store callers es call_traces) where
     -- the words of the law
     abbrev now : State (Stored K V)
     now = run es start

@@ -16,11 +16,11 @@ use Rattle.papaya_words_law.proofs.Logs.{on_comes}
 use Rattle.papaya_words_law.proofs.Moments.{allowed_first, allowed_rest, run-append}
 use Rattle.papaya_words_law.proofs.OneMap.{keeping, start_keeps}
 use Rattle.papaya_call_law.specs.Relies.{IsModeOf, change_in}
-use Rattle.papaya_call_law.specs.Told.{IsOneOf, word_of}
+use Rattle.papaya_call_law.specs.TrueAnswers.{IsOneOf, word_of}
 use Rattle.papaya_call.specs.declared.chain.resizer.Resizer.{Resizer}
 use Rattle.papaya_call_law.specs.ChainRelies.{Relies}
 use Rattle.papaya_call_law.specs.Resizers.{ReliesResizer}
-use Rattle.papaya_call_law.specs.ChainTold.{LoadedPairs}
+use Rattle.papaya_call_law.specs.ChainAnswers.{LoadedPairs}
 use Rattle.papaya_call_law.proofs.Stable.{all_carries as relies_carries, all_stable}
 use Rattle.papaya_core_store.specs.declared.pairs.Part.{Part}
 use Rattle.papaya_core_store.specs.declared.pairs.Running.{Running}
@@ -32,7 +32,7 @@ use Rattle.papaya_core_timeline.specs.declared.seat.Work.{Work}
 use Rattle.papaya_core_timeline.specs.declared.seat.Work.TheVariants as works
 use Rattle.papaya_core_timeline.specs.Callers.{resizing, running, scanning, with_work}
 use Rattle.papaya_core_timeline.specs.Core.{CoreState, IsCore}
-use Rattle.papaya_core_timeline.specs.Kept.{IsKept, IsCall, IsLogged, IsMade, IsMadeFor, IsResizing}
+use Rattle.papaya_core_timeline.specs.Kept.{IsConsistent, IsCall, IsInArena, IsMade, IsMadeFor, IsResizing}
 use Rattle.papaya_core_timeline.specs.Kept.{IsScanning, CallTrace, ScanTrace, setting_of, coding_of, low}
 use Rattle.papaya_core_timeline.specs.Kept.{told_more, told_call_traces, scan_trace}
 use Rattle.papaya_core_timeline.proofs.CallersLemmas.{differs, resizing-elsewhere, resizing-here, running-elsewhere, running-here, scanning-elsewhere, scanning-here}
@@ -53,7 +53,7 @@ use Rattle.papaya_core_timeline.proofs.KeptHints.{KeepsHints}
 
 module _ {K V S A : Type 0} (eq : K → K → Bool) (hash : K → ℕ) (law : IsLawfulKeys eq hash) (s : CoreState K V S A) (caller : ℕ) (s' : CoreState K V S A)
     (mode_is : s'.mode ≡ s.mode) (es : List (Exchange (Stored K V))) (call_traces : ℕ → CallTrace K V) (core : IsCore s.store s.callers s.mode)
-    (kept : IsKept eq hash s.mode s.store s.callers es call_traces)
+    (kept : IsConsistent eq hash s.mode s.store s.callers es call_traces)
     (made : List (Exchange (Stored K V))) (loaded : LoadedPairs (Stored K V)) where
   -- the setting before and after the step, and the coding
   abbrev g : Setting K (Stored K V)
@@ -86,7 +86,7 @@ module _ {K V S A : Type 0} (eq : K → K → Bool) (hash : K → ℕ) (law : Is
     pub there : (t : ℕ) → 0 < t → Comes (run es' start) t → IsMade s.store t
     pub slots : (t x : ℕ) (p : Stored K V) → named ((run es' start).slot t x) ≡ Some p → Stands (run es start) p ⊎ Mine p
     -- the stepping call's pairs are logged, and are no other call's
-    pub mine_logged : (p : Stored K V) → Mine p → IsLogged s'.store p
+    pub mine_logged : (p : Stored K V) → Mine p → IsInArena s'.store p
     pub mine_apart : (d : ℕ) (r : Running K V A) → running s.callers d ≡ Some r → d ≢ caller → (p p' : Stored K V) → Mine p
         → IsOneOf (call_traces d).loaded.call.made p' → p.number ≢ p'.number
 
@@ -131,7 +131,7 @@ module _ {K V S A : Type 0} (eq : K → K → Bool) (hash : K → ℕ) (law : Is
     grown_resizer z loaded relies = resizer_carries g g' c (run es' start) (map_left g es') (keeping g hashed.lawful es' left.allowed) agrees z loaded relies
 
     -- a pair that stood in a slot is logged
-    pub stood_logged : (p : Stored K V) → Stands (run es start) p → IsLogged s'.store p
+    pub stood_logged : (p : Stored K V) → Stands (run es start) p → IsInArena s'.store p
     stood_logged p (t, x, names) = left.logged p.number p (kept.logged t x p names)
 
     -- another call's facts
@@ -332,7 +332,7 @@ module _ {K V S A : Type 0} (eq : K → K → Bool) (hash : K → ℕ) (law : Is
       ]
 
       -- a pair that a slot names is logged
-      logged : (t x : ℕ) (p : Stored K V) → named ((run es' start).slot t x) ≡ Some p → IsLogged s'.store p
+      logged : (t x : ℕ) (p : Stored K V) → named ((run es' start).slot t x) ≡ Some p → IsInArena s'.store p
       logged t x p names = elim (left.slots t x p names) [ inl stood ↦ stood_logged p stood | inr mine ↦ left.mine_logged p mine ]
 
       -- what a hint says lasts
@@ -349,7 +349,7 @@ module _ {K V S A : Type 0} (eq : K → K → Bool) (hash : K → ℕ) (law : Is
       ]
 
       -- the core after the step
-      pub leaves_kept : IsKept eq hash s'.mode s'.store s'.callers es' call_traces'
+      pub leaves_kept : IsConsistent eq hash s'.mode s'.store s'.callers es' call_traces'
       leaves_kept = record {
         allowed = all_carries g hashed.lawful g' es' start (λ k. None) (start_keeps g hashed.lawful) left.allowed agrees;
         coded = left.coded;

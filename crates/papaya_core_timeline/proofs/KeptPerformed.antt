@@ -24,7 +24,7 @@ use Rattle.papaya_words_law.specs.Code.{Coding, IsHashed}
 use Rattle.papaya_words_law.specs.Exchange.{Exchange, Setting, run, start}
 use Rattle.papaya_words_law.specs.Grows.{Comes}
 use Rattle.papaya_call_law.specs.Relies.{change_in, change_after}
-use Rattle.papaya_call_law.specs.Told.{LoadedPairs as Call_loaded, IsTold as IsCallTold, IsAsked, told_of, word_of}
+use Rattle.papaya_call_law.specs.TrueAnswers.{LoadedPairs as Call_loaded, IsTrueOf as IsTrueOfCall, IsAsked, told_of, word_of}
 use Rattle.papaya_call_law.proofs.ReliesNames.{IsNamed, ask_named}
 use Rattle.papaya_call.specs.declared.chain.ask.Ask.TheVariants as asks
 use Rattle.papaya_call.specs.declared.chain.ask.Answer.TheVariants as answers
@@ -80,7 +80,7 @@ module _ {K V S A : Type 0} (eq : K → K → Bool) (says : Says K V A) (hash : 
 
   -- what the call is told
   abbrev Hears : Call_ask → Call_answer → Call_loaded (Stored K V) → Type 0
-  Hears ask a loaded = IsCallTold (law_setting eq hash mode store) (law_coding hash) key (run es start) (kind_of_ask r.machine) call_trace.loaded.call
+  Hears ask a loaded = IsTrueOfCall (law_setting eq hash mode store) (law_coding hash) key (run es start) (kind_of_ask r.machine) call_trace.loaded.call
       ask a [] loaded
 
   -- no table was made

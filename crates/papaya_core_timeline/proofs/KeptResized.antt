@@ -16,8 +16,8 @@ use Rattle.papaya_call.specs.declared.chain.resizer.Resizer.{Resizer}
 use Rattle.papaya_call.specs.declared.chain.resizer.ResizerState.{ResizerState as Stage}
 use Rattle.papaya_call.specs.declared.chain.resizer.ResizerState.TheVariants as stages
 use Rattle.papaya_call.specs.Resizer.{after, asks_in, follows_in, kind_in}
-use Rattle.papaya_call_law.specs.Resizers.{HasLink, link_of, IsStageAsked, IsStageTold, ReliesResizer, ReliesStage}
-use Rattle.papaya_call_law.specs.ChainTold.{IsCopyTold, LoadedPairs}
+use Rattle.papaya_call_law.specs.Resizers.{HasLink, link_of, IsStageAsked, IsTrueOfStage, ReliesResizer, ReliesStage}
+use Rattle.papaya_call_law.specs.ChainAnswers.{IsTrueOfCopy, LoadedPairs}
 use Rattle.papaya_words_law.specs.Allows.{AllAllowed, Allows}
 use Rattle.papaya_words_law.specs.Class.{IsOn}
 use Rattle.papaya_words_law.specs.Code.{Coding, IsHashed}
@@ -28,7 +28,7 @@ use Rattle.papaya_words_law.specs.Meaning.{map_left}
 use Rattle.papaya_words_law.proofs.Logs.{on_comes}
 use Rattle.papaya_words_law.proofs.Moments.{allowed_append, run-append}
 use Rattle.papaya_words_law.proofs.OneMap.{keeping}
-use Rattle.papaya_call_law.specs.Told.{IsWritten, word_of}
+use Rattle.papaya_call_law.specs.TrueAnswers.{IsWritten, word_of}
 use Rattle.papaya_core_store.specs.CopyAsks.{PerformsCopy}
 use Rattle.papaya_core_store.specs.Pairs.{key_in, value_in}
 use Rattle.papaya_core_store.specs.Performs.{Exchanges}
@@ -43,7 +43,7 @@ use Rattle.papaya_core_timeline.specs.declared.trace.Event.{Event}
 use Rattle.papaya_core_timeline.specs.Advances.{goes_on}
 use Rattle.papaya_core_timeline.specs.Callers.{call_in, resizer_in, scanner_in}
 use Rattle.papaya_core_timeline.specs.Core.{CoreState, IsCore}
-use Rattle.papaya_core_timeline.specs.Kept.{IsKept, IsMade, IsMadeFor, IsResizing, CallTrace, setting_of, coding_of, low, told_call_traces}
+use Rattle.papaya_core_timeline.specs.Kept.{IsConsistent, IsMade, IsMadeFor, IsResizing, CallTrace, setting_of, coding_of, low, told_call_traces}
 use Rattle.papaya_core_timeline.specs.Resizes.{Resizes}
 use Rattle.papaya_core_store.specs.declared.scans.Scanning.{Scanning}
 use Rattle.papaya_core_timeline.proofs.CallersLemmas.{same_item}
@@ -149,7 +149,7 @@ module _ {K V S A : Type 0} (eq : K → K → Bool) (hash : K → ℕ) (law : Is
 
   -- what an answer leaves
   abbrev pub IsStageLeft : Stage → Answer → StoreState K V S → Type 0
-  IsStageLeft stage a store' = IsLeft g c s.store es call_trace.loaded (λ made loaded'. IsStageTold g c now stage call_trace.loaded a made loaded') a store'
+  IsStageLeft stage a store' = IsLeft g c s.store es call_trace.loaded (λ made loaded'. IsTrueOfStage g c now stage call_trace.loaded a made loaded') a store'
 
   -- a first table is opened
   opened : (table : ℕ) → z.state ≡ stages.Opening table → (a : Call_answer) (store' : StoreState K V S)
@@ -166,7 +166,7 @@ module _ {K V S A : Type 0} (eq : K → K → Bool) (hash : K → ℕ) (law : Is
       subst (λ y. IsStageLeft (stages.Opening table) (answers.Call y) store') (sym done.0)
       (subst (IsStageLeft (stages.Opening table) (answers.Call Exchanged)) (sym done.1)
       (exchanged_left g c s.store es call_trace.loaded coded there
-      (λ made loaded'. IsStageTold g c now (stages.Opening table) call_trace.loaded (answers.Call Exchanged) made loaded') Root table (Open table)
+      (λ made loaded'. IsTrueOfStage g c now (stages.Opening table) call_trace.loaded (answers.Call Exchanged) made loaded') Root table (Open table)
       call_trace.loaded
       (subst (λ b. MatchBool b
       ((answers.Call Exchanged ≡ answers.Call Exchanged) × (one ≡ one) × (call_trace.loaded ≡ call_trace.loaded))
@@ -179,7 +179,7 @@ module _ {K V S A : Type 0} (eq : K → K → Bool) (hash : K → ℕ) (law : Is
       let one : List (Exchange (Stored K V)) = Open table ∷ [] in
       let nothing : List (Exchange (Stored K V)) = [] in
       quiet_left g c s.store es call_trace.loaded coded there
-      (λ made loaded'. IsStageTold g c now (stages.Opening table) call_trace.loaded (answers.Call a) made loaded') (answers.Call a) store'
+      (λ made loaded'. IsTrueOfStage g c now (stages.Opening table) call_trace.loaded (answers.Call a) made loaded') (answers.Call a) store'
       call_trace.loaded lost.1
       (subst (λ b. MatchBool b
       ((answers.Call a ≡ answers.Call Exchanged) × (nothing ≡ one) × (call_trace.loaded ≡ call_trace.loaded))
@@ -239,7 +239,7 @@ module _ {K V S A : Type 0} (eq : K → K → Bool) (hash : K → ℕ) (law : Is
       → (ask : CopyAsk) → asks_in stage ≡ Some ask → (a : Answer) (store' : StoreState K V S) → PerformsCopy eq hashes refuse ask s.store a store'
       → IsLeft g c s.store es call_trace.loaded
       (λ made loaded'. (ask : CopyAsk) × (asks_in stage ≡ Some ask)
-      × IsCopyTold g c now (kind_in stage) (follows_in stage) call_trace.loaded ask a made loaded') a store'
+      × IsTrueOfCopy g c now (kind_in stage) (follows_in stage) call_trace.loaded ask a made loaded') a store'
   copied stage is asker ask e a store' performs =
       left_weaker g c s.store es call_trace.loaded _ _ a store' (λ made loaded' told. (ask, e, told))
       (copied_left g c s.store es call_trace.loaded coded there eq hashes resizing.last resizing.carried suits (kind_in stage) (follows_in stage)
@@ -266,7 +266,7 @@ module _ {K V S A : Type 0} (eq : K → K → Bool) (hash : K → ℕ) (law : Is
     (s : CoreState K V S A) (caller : ℕ) (s' : CoreState K V S A) (event : Event) (reply : Option Reply)
     (x : Resizes eq hashes refuse s caller s' event reply) (hasher : hashes s.store.hasher ≡ hash)
     (es : List (Exchange (Stored K V))) (call_traces : ℕ → CallTrace K V) (core : IsCore s.store s.callers s.mode)
-    (kept : IsKept eq hash s.mode s.store s.callers es call_traces) where
+    (kept : IsConsistent eq hash s.mode s.store s.callers es call_traces) where
   -- the resizer's own facts
   abbrev pub resizing : IsResizing eq hash s.mode s.store x.before es (call_traces caller)
   resizing = kept.resizers caller x.before x.was
@@ -363,7 +363,7 @@ module _ {K V S A : Type 0} (eq : K → K → Bool) (hash : K → ℕ) (law : Is
       }
 
   -- the core after the step
-  pub resize_kept : IsKept eq hash s'.mode s'.store s'.callers es' call_traces'
+  pub resize_kept : IsConsistent eq hash s'.mode s'.store s'.callers es' call_traces'
   resize_kept = others.leaves_kept eq hash law s caller s' x.mode es call_traces core kept left.made left.loaded' leaving
       (goes_on reply (works.Resize (after x.before x.answer))) x.callers
       (λ r e. absurd (goes_on-call reply (after x.before x.answer) r _ refl e))

@@ -18,10 +18,10 @@ use Rattle.papaya_core_timeline.specs.declared.trace.Event.{Event}
 use Rattle.papaya_core_timeline.specs.Advances.{goes_on}
 use Rattle.papaya_core_timeline.specs.Callers.{call_in, resizer_in, resizing, running, scanner_in, scanning, with_work, working}
 use Rattle.papaya_core_timeline.specs.Core.{CoreState, IsCore}
-use Rattle.papaya_core_timeline.specs.Kept.{CallTrace, IsCall, IsKept, IsResizing, IsScanning, ScanTrace}
+use Rattle.papaya_core_timeline.specs.Kept.{CallTrace, IsCall, IsConsistent, IsResizing, IsScanning, ScanTrace}
 use Rattle.papaya_core_timeline.specs.Kept.{scan_trace, scanned_call_traces, told_call_traces, told_more}
-use Rattle.papaya_core_timeline.specs.ScanGoes.{Scans, reply_or, unheard}
-use Rattle.papaya_core_timeline.specs.Scans.{IsHeard, IsUnheard}
+use Rattle.papaya_core_timeline.specs.ScanGoes.{Scans, reply_or, list_refusal}
+use Rattle.papaya_core_timeline.specs.Scans.{IsScanAnswered, IsListRefused}
 use Rattle.papaya_core_timeline.proofs.CallersLemmas.{call-under_way, differs, either_way, idle-here}
 use Rattle.papaya_core_timeline.proofs.CallersLemmas.{left-working, resizer-under_way}
 use Rattle.papaya_core_timeline.proofs.CallersLemmas.{resizing-elsewhere, resizing-here}
@@ -34,9 +34,9 @@ use Rattle.papaya_core_timeline.proofs.ScanKept.{scan_heard}
 use Rattle.papaya_core_timeline.proofs.ScanStands.{scan_core}
 use Rattle.papaya_call.specs.declared.chain.ask.ScanAsk.{ScanAsk}
 use Rattle.papaya_call.specs.declared.chain.ask.ScanAsk.TheVariants.{Given}
-use Rattle.papaya_call.specs.Scanner.{IsStandingScanner, after, ask_of, asks_in, reply_of}
+use Rattle.papaya_call.specs.Scanner.{IsValidScanner, after, ask_of, asks_in, reply_of}
 use Rattle.papaya_words.specs.Word.{pair_of}
-use Rattle.papaya_call_law.specs.ScanTold as scans
+use Rattle.papaya_call_law.specs.ScanAnswers as scans
 use Rattle.papaya_core_store.specs.declared.scans.Scanning.{Scanning}
 
 -- a scanner that goes on is the one that was put back, and nothing else
@@ -57,17 +57,17 @@ scan_no-resizer (Some reply) u z w is e = let f : None ≡ Some z = ap resizer_i
 
 -- where it was told nothing the call has replied
 module _ {K V S A : Type 0} (store store' : StoreState K V S) (v : Scanning A) (answer : Answer) (ask : ScanAsk) (asked : ask_of v.scanner ≡ Some ask)
-    (u : IsUnheard store v answer store') where
+    (u : IsListRefused store v answer store') where
   gave : Some (Given (pair_of u.giving.1)) ≡ Some ask
   gave = ap asks_in (sym u.giving.2) ∙ asked
 
-  pub was_unheard : unheard ask answer ≡ Some Memory
-  was_unheard = ap (λ a. unheard ask a) u.refused
-      ∙ ap (λ a. unheard a (answers.Call (Was_refused Memory))) (sym (same_item (Given (pair_of u.giving.1)) ask gave))
+  pub was_unheard : list_refusal ask answer ≡ Some Memory
+  was_unheard = ap (λ a. list_refusal ask a) u.refused
+      ∙ ap (λ a. list_refusal a (answers.Call (Was_refused Memory))) (sym (same_item (Given (pair_of u.giving.1)) ask gave))
 
 -- the others rely on what they did where a caller's call is taken out
 module _ {K V S A : Type 0} (eq : K → K → Bool) (hash : K → ℕ) (s : CoreState K V S A) (caller : ℕ) (es : List (Exchange (Stored K V)))
-    (call_traces : ℕ → CallTrace K V) (kept : IsKept eq hash s.mode s.store s.callers es call_traces) where
+    (call_traces : ℕ → CallTrace K V) (kept : IsConsistent eq hash s.mode s.store s.callers es call_traces) where
   abbrev fewer : List (Seat K V A)
   fewer = with_work s.callers caller None
 
@@ -81,7 +81,7 @@ module _ {K V S A : Type 0} (eq : K → K → Bool) (hash : K → ℕ) (s : Core
   left_scanner : (d : ℕ) (v : Scanning A) → scanning fewer d ≡ Some v → scanning s.callers d ≡ Some v
   left_scanner d v e = ap scanner_in (left-working s.callers caller d (works.Scan v) (scanner-under_way (working fewer d) v e)).1
 
-  pub without_kept : IsKept eq hash s.mode s.store fewer es call_traces
+  pub without_kept : IsConsistent eq hash s.mode s.store fewer es call_traces
   without_kept = record {
     allowed = kept.allowed;
     coded = kept.coded;
@@ -122,19 +122,19 @@ module _ {K V S A : Type 0} (eq : K → K → Bool) (hash : K → ℕ) (law : Is
       (λ r e. absurd (scan_no-call reply own r _ refl e))
       (λ z e. absurd (scan_no-resizer reply own z _ refl e))
       (λ v e. let is = goes_on-scan reply own v _ refl e in
-      subst (λ (y : Scanning A). IsStandingScanner y.scanner × (reply_of y.scanner ≡ None)) is.1
-      (then.2, no_reply (unheard x.ask x.answer) (reply_of own.scanner) (sym x.reply_is ∙ is.0)))))
+      subst (λ (y : Scanning A). IsValidScanner y.scanner × (reply_of y.scanner ≡ None)) is.1
+      (then.2, no_reply (list_refusal x.ask x.answer) (reply_of own.scanner) (sym x.reply_is ∙ is.0)))))
     where
       no_reply : (o : Option _) (r : Option Reply) → reply_or o r ≡ None → r ≡ None
       no_reply None r e = e
       no_reply (Some refused) r e = let f : Some (Reply_refused refused) ≡ None = e in absurd cc
 
   module _ (hasher : hashes s.store.hasher ≡ hash) (es : List (Exchange (Stored K V))) (call_traces : ℕ → CallTrace K V)
-      (core : IsCore s.store s.callers s.mode) (kept : IsKept eq hash s.mode s.store s.callers es call_traces) where
+      (core : IsCore s.store s.callers s.mode) (kept : IsConsistent eq hash s.mode s.store s.callers es call_traces) where
     pub bare_core : IsCore bare.store bare.callers bare.mode
     bare_core = without-core s.store s.callers s.mode caller core
 
-    pub bare_kept : IsKept eq hash bare.mode bare.store bare.callers es call_traces
+    pub bare_kept : IsConsistent eq hash bare.mode bare.store bare.callers es call_traces
     bare_kept = without_kept eq hash s caller es call_traces kept
 
     -- what it relies on
@@ -146,15 +146,15 @@ module _ {K V S A : Type 0} (eq : K → K → Bool) (hash : K → ℕ) (law : Is
 
     -- what was told to it
     abbrev pub Unheard : Type 0
-    Unheard = IsUnheard s.store x.before x.answer s'.store
+    Unheard = IsListRefused s.store x.before x.answer s'.store
 
     abbrev pub Heard : Type 0
-    Heard = IsHeard eq hash bare caller es call_traces x.before call_trace x.answer s'.store x.later
+    Heard = IsScanAnswered eq hash bare caller es call_traces x.before call_trace x.answer s'.store x.later
 
     pub heard_so : Unheard ⊎ Heard
     heard_so =
-        subst (λ l. IsKept eq hash bare.mode bare.store bare.callers l call_traces → IsScanning eq hash s.mode s.store x.before l call_trace → Unheard
-        ⊎ IsHeard eq hash bare caller l call_traces x.before call_trace x.answer s'.store x.later) before_scanning.split
+        subst (λ l. IsConsistent eq hash bare.mode bare.store bare.callers l call_traces → IsScanning eq hash s.mode s.store x.before l call_trace → Unheard
+        ⊎ IsScanAnswered eq hash bare caller l call_traces x.before call_trace x.answer s'.store x.later) before_scanning.split
         (λ k w. scan_heard eq hash law says hashes refuse bare bare_core hasher caller (idle-here s.callers caller) call_trace call_traces k x.before
         w x.ask x.asked x.answer s'.store x.later x.performs)
         bare_kept before_scanning
@@ -163,12 +163,12 @@ module _ {K V S A : Type 0} (eq : K → K → Bool) (hash : K → ℕ) (law : Is
     pub unheard_reply : Unheard → reply ≡ Some (Reply_refused Memory)
     unheard_reply u = x.reply_is ∙ ap (λ o. reply_or o (reply_of own.scanner)) (was_unheard s.store s'.store x.before x.answer x.ask x.asked u)
 
-    pub unheard_kept : Unheard → IsKept eq hash s'.mode s'.store s'.callers es call_traces
+    pub unheard_kept : Unheard → IsConsistent eq hash s'.mode s'.store s'.callers es call_traces
     unheard_kept u =
         let over : s'.callers ≡ bare.callers = x.callers ∙ ap (λ o. with_work s.callers caller (goes_on o (works.Scan own))) (unheard_reply u) in
-        subst (λ y. IsKept eq hash y s'.store s'.callers es call_traces) (sym x.mode)
-        (subst (λ (y : List (Seat K V A)). IsKept eq hash s.mode s'.store y es call_traces) (sym over)
-        (subst (λ (y : StoreState K V S). IsKept eq hash s.mode y bare.callers es call_traces) (sym u.same) bare_kept))
+        subst (λ y. IsConsistent eq hash y s'.store s'.callers es call_traces) (sym x.mode)
+        (subst (λ (y : List (Seat K V A)). IsConsistent eq hash s.mode s'.store y es call_traces) (sym over)
+        (subst (λ (y : StoreState K V S). IsConsistent eq hash s.mode y bare.callers es call_traces) (sym u.same) bare_kept))
 
     module _ (h : Heard) where
       -- the exchanges and the traces after it
@@ -245,7 +245,7 @@ module _ {K V S A : Type 0} (eq : K → K → Bool) (hash : K → ℕ) (law : Is
             (h.kept.scanners d v (scanning-elsewhere s.callers caller d None differ ∙ sym (scanning-elsewhere s.callers caller d work differ) ∙ e))
       ]
 
-      kept_then : IsKept eq hash s.mode s'.store callers' es' call_traces'
+      kept_then : IsConsistent eq hash s.mode s'.store callers' es' call_traces'
       kept_then = record {
         allowed = h.kept.allowed;
         coded = h.kept.coded;
@@ -261,16 +261,16 @@ module _ {K V S A : Type 0} (eq : K → K → Bool) (hash : K → ℕ) (law : Is
       }
 
       -- the core after the step
-      pub scan_kept : IsKept eq hash s'.mode s'.store s'.callers es' call_traces'
+      pub scan_kept : IsConsistent eq hash s'.mode s'.store s'.callers es' call_traces'
       scan_kept =
-          subst (λ y. IsKept eq hash y s'.store s'.callers es' call_traces') (sym x.mode)
-          (subst (λ (y : List (Seat K V A)). IsKept eq hash s.mode s'.store y es' call_traces') (sym x.callers) kept_then)
+          subst (λ y. IsConsistent eq hash y s'.store s'.callers es' call_traces') (sym x.mode)
+          (subst (λ (y : List (Seat K V A)). IsConsistent eq hash s.mode s'.store y es' call_traces') (sym x.callers) kept_then)
 
     -- what the step leaves of what all rely on
     pub record IsAfter : Type 0 where
       pub es_then : List (Exchange (Stored K V))
       pub call_traces_then : ℕ → CallTrace K V
-      pub kept_after : IsKept eq hash s'.mode s'.store s'.callers es_then call_traces_then
+      pub kept_after : IsConsistent eq hash s'.mode s'.store s'.callers es_then call_traces_then
       pub keeps : KeepsPairs s.store s'.store
       pub hasher_is : s'.store.hasher ≡ s.store.hasher
       pub pairs_are : s'.store.pairs ≡ s.store.pairs

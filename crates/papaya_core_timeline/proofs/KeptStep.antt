@@ -16,10 +16,10 @@ use Rattle.papaya_words_law.specs.Meaning.{map_left}
 use Rattle.papaya_call.specs.Machine.{HasClosure}
 use Rattle.papaya_call.specs.ChainMachine.{after, ask_of, follows_of, kind_of_ask}
 use Rattle.papaya_call_law.specs.Relies.{change_in}
-use Rattle.papaya_call_law.specs.Told.{IsOneOf}
+use Rattle.papaya_call_law.specs.TrueAnswers.{IsOneOf}
 use Rattle.papaya_call_law.specs.Goes.{IsInOrder, link_in}
 use Rattle.papaya_call_law.specs.ChainRelies.{Relies}
-use Rattle.papaya_call_law.specs.ChainTold.{IsTold, LoadedPairs}
+use Rattle.papaya_call_law.specs.ChainAnswers.{IsTrueOf, LoadedPairs}
 use Rattle.papaya_words_law.specs.Code.{IsHashed}
 use Rattle.papaya_call_law.proofs.Learns.{all_learns}
 use Rattle.papaya_call_law.proofs.Order.{in_order}
@@ -28,7 +28,7 @@ use Rattle.papaya_call_law.proofs.Replies.{chain_said, chain_shows, chain_task}
 use Rattle.papaya_core_store.specs.declared.pairs.Running.{Running}
 use Rattle.papaya_core_timeline.specs.Callers.{as_work, running, with_call}
 use Rattle.papaya_core_timeline.specs.Core.{CoreState, IsCore}
-use Rattle.papaya_core_timeline.specs.Kept.{IsKept, IsCall, IsLogged, IsMade, IsMadeFor, CallTrace, setting_of, coding_of, low, told_call_traces}
+use Rattle.papaya_core_timeline.specs.Kept.{IsConsistent, IsCall, IsInArena, IsMade, IsMadeFor, CallTrace, setting_of, coding_of, low, told_call_traces}
 use Rattle.papaya_core_store.specs.Asks.{PerformsAsk}
 use Rattle.papaya_core_store.specs.Store.{Stored, pair_of}
 use Rattle.papaya_core_timeline.proofs.CallersLemmas.{call-put, no-resizer, no-scanner}
@@ -46,7 +46,7 @@ use Rattle.papaya_call.specs.declared.ask.Ask.TheVariants.{MakePairOf}
 use Rattle.papaya_call.specs.declared.ask.Answer.TheVariants.{Made as Made_number}
 use Rattle.papaya_call.specs.declared.chain.ask.Answer.TheVariants as answers
 use Rattle.papaya_call.specs.ChainMachine.{asks_in}
-use Rattle.papaya_call_law.specs.Says.{IsAnswered as IsAnsweredStage, Makes, StandsOn}
+use Rattle.papaya_call_law.specs.Says.{IsAnswered as IsAnsweredStage, Makes, ActsOn}
 use Rattle.papaya_call_law.proofs.ReliesCopied.{machine_copied}
 use Rattle.papaya_call_law.proofs.Names.{call_asks}
 use Rattle.papaya_core_store.specs.declared.pairs.Part.{Part}
@@ -62,7 +62,7 @@ module _ {K V S A : Type 0} (eq : K → K → Bool) (hash : K → ℕ) (law : Is
     (before : Running K V A) (a : Answer) (later : Running K V A) (was : running s.callers caller ≡ Some before)
     (performs : PerformsAsk eq says hashes refuse (ask_of before.machine) s.store before a s'.store later) (hasher : hashes s.store.hasher ≡ hash)
     (mode_is : s'.mode ≡ s.mode) (es : List (Exchange (Stored K V))) (call_traces : ℕ → CallTrace K V) (core : IsCore s.store s.callers s.mode)
-    (kept : IsKept eq hash s.mode s.store s.callers es call_traces) where
+    (kept : IsConsistent eq hash s.mode s.store s.callers es call_traces) where
   -- the setting before and after the step, and the coding
   abbrev g : Setting K (Stored K V)
   g = setting_of eq (low hash) s.mode s.store.words.tables
@@ -123,7 +123,7 @@ module _ {K V S A : Type 0} (eq : K → K → Bool) (hash : K → ℕ) (law : Is
       × Relies g c (call_traces caller).begun ((call_traces caller).since ++ left.made) call.key (after before.machine a) left.loaded
   learnt = all_learns g c hashed (call_traces caller).begun (call_traces caller).since (may (call_traces caller) call.split) call.key before.machine
       (call_traces caller).loaded call.relies a (λ _. link_words g s.store (λ t. refl) (link_in before.machine.phase) call.links) left.made left.loaded
-      (subst (λ l. IsTold g c call.key (run l start) (kind_of_ask before.machine) (follows_of before.machine) (call_traces caller).loaded
+      (subst (λ l. IsTrueOf g c call.key (run l start) (kind_of_ask before.machine) (follows_of before.machine) (call_traces caller).loaded
       (ask_of before.machine) a left.made left.loaded) (sym call.split) left.told)
 
   -- all exchanges were allowed
@@ -175,25 +175,25 @@ module _ {K V S A : Type 0} (eq : K → K → Bool) (hash : K → ℕ) (law : Is
   still_made = others.still_made eq hash law s caller s' mode_is es call_traces core kept left.made left.loaded leaving
 
   -- a pair of the log has a number below its length
-  below : (p : Stored K V) → IsLogged s.store p → p.number < length s.store.pairs
+  below : (p : Stored K V) → IsInArena s.store p → p.number < length s.store.pairs
   below p logged = pair_below s.store p.number p logged
 
   -- a pair that stood in a slot is logged
-  stood_logged : (p : Stored K V) → Stands (run es start) p → IsLogged s'.store p
+  stood_logged : (p : Stored K V) → Stands (run es start) p → IsInArena s'.store p
   stood_logged p (t, x, names) = left.logged p.number p (kept.logged t x p names)
 
   -- the stepping call's own facts
-  own_last : (p : Stored K V) → (((call_traces caller).loaded.call.last ≡ Some p) ⊎ Stands (run es start) p) → IsLogged s'.store p
+  own_last : (p : Stored K V) → (((call_traces caller).loaded.call.last ≡ Some p) ⊎ Stands (run es start) p) → IsInArena s'.store p
   own_last p (inl old) = left.logged p.number p (call.last p old)
   own_last p (inr stood) = stood_logged p stood
 
-  own_carried : (p : Stored K V) → (((call_traces caller).loaded.kept ≡ Some p) ⊎ ((call_traces caller).loaded.call.last ≡ Some p)) → IsLogged s'.store p
+  own_carried : (p : Stored K V) → (((call_traces caller).loaded.kept ≡ Some p) ⊎ ((call_traces caller).loaded.call.last ≡ Some p)) → IsInArena s'.store p
   own_carried p (inl old) = left.logged p.number p (call.carried p old)
   own_carried p (inr told) = left.logged p.number p (call.last p told)
 
   -- each pair that it made is logged
   own_made : (p : Stored K V) → (IsOneOf (call_traces caller).loaded.call.made p
-      ⊎ ((p.number ≡ length s.store.pairs) × (own_value s.store before ≡ Some p.value) × (pair_of s'.store p.number ≡ Some p))) → IsLogged s'.store p
+      ⊎ ((p.number ≡ length s.store.pairs) × (own_value s.store before ≡ Some p.value) × (pair_of s'.store p.number ≡ Some p))) → IsInArena s'.store p
   own_made p (inl old) = left.logged p.number p (call.made p old)
   own_made p (inr (number, value, there)) = there
 
@@ -247,9 +247,9 @@ module _ {K V S A : Type 0} (eq : K → K → Bool) (hash : K → ℕ) (law : Is
       call.own call.valued as_loaded
 
   -- and a pair that is to take the place of another has it, but while a newer answer waits
-  own_again : (i n : ℕ) → StandsOn (after before.machine a).call (Makes (Some i) n) → IsAnsweredStage (after before.machine a).call.state
+  own_again : (i n : ℕ) → ActsOn (after before.machine a).call (Makes (Some i) n) → IsAnsweredStage (after before.machine a).call.state
       ⊎ ((p : Stored K V) × (pair_of s'.store n ≡ Some p) × (own_value s'.store later ≡ Some p.value))
-  own_again i n stands = elim (chain_said before.machine a order (core.standing caller before was).call call.shows (Makes (Some i) n) stands) [
+  own_again i n stands = elim (chain_said before.machine a order (core.valid caller before was).call call.shows (Makes (Some i) n) stands) [
     | inl stood ↦ elim (call.again i n stood) [
       | inl waits ↦ elim (chain_waits before.machine a (machine_goes before.machine a order) waits i n stands) [
         | inl still ↦ inl still
@@ -311,7 +311,7 @@ module _ {K V S A : Type 0} (eq : K → K → Bool) (hash : K → ℕ) (law : Is
   module _ (goes : Option (Running K V A)) (callers : s'.callers ≡ with_call s.callers caller goes)
       (goes_is : (q : Running K V A) → goes ≡ Some q → record later { machine = after before.machine a } ≡ q) where
     -- the core after the step
-    pub step_kept : IsKept eq hash s'.mode s'.store s'.callers es' call_traces'
+    pub step_kept : IsConsistent eq hash s'.mode s'.store s'.callers es' call_traces'
     step_kept = others.leaves_kept eq hash law s caller s' mode_is es call_traces core kept left.made left.loaded leaving (as_work goes) callers
         (λ r e. subst (λ y. IsCall eq hash s'.mode s'.store y es' (call_traces' caller)) (goes_is r (call-put goes r e))
         (own_call (call_traces' caller).loaded (own_loaded caller refl)))

@@ -14,7 +14,7 @@ use Rattle.papaya_words_law.proofs.Logs.{on_comes}
 use Rattle.papaya_call.specs.Machine as call_machine
 use Rattle.papaya_call_law.specs.Copier.{IsCopyAsked, IsThere}
 use Rattle.papaya_call_law.specs.Relies.{change_of_kind}
-use Rattle.papaya_call_law.specs.Told.{IsTold as IsCallTold, IsAsked, IsWritten, told_of, word_of}
+use Rattle.papaya_call_law.specs.TrueAnswers.{IsTrueOf as IsTrueOfCall, IsAsked, IsWritten, told_of, word_of}
 use Rattle.papaya_call_law.proofs.ReliesExchange.{machine_may}
 use Rattle.papaya_call_law.proofs.ReliesNames.{ask_named, slot_named}
 use Rattle.papaya_call.specs.declared.chain.ask.Ask.TheVariants as asks
@@ -113,7 +113,7 @@ module _ {Q K V S A : Type 0} (g : Setting Q (Stored K V)) (c : Coding Q (Stored
         let x = asked_call stands in
         let changed_by : IsChanged now call_trace.loaded.call new (kind_of_ask r.machine) at x.0 = changes now call_trace.loaded.call new g c key
         (kind_of_ask r.machine) at x.0 x.1 in
-        let told : IsCallTold g c key now (kind_of_ask r.machine) call_trace.loaded.call (Ask_exchange at old new) Exchanged (x.0 ∷ []) call_trace.loaded.call =
+        let told : IsTrueOfCall g c key now (kind_of_ask r.machine) call_trace.loaded.call (Ask_exchange at old new) Exchanged (x.0 ∷ []) call_trace.loaded.call =
         subst (λ b. MatchBool b
         ((Exchanged ≡ Exchanged) × ((y : Exchange (Stored K V)) × IsAsked g c key (kind_of_ask r.machine) at new now call_trace.loaded.call y
         × (x.0 ∷ [] ≡ y ∷ [])) × (call_trace.loaded.call ≡ call_trace.loaded.call))

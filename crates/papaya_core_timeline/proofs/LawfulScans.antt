@@ -16,9 +16,9 @@ use Rattle.papaya_core_timeline.specs.declared.trace.Event.{Event}
 use Rattle.papaya_core_timeline.specs.Callers.{scanning, with_work}
 use Rattle.papaya_core_timeline.specs.Core.{CoreState}
 use Rattle.papaya_core_timeline.specs.Counted.{IsCounted}
-use Rattle.papaya_core_timeline.specs.Kept.{IsKept, IsLawfulCore, IsScanning, ScanTrace, coding_of, low, scan_trace, setting_of}
+use Rattle.papaya_core_timeline.specs.Kept.{IsConsistent, IsLawfulCore, IsScanning, ScanTrace, coding_of, low, scan_trace, setting_of}
 use Rattle.papaya_core_timeline.specs.Moves.{MovesMap}
-use Rattle.papaya_core_timeline.specs.ScanGoes.{Scans, reply_or, unheard}
+use Rattle.papaya_core_timeline.specs.ScanGoes.{Scans, reply_or, list_refusal}
 use Rattle.papaya_core_timeline.proofs.CallersLemmas.{idle-here}
 use Rattle.papaya_core_timeline.proofs.CoreLemmas.{without-core}
 use Rattle.papaya_core_timeline.proofs.CountedScanned.{counted_scan, scan_moves}
@@ -29,7 +29,7 @@ use Rattle.papaya_core_timeline.proofs.ScanLaw.{asks_so, heard}
 use Rattle.papaya_call.specs.declared.chain.ask.ScanAsk.{ScanAsk}
 use Rattle.papaya_call.specs.Scanner.{after, ask_of, reply_of}
 use Rattle.papaya_call_law.specs.ScanOutcomes.{IsScanCause}
-use Rattle.papaya_call_law.specs.ScanTold.{IsScanTold, LoadedPairs}
+use Rattle.papaya_call_law.specs.ScanAnswers.{IsTrueOfScan, LoadedPairs}
 use Rattle.papaya_call_law.proofs.ScanOutcomes.{state_why}
 use Rattle.papaya_core_store.specs.declared.scans.Scanning.{Scanning}
 use Rattle.papaya_core_store.specs.Scans.{PerformsScan}
@@ -38,7 +38,7 @@ use Rattle.papaya_core_store.specs.Scans.{PerformsScan}
 module _ {K V S A : Type 0} (eq : K → K → Bool) (hash : K → ℕ) (s : CoreState K V S A) (v : Scanning A) (call_trace : ScanTrace K V) (a : Answer)
     (made : List (Exchange (Stored K V))) (loaded : LoadedPairs (Stored K V)) where
   cause_told : (es : List (Exchange (Stored K V))) → IsScanning eq hash s.mode s.store v es call_trace
-      → IsScanTold (setting_of eq (low hash) s.mode s.store.words.tables) (coding_of (low hash)) (run es start) call_trace.since v.scanner.state
+      → IsTrueOfScan (setting_of eq (low hash) s.mode s.store.words.tables) (coding_of (low hash)) (run es start) call_trace.since v.scanner.state
       call_trace.loaded a made loaded → (refused : Refused) → reply_of (after v.scanner a) ≡ Some (Reply_refused refused) → IsScanCause v.scanner a refused
   cause_told es scanning told refused over =
       let g = setting_of eq (low hash) s.mode s.store.words.tables in
@@ -47,7 +47,7 @@ module _ {K V S A : Type 0} (eq : K → K → Bool) (hash : K → ℕ) (s : Core
       ∙ run-append call_trace.begun call_trace.since start in
       state_why g c (run call_trace.begun start) (map_left g call_trace.begun) call_trace.since v.scanner call_trace.loaded a made loaded refused
       v.scanner.state
-      (subst (λ w. IsScanTold g c w call_trace.since v.scanner.state call_trace.loaded a made loaded) same told) refl over
+      (subst (λ w. IsTrueOfScan g c w call_trace.since v.scanner.state call_trace.loaded a made loaded) same told) refl over
 
 module _ {K V S A H : Type 0} (eq : K → K → Bool) (input : K → List (List ℕ)) (build : S → H) (write : H → List ℕ → H) (finish : H → ℕ)
     (classes : IsEquivalence eq) (respects : (x y : K) → eq x y ≡ true → input x ≡ input y) (says : Says K V A) (refuse : Bool)
@@ -69,12 +69,12 @@ module _ {K V S A H : Type 0} (eq : K → K → Bool) (input : K → List (List 
   -- why it ends refused
   pub lawful_scan_caused : (v : Scanning A) → scanning s.callers caller ≡ Some v → (ask : ScanAsk) → ask_of v.scanner ≡ Some ask
       → (a : Answer) (store' : StoreState K V S) (v' : Scanning A) → PerformsScan eq says hashes refuse ask s.store v a store' v' → (refused : Refused)
-      → reply_or (unheard ask a) (reply_of (after v.scanner a)) ≡ Some (Reply_refused refused) → (unheard ask a ≡ Some refused)
+      → reply_or (list_refusal ask a) (reply_of (after v.scanner a)) ≡ Some (Reply_refused refused) → (list_refusal ask a ≡ Some refused)
       ⊎ IsScanCause v.scanner a refused
   lawful_scan_caused v was ask asks a store' v' performs refused e =
       let (es, (call_traces, kept)) = lawful.law in
       let told = kept.scanners caller v was in
-      by_list (unheard ask a) refl e
+      by_list (list_refusal ask a) refl e
       (elim (heard eq hashes says refuse (record s { callers = with_work s.callers caller None }) law
       (without-core s.store s.callers s.mode caller lawful.core) call_traces v (scan_trace (call_traces caller)) caller (idle-here s.callers caller) es
       (without_kept eq (hashes s.store.hasher) s caller es call_traces kept) told ask asks a store' v' performs) [
@@ -82,9 +82,9 @@ module _ {K V S A H : Type 0} (eq : K → K → Bool) (input : K → List (List 
         | inr h ↦ (λ none over. cause_told eq (hashes s.store.hasher) s v (scan_trace (call_traces caller)) a h.made h.loaded es told h.told refused over)
       ])
     where
-      by_list : (o : Option Refused) → unheard ask a ≡ o → reply_or o (reply_of (after v.scanner a)) ≡ Some (Reply_refused refused)
-          → (unheard ask a ≡ None → reply_of (after v.scanner a) ≡ Some (Reply_refused refused) → IsScanCause v.scanner a refused)
-          → (unheard ask a ≡ Some refused) ⊎ IsScanCause v.scanner a refused
+      by_list : (o : Option Refused) → list_refusal ask a ≡ o → reply_or o (reply_of (after v.scanner a)) ≡ Some (Reply_refused refused)
+          → (list_refusal ask a ≡ None → reply_of (after v.scanner a) ≡ Some (Reply_refused refused) → IsScanCause v.scanner a refused)
+          → (list_refusal ask a ≡ Some refused) ⊎ IsScanCause v.scanner a refused
       by_list None none over why = inr (why none over)
       by_list (Some is) some over why = inl (some ∙ let same : is ≡ refused = cc in ap (λ y. Some y) same)
 
@@ -96,7 +96,7 @@ module _ {K V S A H : Type 0} (eq : K → K → Bool) (input : K → List (List 
         let then = step_after eq (hashes s.store.hasher) law says hashes refuse s caller s' event reply x refl es call_traces lawful.core kept in
         record {
           core = scanned-core eq (hashes s.store.hasher) law says hashes refuse s caller s' event reply x lawful.core;
-          law = subst (λ y. (es : _) × ((call_traces : _) × IsKept eq (hashes y) s'.mode s'.store s'.callers es call_traces)) (sym then.hasher_is)
+          law = subst (λ y. (es : _) × ((call_traces : _) × IsConsistent eq (hashes y) s'.mode s'.store s'.callers es call_traces)) (sym then.hasher_is)
               (then.es_then, (then.call_traces_then, then.kept_after));
         }
 

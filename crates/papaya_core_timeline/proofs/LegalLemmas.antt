@@ -31,10 +31,10 @@ use Rattle.papaya_call.specs.declared.chain.ask.Answer.{Answer}
 use Rattle.papaya_call.specs.declared.chain.machine.Machine.{Machine as Chain_machine}
 use Rattle.papaya_call.specs.ChainMachine.{ask_of, follows_of, kind_of_ask}
 use Rattle.papaya_call_law.specs.ChainRelies.{Relies as Chain_relies}
-use Rattle.papaya_call_law.specs.ChainTold.{IsCopyTold, IsTold as Chain_told, LoadedPairs as Chain_loaded}
+use Rattle.papaya_call_law.specs.ChainAnswers.{IsTrueOfCopy, IsTrueOf as Chain_told, LoadedPairs as Chain_loaded}
 use Rattle.papaya_call_law.specs.Copier.{IsCopyAsked}
 use Rattle.papaya_call_law.specs.Relies.{Change, Relies, change_of_reply}
-use Rattle.papaya_call_law.specs.Told.{IsAsked, IsOneOf, IsTold, LoadedPairs, word_of}
+use Rattle.papaya_call_law.specs.TrueAnswers.{IsAsked, IsOneOf, IsTrueOf, LoadedPairs, word_of}
 use Rattle.papaya_words_law.specs.Code.{IsHashed}
 use Rattle.papaya_words_law.proofs.Codes.{code_pair}
 use Rattle.papaya_words_law.proofs.Moments.{allowed_rest}
@@ -286,7 +286,7 @@ module _ {K V : Type 0} (eq : K → K → Bool) (hash : K → ℕ) (mode mode' :
 
       -- the event of what the call itself asks moves the map so
       pub call_moves : (answer : Call_answer) (made : List (Exchange (Stored K V))) (loaded' : LoadedPairs (Stored K V))
-          → IsTold g c k now (calls.kind_of_ask m) loaded (calls.ask_of m) answer made loaded' → AllAllowed g' start (es ++ made)
+          → IsTrueOf g c k now (calls.kind_of_ask m) loaded (calls.ask_of m) answer made loaded' → AllAllowed g' start (es ++ made)
           → Moves_by (call_event (calls.kind_of_ask m) (calls.ask_of m) answer) made
       call_moves answer made loaded' told may' =
           ⊎_elim quiet (λ z. ⊎_elim exchanged (λ y. ⊎_elim asked shown y) z)
@@ -331,7 +331,7 @@ module _ {K V : Type 0} (eq : K → K → Bool) where
   -- what a copy is told leaves the map
   pub copy_same : (g : Setting K (Stored K V)) (c : Coding K (Stored K V)) (s : State (Stored K V)) (kind : Option StepKind) (follows : ℕ)
       (loaded : Chain_loaded (Stored K V)) (ask : CopyAsk) (answer : Answer) (made : List (Exchange (Stored K V))) (loaded' : Chain_loaded (Stored K V))
-      → IsCopyTold g c s kind follows loaded ask answer made loaded' → (es : List (Exchange (Stored K V))) → Same (replay eq es) (replay eq (es ++ made))
+      → IsTrueOfCopy g c s kind follows loaded ask answer made loaded' → (es : List (Exchange (Stored K V))) → Same (replay eq es) (replay eq (es ++ made))
   copy_same g c s kind follows loaded ask answer made loaded' told es j =
       ⊎_elim
       (λ (none : made ≡ []). ap (λ fs. replay eq (es ++ fs) j) none ∙ ap (λ fs. replay eq fs j) (append-nil es))
@@ -357,9 +357,9 @@ module _ {K V : Type 0} (eq : K → K → Bool) (hash : K → ℕ) (mode mode' :
             → Moves eq k m.call.task loaded.call.made (replay eq (begun ++ since)) (replay eq ((begun ++ since) ++ made)) (event_of (kind_of_ask m) ask answer)
         by_ask (asks.Call ask) e h =
             let own = own_asks m ask e in
-            let tells = subst (λ y. IsTold (setting_of eq (low hash) mode tables) (coding_of (low hash)) k (run (begun ++ since) start) y loaded.call
+            let tells = subst (λ y. IsTrueOf (setting_of eq (low hash) mode tables) (coding_of (low hash)) k (run (begun ++ since) start) y loaded.call
             (calls.ask_of m.call) h.told made h.call) own.2
-            (subst (λ y. IsTold (setting_of eq (low hash) mode tables) (coding_of (low hash)) k (run (begun ++ since) start) (kind_of_ask m)
+            (subst (λ y. IsTrueOf (setting_of eq (low hash) mode tables) (coding_of (low hash)) k (run (begun ++ since) start) (kind_of_ask m)
             loaded.call y h.told made h.call) (sym own.1) h.tells) in
             let is : event_of (kind_of_ask m) (asks.Call ask) answer ≡ call_event (calls.kind_of_ask m.call) (calls.ask_of m.call) h.told =
             ap (event_of (kind_of_ask m) (asks.Call ask)) h.is ∙ ap (λ y. call_event y ask h.told) own.2

@@ -16,10 +16,10 @@ use Rattle.papaya_call.specs.declared.remove.Removal.{Removal}
 use Rattle.papaya_call.specs.declared.machine.State.TheVariants.{Burying}
 use Rattle.papaya_words_law.specs.Exchange.{Setting, Exchange}
 use Rattle.papaya_words_law.specs.Code.{Coding, IsLawfulCoding}
-use Rattle.papaya_call.specs.Machine.{HasClosure, IsStanding, IsChanger, MayInsert, ask_of, kind_of_ask, after}
+use Rattle.papaya_call.specs.Machine.{HasClosure, IsValid, IsChanger, MayInsert, ask_of, kind_of_ask, after}
 use Rattle.papaya_call_law.specs.Relies.{Relies, ReliesStage, IsReply, WasAtMoment, change_in, change_of_reply}
-use Rattle.papaya_call_law.specs.Says.{said_in, said_in_reply}
-use Rattle.papaya_call_law.specs.Told.{LoadedPairs}
+use Rattle.papaya_call_law.specs.Says.{result_in, result_in_reply}
+use Rattle.papaya_call_law.specs.TrueAnswers.{LoadedPairs}
 use Rattle.papaya_words_law.specs.Code.{IsHashed}
 use Rattle.papaya_words_law.proofs.Codes.{code_pair}
 use Rattle.papaya_call_law.proofs.ReliesHeld.{machine_replies as replied}
@@ -47,7 +47,7 @@ machine_burying : (m : Machine) (at : At) (old new : ℕ) → kind_of_ask m ≡ 
 machine_burying m at old new kind e = search rules
 
 -- a reply stands on what the closure said, where it tells of that
-pub machine_says : (m : Machine) (reply : Reply) → ask_of m ≡ Ask_done reply → said_in m.task m.state ≡ said_in_reply m.task reply
+pub machine_says : (m : Machine) (reply : Reply) → ask_of m ≡ Ask_done reply → result_in m.task m.state ≡ result_in_reply m.task reply
 machine_says m reply e = search rules
 
 module _ {K P : Type 0} (g : Setting K P) (c : Coding K P) (begun since : List (Exchange P)) (k : K) where
@@ -96,11 +96,11 @@ module _ {K P : Type 0} (g : Setting K P) (c : Coding K P) (begun since : List (
       }
 
 -- an exchange that changes the map is that of a call that may
-pub machine_changes : (m : Machine) → IsStanding m → (kind : StepKind) (old new : Option ℕ) (answer : Answer)
+pub machine_changes : (m : Machine) → IsValid m → (kind : StepKind) (old new : Option ℕ) (answer : Answer)
     → call_event (kind_of_ask m) (ask_of m) answer ≡ Changed kind old new → IsChanger m.task
 machine_changes m stands kind old new answer e = search rules
 
 -- and where a pair comes, that of one that inserts
-pub machine_inserts : (m : Machine) → IsStanding m → (kind : StepKind) (old : Option ℕ) (n : ℕ) (answer : Answer)
+pub machine_inserts : (m : Machine) → IsValid m → (kind : StepKind) (old : Option ℕ) (n : ℕ) (answer : Answer)
     → call_event (kind_of_ask m) (ask_of m) answer ≡ Changed kind old (Some n) → MayInsert m.task
 machine_inserts m stands kind old n answer e = search rules

@@ -15,7 +15,7 @@ use Rattle.papaya_core_store.specs.declared.pairs.Part.TheVariants.{Logged}
 use Rattle.papaya_core_store.specs.declared.pairs.Running.{Running}
 use Rattle.papaya_core_store.specs.Asks.{PerformsAsk}
 use Rattle.papaya_core_store.specs.Pairs.{brought_by, key_in, value_at, value_in}
-use Rattle.papaya_core_store.specs.Performs.{HasNoPair, HasNoPairOf, LogsOf, LogsOwn, LogsPair, Performs, Refuses, Stays, own_key, own_value}
+use Rattle.papaya_core_store.specs.Performs.{HasNoPair, HasNoPairOf, PushesOf, PushesOwn, PushesPair, Performs, Refuses, Stays, own_key, own_value}
 use Rattle.papaya_core_store.specs.Store.{StoreState, Stored, pair_of}
 use Rattle.papaya_core_store.proofs.Logs.{key_from-same, pair_logged}
 use Rattle.papaya_core_timeline.proofs.StoreLemmas.{matched}
@@ -39,7 +39,7 @@ module _ {K V S A : Type 0} (eq : K → K → Bool) (says : Says K V A) (refuse 
   module _ (valued : (part : Part V) → r.value ≡ Some part → (v : V) × (value_in s.pairs part ≡ Some v)) (told : Call_answer) (n : ℕ)
       (is : told ≡ Made_number n) where
     -- it was logged
-    logged_now : (key left : Part K) (k : K) → key_in s.pairs key ≡ Some k → LogsPair key left told s r s' r' → IsMadeNow s r s' r' n
+    logged_now : (key left : Part K) (k : K) → key_in s.pairs key ≡ Some k → PushesPair key left told s r s' r' → IsMadeNow s r s' r' n
     logged_now key left k key_is logs =
         let (value, has, e, few, grown, moved) = logs in
         let (v, there) = valued value has in
@@ -58,7 +58,7 @@ module _ {K V S A : Type 0} (eq : K → K → Bool) (says : Says K V A) (refuse 
     own_now : (k : K) → own_key s r ≡ Some k → Performs eq says refuse MakePair s r told s' r' → IsMadeNow s r s' r' n
     own_now k own h = matched (IsMadeNow s r s' r' n) refuse _ _ h (λ _ none. let f = sym is ∙ none.0 in absurd cc) (λ _ makes. by_cases makes)
       where
-        by_cases : (Refuses MAX_LOG_LEN (length s.pairs) told × Stays s r s' r') ⊎ (HasNoPair told r × Stays s r s' r') ⊎ LogsOwn told s r s' r'
+        by_cases : (Refuses MAX_LOG_LEN (length s.pairs) told × Stays s r s' r') ⊎ (HasNoPair told r × Stays s r s' r') ⊎ PushesOwn told s r s' r'
             → IsMadeNow s r s' r' n
         by_cases (inl (inl e, stays)) = let f = sym is ∙ e in absurd cc
         by_cases (inl (inr (e, full), stays)) = let f = sym is ∙ e in absurd cc
@@ -69,7 +69,7 @@ module _ {K V S A : Type 0} (eq : K → K → Bool) (says : Says K V A) (refuse 
     of_now m p as_loaded h = matched (IsMadeNow s r s' r' n) refuse _ _ h (λ _ none. let f = sym is ∙ none.0 in absurd cc) (λ _ makes. by_cases makes)
       where
         by_cases : (Refuses MAX_LOG_LEN (length s.pairs) told × Stays s r s' r') ⊎ (HasNoPairOf m told s r × Stays s r s' r')
-            ⊎ LogsOf m told s r s' r' → IsMadeNow s r s' r' n
+            ⊎ PushesOf m told s r s' r' → IsMadeNow s r s' r' n
         by_cases (inl (inl e, stays)) = let f = sym is ∙ e in absurd cc
         by_cases (inl (inr (e, full), stays)) = let f = sym is ∙ e in absurd cc
         by_cases (inr (inl (has, stays))) = let f = sym is ∙ has.0 in absurd cc

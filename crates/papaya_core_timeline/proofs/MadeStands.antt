@@ -23,7 +23,7 @@ use Rattle.papaya_call.specs.Machine.{paired, paired_held}
 use Rattle.papaya_call.specs.Write.{made_of}
 use Rattle.papaya_call.specs.declared.machine.Machine.{Machine as Call_machine}
 use Rattle.papaya_call.specs.Machine as calls
-use Rattle.papaya_call_law.specs.Says.{Inserts, IsAnswered, IsToPair, Makes, MakesPair, ShowsPairs, StandsOn, said_in, said_to_choose, said_to_fill, shown_by}
+use Rattle.papaya_call_law.specs.Says.{Inserts, IsAnswered, IsToPair, Makes, MakesPair, NamesPairs, ActsOn, result_in, result_to_choose, result_to_fill, shown_by}
 use Rattle.papaya_call_law.proofs.Makings.{pair_made}
 use Rattle.papaya_call_law.proofs.SaysSaid.{shown_pair}
 
@@ -33,20 +33,20 @@ module _ (m : Call_machine) (shown : Option ℕ) (n : ℕ) where
   at_stage s = record m { state = s }
 
   abbrev Before : Stage → Type 0
-  Before s = StandsOn (at_stage s) (Inserts shown) ⊎ StandsOn (at_stage s) (Makes shown n)
-      ⊎ ((i : ℕ) × (before : ℕ) × (shown ≡ Some i) × StandsOn (at_stage s) (Makes (Some i) before) × (IsAnswered s → ⊥))
+  Before s = ActsOn (at_stage s) (Inserts shown) ⊎ ActsOn (at_stage s) (Makes shown n)
+      ⊎ ((i : ℕ) × (before : ℕ) × (shown ≡ Some i) × ActsOn (at_stage s) (Makes (Some i) before) × (IsAnswered s → ⊥))
 
   -- what is remembered stays, but for what the pair takes the place of
   replaced : (write : Write) (word : ℕ) → 0 < word
-      → (said_in m.task (Putting (record { write = record write { old = word }; pair = n })) ≡ Some (Makes shown n))
-      ⊎ (said_to_fill m.remembered.fill ≡ Some (Makes shown n))
-      ⊎ (said_to_choose (Some (To_replace (pair_of word) (made_of (record write { old = word }) n))) ≡ Some (Makes shown n))
-      → (shown ≡ Some (pair_of word)) ⊎ (said_to_fill m.remembered.fill ≡ Some (Makes shown n))
+      → (result_in m.task (Putting (record { write = record write { old = word }; pair = n })) ≡ Some (Makes shown n))
+      ⊎ (result_to_fill m.remembered.fill ≡ Some (Makes shown n))
+      ⊎ (result_to_choose (Some (To_replace (pair_of word) (made_of (record write { old = word }) n))) ≡ Some (Makes shown n))
+      → (shown ≡ Some (pair_of word)) ⊎ (result_to_fill m.remembered.fill ≡ Some (Makes shown n))
   replaced write word some (inl e) = let is : shown_by word ≡ shown = cc in inl (sym is ∙ shown_pair word some)
   replaced write word some (inr (inl e)) = inr e
   replaced write word some (inr (inr e)) = let is : Some (pair_of word) ≡ shown = cc in inl (sym is)
 
-  filled : (gap : Gap) → (said_in m.task (fills gap n) ≡ Some (Makes shown n)) ⊎ (Some (Makes None n) ≡ Some (Makes shown n))
+  filled : (gap : Gap) → (result_in m.task (fills gap n) ≡ Some (Makes shown n)) ⊎ (Some (Makes None n) ≡ Some (Makes shown n))
       ⊎ (None ≡ Some (Makes shown n)) → shown ≡ None
   filled NoRoot (inl e) = absurd cc
   filled (At place) (inl e) = cc
@@ -54,28 +54,28 @@ module _ (m : Call_machine) (shown : Option ℕ) (n : ℕ) where
   filled gap (inr (inl e)) = cc
   filled gap (inr (inr e)) = absurd cc
 
-  pairing_stands : (purpose : Purpose) → IsToPair m.remembered.choice purpose → (said_in m.task (provides purpose n) ≡ Some (Makes shown n))
-      ⊎ (said_to_fill (with_pair m.remembered purpose n).fill ≡ Some (Makes shown n))
-      ⊎ (said_to_choose (with_pair m.remembered purpose n).choice ≡ Some (Makes shown n)) → Before (Pairing purpose)
+  pairing_stands : (purpose : Purpose) → IsToPair m.remembered.choice purpose → (result_in m.task (provides purpose n) ≡ Some (Makes shown n))
+      ⊎ (result_to_fill (with_pair m.remembered purpose n).fill ≡ Some (Makes shown n))
+      ⊎ (result_to_choose (with_pair m.remembered purpose n).choice ≡ Some (Makes shown n)) → Before (Pairing purpose)
   pairing_stands (Fill gap) shows stands = inl (inl (ap (λ y. Some (Inserts y)) (sym (filled gap stands))))
   pairing_stands (Replace write) shows stands = elim (replaced write write.old shows stands) [
     | inl is ↦ inl (inl (ap (λ y. Some (Inserts y)) (sym is)))
     | inr kept ↦ inr (inl (inr (inl kept)))
   ]
   pairing_stands (Again write) (some, (new, chosen)) stands = elim (replaced write write.old some stands) [
-    | inl is ↦ inr (inr (pair_of write.old, new.pair, is, inr (inr (ap said_to_choose chosen)), λ a. a))
+    | inl is ↦ inr (inr (pair_of write.old, new.pair, is, inr (inr (ap result_to_choose chosen)), λ a. a))
     | inr kept ↦ inr (inl (inr (inl kept)))
   ]
 
   -- a pair was made
   paired_stands : (purpose : Purpose) → IsToPair m.remembered.choice purpose → (G : Grown) → G ≡ Pair (pair_done m.made)
-      → (said_in m.task (paired G purpose n) ≡ Some (Makes shown n)) ⊎ (said_to_fill (paired_held G m.remembered purpose n).fill ≡ Some (Makes shown n))
-      ⊎ (said_to_choose (paired_held G m.remembered purpose n).choice ≡ Some (Makes shown n)) → Before (Pairing purpose)
+      → (result_in m.task (paired G purpose n) ≡ Some (Makes shown n)) ⊎ (result_to_fill (paired_held G m.remembered purpose n).fill ≡ Some (Makes shown n))
+      ⊎ (result_to_choose (paired_held G m.remembered purpose n).choice ≡ Some (Makes shown n)) → Before (Pairing purpose)
   paired_stands purpose shows (On made) is stands = absurd cc
   paired_stands purpose shows (Pair made) is stands = pairing_stands purpose shows stands
 
-  stands_in : (s : Stage) → MakesPair (calls.ask_of (at_stage s)) → ShowsPairs (at_stage s)
-      → StandsOn (calls.after (at_stage s) (Made_number n)) (Makes shown n) → Before s
+  stands_in : (s : Stage) → MakesPair (calls.ask_of (at_stage s)) → NamesPairs (at_stage s)
+      → ActsOn (calls.after (at_stage s) (Made_number n)) (Makes shown n) → Before s
   stands_in (Pairing purpose) makes shows stands = paired_stands purpose shows (grown m.made (in_place_of purpose))
       (pair_made m.made (in_place_of purpose) makes) stands
   stands_in (Writing write) makes shows (inl e) = absurd cc
@@ -99,8 +99,8 @@ module _ (m : Call_machine) (shown : Option ℕ) (n : ℕ) where
   stands_in (Ended reply) makes shows stands = absurd makes
 
 -- What a call that made a pair stands on of it was answered just now to be stored, or before: then the pair has the value that was logged last.
-pub made_stands : (m : Call_machine) (shown : Option ℕ) (n : ℕ) → MakesPair (calls.ask_of m) → ShowsPairs m
-    → StandsOn (calls.after m (Made_number n)) (Makes shown n)
-    → StandsOn m (Inserts shown) ⊎ StandsOn m (Makes shown n)
-    ⊎ ((i : ℕ) × (before : ℕ) × (shown ≡ Some i) × StandsOn m (Makes (Some i) before) × (IsAnswered m.state → ⊥))
+pub made_stands : (m : Call_machine) (shown : Option ℕ) (n : ℕ) → MakesPair (calls.ask_of m) → NamesPairs m
+    → ActsOn (calls.after m (Made_number n)) (Makes shown n)
+    → ActsOn m (Inserts shown) ⊎ ActsOn m (Makes shown n)
+    ⊎ ((i : ℕ) × (before : ℕ) × (shown ≡ Some i) × ActsOn m (Makes (Some i) before) × (IsAnswered m.state → ⊥))
 made_stands m shown n makes shows stands = stands_in m shown n m.state makes shows stands

@@ -14,7 +14,7 @@ use Rattle.papaya_call.specs.Answers.{Says, op_kind}
 use Rattle.papaya_call.specs.declared.answers.Operation.{Operation}
 use Rattle.papaya_call.specs.declared.answers.Operation.TheVariants as operations
 use Rattle.papaya_call.specs.declared.machine.Machine.{Machine as Call_machine}
-use Rattle.papaya_call.specs.Machine.{HasClosure, IsStandingState, IsWriter}
+use Rattle.papaya_call.specs.Machine.{HasClosure, IsValidState, IsWriter}
 use Rattle.papaya_call.specs.Machine as calls
 use Rattle.papaya_call_law.specs.Says.{MakesPair}
 use Rattle.papaya_core_store.specs.declared.pairs.Part.{Part}
@@ -26,14 +26,14 @@ use Rattle.papaya_core_timeline.specs.Ends.{IsThere, IsToPair}
 use Rattle.papaya_core_timeline.proofs.StoreLemmas.{LogsOrNot, matched, of_logs, own_logs, part_logs}
 
 -- one that makes a pair is an insertion, or is to make it
-pub makes_for : (m : Call_machine) → IsStandingState m.task m.state → MakesPair (calls.ask_of m) → IsWriter m.task ⊎ IsToPair m
+pub makes_for : (m : Call_machine) → IsValidState m.task m.state → MakesPair (calls.ask_of m) → IsWriter m.task ⊎ IsToPair m
 makes_for m stands makes = search rules
 
 -- only a call with a closure shows it something, and only a compute that there is none
-pub shows_closure : (m : Call_machine) → IsStandingState m.task m.state → (n : ℕ) → calls.ask_of m ≡ ShowPair n → HasClosure m.task
+pub shows_closure : (m : Call_machine) → IsValidState m.task m.state → (n : ℕ) → calls.ask_of m ≡ ShowPair n → HasClosure m.task
 shows_closure m stands n e = search rules
 
-pub shows_none : (m : Call_machine) → IsStandingState m.task m.state → calls.ask_of m ≡ ShowNone → HasClosure m.task
+pub shows_none : (m : Call_machine) → IsValidState m.task m.state → calls.ask_of m ≡ ShowNone → HasClosure m.task
 shows_none m stands e = search rules
 
 -- an operation that is an insertion

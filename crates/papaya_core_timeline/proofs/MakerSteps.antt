@@ -21,7 +21,7 @@ use Rattle.papaya_call.specs.declared.machine.Machine.{Machine as Call_machine}
 use Rattle.papaya_call.specs.declared.machine.State.{State as Stage}
 use Rattle.papaya_call.specs.declared.machine.State.TheVariants.{AtRoot, Searching, Pairing, Ended}
 use Rattle.papaya_call.specs.declared.compute.Purpose.{Purpose}
-use Rattle.papaya_call.specs.Machine.{HasClosure, IsStandingState, IsWriter}
+use Rattle.papaya_call.specs.Machine.{HasClosure, IsValidState, IsWriter}
 use Rattle.papaya_call.specs.Machine as call_machine
 use Rattle.papaya_call.specs.declared.chain.ask.Ask.{Ask}
 use Rattle.papaya_call.specs.declared.chain.ask.Ask.TheVariants as asks
@@ -38,7 +38,7 @@ use Rattle.papaya_call_law.specs.Alone as alone
 use Rattle.papaya_call_alone.specs.Prompt.{IsServed, IsServedAsk}
 use Rattle.papaya_core_store.specs.declared.pairs.Running.{Running}
 use Rattle.papaya_core_store.specs.Asks.{PerformsAsk}
-use Rattle.papaya_core_store.specs.Performs.{HasNoPair, HasNoPairOf, IsPutOff, LogsOf, LogsOwn, MakesOr, MakesTable, Performs, Refuses, ShowsPair, Stays}
+use Rattle.papaya_core_store.specs.Performs.{HasNoPair, HasNoPairOf, IsPutOff, PushesOf, PushesOwn, MakesOr, MakesTable, Performs, Refuses, ShowsPair, Stays}
 use Rattle.papaya_core_store.proofs.Logs.{pair_entry}
 use Rattle.papaya_call_law.specs.Says.{MakesPair}
 use Rattle.papaya_core_store.specs.Store.{StoreState, Stored, pair_of}
@@ -50,7 +50,7 @@ use Rattle.papaya_core_timeline.proofs.StoreLemmas.{matched}
 
 module _ {K V S A : Type 0} (eq : K → K → Bool) (says : Says K V A) (hash : S → K → ℕ) (refuse : Bool) (s : StoreState K V S) (r : Running K V A)
     (answer : Answer) (s' : StoreState K V S) (r' : Running K V A) (performs : PerformsAsk eq says hash refuse (ask_of r.machine) s r answer s' r')
-    (standing : IsStandingState r.machine.call.task r.machine.call.state) (maker : IsMaker r) where
+    (valid : IsValidState r.machine.call.task r.machine.call.state) (maker : IsMaker r) where
   -- the call, without its chain
   abbrev call : Call_machine
   call = r.machine.call
@@ -126,13 +126,13 @@ module _ {K V S A : Type 0} (eq : K → K → Bool) (says : Says K V A) (hash : 
     writer_value task writes v = absurd writes
 
     has_value : MakesPair (call_machine.ask_of call) → IsThere r.value
-    has_value makes = elim (makes_for call standing makes) [ inl writes ↦ writer_value call.task writes maker.value | inr pairs ↦ maker.answered pairs ]
+    has_value makes = elim (makes_for call valid makes) [ inl writes ↦ writer_value call.task writes maker.value | inr pairs ↦ maker.answered pairs ]
 
     -- a pair is made, or refused
     own_served : (told : Call_answer) → IsThere r.value → Performs eq says refuse MakePair s r told s' r' → alone.IsMaking told
     own_served told value h = matched (alone.IsMaking told) refuse _ _ h (λ _ none. inr (Memory, none.0)) (λ _ makes. by_cases makes)
       where
-        by_cases : (Refuses MAX_LOG_LEN (length s.pairs) told × Stays s r s' r') ⊎ (HasNoPair told r × Stays s r s' r') ⊎ LogsOwn told s r s' r'
+        by_cases : (Refuses MAX_LOG_LEN (length s.pairs) told × Stays s r s' r') ⊎ (HasNoPair told r × Stays s r s' r') ⊎ PushesOwn told s r s' r'
             → alone.IsMaking told
         by_cases (inl (none, stays)) = inr (refusal _ _ told none)
         by_cases (inr (inl ((is, none), stays))) = let f : None ≡ Some value.0 = sym none ∙ value.1 in absurd cc
@@ -143,7 +143,7 @@ module _ {K V S A : Type 0} (eq : K → K → Bool) (says : Says K V A) (hash : 
     of_served told n p there value h = matched (alone.IsMaking told) refuse _ _ h (λ _ none. inr (Memory, none.0)) (λ _ makes. by_cases makes)
       where
         by_cases : (Refuses MAX_LOG_LEN (length s.pairs) told × Stays s r s' r') ⊎ (HasNoPairOf n told s r × Stays s r s' r')
-            ⊎ LogsOf n told s r s' r' → alone.IsMaking told
+            ⊎ PushesOf n told s r s' r' → alone.IsMaking told
         by_cases (inl (none, stays)) = inr (refusal _ _ told none)
         by_cases (inr (inl ((is, inl none), stays))) = let f : None ≡ Some value.0 = sym none ∙ value.1 in absurd cc
         by_cases (inr (inl ((is, inr none), stays))) = let e = pair_entry s n p there in let f : None ≡ Some e.entry = sym none ∙ e.there in absurd cc
@@ -163,7 +163,7 @@ module _ {K V S A : Type 0} (eq : K → K → Bool) (says : Says K V A) (hash : 
 
     -- it answers of a pair
     pair_said : (told : Call_answer) (n : ℕ) → ((p : Stored K V) × (pair_of s n ≡ Some p)) → (task : Task) → call.task ≡ task → HasClosure task
-        → ShowsPair task says n s r told s' r' → alone.IsSaying task told
+        → ShowsPair task says n s r told s' r' → alone.IsClosureAnswer task told
     pair_said told n there tasks.Get e closure h = absurd closure
     pair_said told n there (tasks.Insert replace) e closure h = absurd closure
     pair_said told n there tasks.RemoveIf e closure (inl (inl none, h)) = absurd (no_answers (subst HasClosure (sym e) tt) none)
@@ -181,9 +181,9 @@ module _ {K V S A : Type 0} (eq : K → K → Bool) (says : Says K V A) (hash : 
     served (LoadHint t x) told own e h = tt
     served (WriteHint t x hint) told own e h = tt
     served (SameKey n) told own e h = tt
-    served ShowNone told own e (inl (none, h)) = absurd (no_answers (shows_none call standing own) none)
+    served ShowNone told own e (inl (none, h)) = absurd (no_answers (shows_none call valid own) none)
     served ShowNone told own e (inr (a, op, a', has, gives, is, same, later)) = (op_kind op, is)
-    served (ShowPair n) told own e h = pair_said told n (shows n (sym e)) call.task refl (shows_closure call standing n own) h
+    served (ShowPair n) told own e h = pair_said told n (shows n (sym e)) call.task refl (shows_closure call valid n own) h
     served (SizeOf n) told own e h = tt
     served MakeKey told own e h = part_served told h
     served MakeValue told own e h = part_served told h

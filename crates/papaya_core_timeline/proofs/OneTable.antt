@@ -7,7 +7,7 @@ use Rattle.papaya_words_law.specs.ChainContent.{joined}
 use Rattle.papaya_words_law.specs.Exchange.{Exchange, run, start}
 use Rattle.papaya_core_timeline.specs.declared.seat.Seat.{Seat}
 use Rattle.papaya_core_timeline.specs.Content.{content, pairs_from, pairs_of_slots}
-use Rattle.papaya_core_timeline.specs.Kept.{CallTrace, IsKept}
+use Rattle.papaya_core_timeline.specs.Kept.{CallTrace, IsConsistent}
 use Rattle.papaya_core_store.specs.Store.{StoreState, Stored}
 use Rattle.papaya_core_store.specs.Tables.{table_of, word_in}
 use Rattle.papaya_core_timeline.proofs.KeptTables.{table_there}
@@ -52,7 +52,7 @@ module _ {K V S : Type 0} (eq : K → K → Bool) (store : StoreState K V S) whe
 
     -- no table of the law has a next one
     pub law_single : {A : Type 0} (hash : K → ℕ) (mode : Mode) (callers : List (Seat K V A)) (es : List (Exchange (Stored K V)))
-        (call_traces : ℕ → CallTrace K V) → IsKept eq hash mode store callers es call_traces → (t : ℕ) → (run es start).next t ≡ 0
+        (call_traces : ℕ → CallTrace K V) → IsConsistent eq hash mode store callers es call_traces → (t : ℕ) → (run es start).next t ≡ 0
     law_single hash mode callers es call_traces kept t = kept.coded (Next t) ∙ next_none (table_of store.words.tables t) refl
       where
         next_none : (o : Option TableWords) → table_of store.words.tables t ≡ o → word_in (λ v. v.next) o ≡ 0

@@ -18,9 +18,9 @@ use Rattle.papaya_words_law.specs.Grows.{Agrees}
 use Rattle.papaya_words_law.specs.Invariant.{IsKeeping}
 use Rattle.papaya_call_law.specs.Copier.{AreThere, HasWords}
 use Rattle.papaya_call_law.specs.Relies.{IsCutAs, IsModeOf}
-use Rattle.papaya_call_law.specs.Told.{IsWritten, word_of}
-use Rattle.papaya_call_law.specs.Resizers.{IsResizeCause, IsStageAsked, IsStageTold, ReliesResizer, link_of}
-use Rattle.papaya_call_law.specs.ChainTold.{LoadedPairs}
+use Rattle.papaya_call_law.specs.TrueAnswers.{IsWritten, word_of}
+use Rattle.papaya_call_law.specs.Resizers.{IsResizeCause, IsStageAsked, IsTrueOfStage, ReliesResizer, link_of}
+use Rattle.papaya_call_law.specs.ChainAnswers.{LoadedPairs}
 use Rattle.papaya_call_law.proofs.ResizerRefusals.{resizer_why}
 use Rattle.papaya_call_law.proofs.ResizerRelies.{stage_begins, stage_carries, stage_learns, stage_may, stage_may_hint, stage_stable, stage_there}
 use Rattle.papaya_words_law.specs.Hints.{IsHint}
@@ -65,7 +65,7 @@ module _ {K P : Type 0} where
 
   pub resizer_learns : (g : Setting K P) (c : Coding K P) → IsHashed g c → (s : State P) (m : K → Option P) → IsKeeping g s m
       → (resizer : Resizer) (loaded : LoadedPairs P) → ReliesResizer g c s resizer loaded → HasWords g (link_of resizer.state)
-      → (answer : Answer) (es : List (Exchange P)) (loaded' : LoadedPairs P) → IsStageTold g c s resizer.state loaded answer es loaded'
+      → (answer : Answer) (es : List (Exchange P)) (loaded' : LoadedPairs P) → IsTrueOfStage g c s resizer.state loaded answer es loaded'
       → AllAllowed g s es × ReliesResizer g c (run es s) (after resizer answer) loaded'
   resizer_learns g c hashed s m keeps resizer loaded r words answer es loaded' told =
       let out = stage_learns g c hashed s m keeps resizer.resize resizer.mode resizer.initial resizer.number loaded r.mode r.cut resizer.state r.stage
@@ -74,6 +74,6 @@ module _ {K P : Type 0} where
 
   pub resizer_refused : (g : Setting K P) (c : Coding K P) (s : State P) (resizer : Resizer) (loaded : LoadedPairs P)
       → ReliesResizer g c s resizer loaded → (answer : Answer) (es : List (Exchange P)) (loaded' : LoadedPairs P)
-      → IsStageTold g c s resizer.state loaded answer es loaded' → (refused : Refused) → reply_of (after resizer answer) ≡ Some (Reply_refused refused)
+      → IsTrueOfStage g c s resizer.state loaded answer es loaded' → (refused : Refused) → reply_of (after resizer answer) ≡ Some (Reply_refused refused)
       → IsResizeCause resizer answer refused
   resizer_refused g c s resizer loaded r answer es loaded' told refused ends = resizer_why g c s resizer loaded answer es loaded' told refused ends

@@ -14,8 +14,8 @@ use Rattle.papaya_call.specs.declared.copy.copying.Copied.{Copied}
 use Rattle.papaya_call.specs.declared.copy.copying.Copied.TheVariants as copied_to
 use Rattle.papaya_call.specs.declared.copy.link.Linked.{Linked}
 use Rattle.papaya_call.specs.declared.copy.link.Linked.TheVariants as linked_to
-use Rattle.papaya_call.specs.Copying.{IsStandingCopied}
-use Rattle.papaya_call.specs.Link.{IsFitCopyAsk, IsStandingLinked, follows}
+use Rattle.papaya_call.specs.Copying.{IsValidCopied}
+use Rattle.papaya_call.specs.Link.{IsFitCopyAsk, IsValidLinked, follows}
 use Rattle.papaya_call.specs.declared.chain.ask.Answer.{Answer}
 use Rattle.papaya_call.specs.declared.chain.ask.Answer.TheVariants as answers
 use Rattle.papaya_call.specs.declared.chain.resizer.Resize.{Resize}
@@ -25,10 +25,10 @@ use Rattle.papaya_call.specs.declared.chain.resizer.TableSize.{TableSize}
 use Rattle.papaya_call.specs.declared.chain.resizer.ResizerState.{ResizerState}
 use Rattle.papaya_call.specs.declared.chain.resizer.ResizerState.TheVariants as stages
 use Rattle.papaya_call.specs.ChainMachine.{IsFit, copying_after, link_after}
-use Rattle.papaya_call.specs.Resizer.{IsStandingIn, IsStandingResizer, after, after_in, ask_of}
+use Rattle.papaya_call.specs.Resizer.{IsValidIn, IsValidResizer, after, after_in, ask_of}
 use Rattle.papaya_call.specs.Resizer.{asks_in, at_count, at_last, at_next, at_root, called, copied}
 use Rattle.papaya_call.specs.Resizer.{counted, copies, judges, linked, makes, over, told_root}
-use Rattle.papaya_call.specs.TableSize.{IsStandingRoom, entries_of, room_of, room_of_len}
+use Rattle.papaya_call.specs.TableSize.{IsValidRoom, entries_of, room_of, room_of_len}
 use Rattle.papaya_call_law.proofs.CopyStanding.{copying_fits, copying_stands, link_fits, link_stands}
 use Rattle.papaya_core_timeline.proofs.CallersLemmas.{same_item}
 
@@ -45,8 +45,8 @@ entries_power pairs = cond_both (nat_le (pairs * 8 / 6) 1) 1 (2 * 2 ^ log_upto 6
     (λ _. (suc (log_upto 63 (pairs * 8 / 6 - 1)), omega (arith, pow-suc 2 (log_upto 63 (pairs * 8 / 6 - 1)))))
 
 -- a room that may be is of a size of tables
-room_stands : (pairs : ℕ) → IsStandingRoom (room_of pairs)
-room_stands pairs = cond_both (nat_le (entries_of pairs) (2 ^ 32)) (Some (room_of_len (max (entries_of pairs) 8))) None IsStandingRoom
+room_stands : (pairs : ℕ) → IsValidRoom (room_of pairs)
+room_stands pairs = cond_both (nat_le (entries_of pairs) (2 ^ 32)) (Some (room_of_len (max (entries_of pairs) 8))) None IsValidRoom
     (λ short. record {
       power = ⊎_elim (λ (lt : entries_of pairs < 8). let e : max (entries_of pairs) 8 ≡ 8 = omega (arith, lt) in (3, e))
           (λ (le : 8 ≤ entries_of pairs). let e : max (entries_of pairs) 8 ≡ entries_of pairs = omega (arith, le) in
@@ -57,36 +57,36 @@ room_stands pairs = cond_both (nat_le (entries_of pairs) (2 ^ 32)) (Some (room_o
     (λ _. tt)
 
 -- it makes a first table
-makes_stands : (room : Option TableSize) → IsStandingRoom room → IsStandingIn (makes room)
+makes_stands : (room : Option TableSize) → IsValidRoom room → IsValidIn (makes room)
 makes_stands None stands = tt
 makes_stands (Some room) stands = stands
 
-judges_stands : (root len : ℕ) (room : Option TableSize) → IsStandingRoom room → IsStandingIn (judges root len room)
+judges_stands : (root len : ℕ) (room : Option TableSize) → IsValidRoom room → IsValidIn (judges root len room)
 judges_stands root len None stands = tt
-judges_stands root len (Some room) stands = cond_both (nat_le room.len len) stages.Done (stages.Looking root len (Some room)) IsStandingIn (λ _. tt)
+judges_stands root len (Some room) stands = cond_both (nat_le room.len len) stages.Done (stages.Looking root len (Some room)) IsValidIn (λ _. tt)
     (λ _. stands)
 
-last_stands : (mode : ResizeMode) (root len : ℕ) (room : Option TableSize) → IsStandingRoom room → IsStandingIn (at_last mode root len room)
+last_stands : (mode : ResizeMode) (root len : ℕ) (room : Option TableSize) → IsValidRoom room → IsValidIn (at_last mode root len room)
 last_stands mode root len None stands = tt
 last_stands mode root len (Some room) stands = stands
 
-next_stands : (mode : ResizeMode) (root len : ℕ) (room : Option TableSize) (next : ℕ) → IsStandingRoom room → IsStandingIn (at_next mode root len room next)
-next_stands mode root len room next stands = cond_both (next == 0) (at_last mode root len room) (copies root) IsStandingIn
+next_stands : (mode : ResizeMode) (root len : ℕ) (room : Option TableSize) (next : ℕ) → IsValidRoom room → IsValidIn (at_next mode root len room next)
+next_stands mode root len room next stands = cond_both (next == 0) (at_last mode root len room) (copies root) IsValidIn
     (λ _. last_stands mode root len room stands) (λ _. tt)
 
-root_stands : (resize : Resize) (root : ℕ) → IsStandingIn (at_root resize root)
-root_stands (resizes.Reserve more) root = cond_both (root == 0) (makes (room_of more)) (stages.Sizing root) IsStandingIn
+root_stands : (resize : Resize) (root : ℕ) → IsValidIn (at_root resize root)
+root_stands (resizes.Reserve more) root = cond_both (root == 0) (makes (room_of more)) (stages.Sizing root) IsValidIn
     (λ _. makes_stands (room_of more) (room_stands more)) (λ _. tt)
-root_stands resizes.Chunk root = cond_both (root == 0) stages.Done (stages.Looking root 0 None) IsStandingIn (λ _. tt) (λ _. tt)
-root_stands resizes.CopyAll root = cond_both (root == 0) stages.Done (stages.Looking root 0 None) IsStandingIn (λ _. tt) (λ _. tt)
+root_stands resizes.Chunk root = cond_both (root == 0) stages.Done (stages.Looking root 0 None) IsValidIn (λ _. tt) (λ _. tt)
+root_stands resizes.CopyAll root = cond_both (root == 0) stages.Done (stages.Looking root 0 None) IsValidIn (λ _. tt) (λ _. tt)
 
-count_stands : (resize : Resize) (root len count : ℕ) → IsStandingIn (at_count resize root len count)
+count_stands : (resize : Resize) (root len count : ℕ) → IsValidIn (at_count resize root len count)
 count_stands (resizes.Reserve more) root len count = judges_stands root len (room_of (count + more)) (room_stands (count + more))
 count_stands resizes.Chunk root len count = tt
 count_stands resizes.CopyAll root len count = tt
 
 -- what is told while nothing is linked or copied
-told_stands : (resize : Resize) (mode : ResizeMode) (stage : ResizerState) (a : Call_answer) → IsStandingIn stage → IsStandingIn (told_root resize mode stage a)
+told_stands : (resize : Resize) (mode : ResizeMode) (stage : ResizerState) (a : Call_answer) → IsValidIn stage → IsValidIn (told_root resize mode stage a)
 told_stands resize mode stages.AtRoot (told.Word root) stands = root_stands resize root
 told_stands resize mode (stages.Making room) (told.Made table) stands = tt
 told_stands resize mode (stages.Making room) (told.Refused refused) stands = tt
@@ -96,27 +96,27 @@ told_stands resize mode (stages.Sizing root) (told.Size slots limit) stands = tt
 told_stands resize mode (stages.Looking root len room) (told.Word next) stands = next_stands mode root len room next stands
 told_stands resize mode stage a stands = stands
 
-counted_stands : (resize : Resize) (stage : ResizerState) (count : ℕ) → IsStandingIn stage → IsStandingIn (counted resize stage count)
+counted_stands : (resize : Resize) (stage : ResizerState) (count : ℕ) → IsValidIn stage → IsValidIn (counted resize stage count)
 counted_stands resize (stages.Counting root len) count stands = count_stands resize root len count
 counted_stands resize stage count stands = stands
 
-called_stands : (resize : Resize) (mode : ResizeMode) (stage : ResizerState) (a : Answer) → IsStandingIn stage → IsStandingIn (called resize mode stage a)
+called_stands : (resize : Resize) (mode : ResizeMode) (stage : ResizerState) (a : Answer) → IsValidIn stage → IsValidIn (called resize mode stage a)
 called_stands resize mode stage (answers.Call a) stands = told_stands resize mode stage a stands
 called_stands resize mode stage (answers.Count count) stands = counted_stands resize stage count stands
 called_stands resize mode stage (answers.Hash hash) stands = stands
 
 -- the making of a table, or a copy, led here
-linked_stands : (root : ℕ) (end : Linked) → IsStandingLinked end → IsStandingIn (linked root end)
+linked_stands : (root : ℕ) (end : Linked) → IsValidLinked end → IsValidIn (linked root end)
 linked_stands root (linked_to.On link) stands = stands
 linked_stands root (linked_to.Table table) stands = tt
 linked_stands root (linked_to.Refused refused) stands = tt
 
-over_stands : (resize : Resize) → IsStandingIn (over resize)
+over_stands : (resize : Resize) → IsValidIn (over resize)
 over_stands resizes.Chunk = tt
 over_stands resizes.CopyAll = tt
 over_stands (resizes.Reserve more) = tt
 
-copied_stands : (resize : Resize) (from : ℕ) (end : Copied) → IsStandingCopied end → IsStandingIn (copied resize from end)
+copied_stands : (resize : Resize) (from : ℕ) (end : Copied) → IsValidCopied end → IsValidIn (copied resize from end)
 copied_stands resize from (copied_to.On copying) stands = stands
 copied_stands resize from (copied_to.Refused refused) stands = tt
 copied_stands resize from (copied_to.Search table) stands = over_stands resize
@@ -124,7 +124,7 @@ copied_stands resize from (copied_to.Root root) stands = over_stands resize
 copied_stands resize from copied_to.Chunk stands = over_stands resize
 
 after_stands : (resize : Resize) (mode : ResizeMode) (initial number : ℕ) (a : Answer) (stage : ResizerState) → IsPowerOfTwo initial → IsFit a
-    → IsStandingIn stage → IsStandingIn (after_in resize mode initial number a stage)
+    → IsValidIn stage → IsValidIn (after_in resize mode initial number a stage)
 after_stands resize mode initial number a (stages.Linking link) power fit stands = linked_stands (follows link) (link_after link mode initial a)
     (link_stands link mode initial a power fit stands)
 after_stands resize mode initial number a (stages.Copying from copying) power fit stands = copied_stands resize from
@@ -139,7 +139,7 @@ after_stands resize mode initial number a stages.Done power fit stands = called_
 after_stands resize mode initial number a (stages.Refused refused) power fit stands = called_stands resize mode (stages.Refused refused) a stands
 
 -- it stands after an answer
-pub resizer_stands : (z : Resizer) (a : Answer) → IsStandingResizer z → IsFit a → IsStandingResizer (after z a)
+pub resizer_stands : (z : Resizer) (a : Answer) → IsValidResizer z → IsFit a → IsValidResizer (after z a)
 resizer_stands z a stands fit = record {
   chunked = stands.chunked;
   initial = stands.initial;
@@ -148,7 +148,7 @@ resizer_stands z a stands fit = record {
 }
 
 -- and asks for no other tables
-fits_in : (stage : ResizerState) → IsStandingIn stage → (ask : CopyAsk) → asks_in stage ≡ Some ask → IsFitCopyAsk ask
+fits_in : (stage : ResizerState) → IsValidIn stage → (ask : CopyAsk) → asks_in stage ≡ Some ask → IsFitCopyAsk ask
 fits_in stages.AtRoot stands ask e = subst IsFitCopyAsk (same_item _ ask e) tt
 fits_in (stages.Making room) stands ask e = subst IsFitCopyAsk (same_item _ ask e) stands
 fits_in (stages.Opening table) stands ask e = subst IsFitCopyAsk (same_item _ ask e) tt
@@ -160,5 +160,5 @@ fits_in (stages.Copying from copying) stands ask e = subst IsFitCopyAsk (same_it
 fits_in stages.Done stands ask e = let f : None ≡ Some ask = e in absurd cc
 fits_in (stages.Refused refused) stands ask e = let f : None ≡ Some ask = e in absurd cc
 
-pub resizer_fits : (z : Resizer) → IsStandingResizer z → (ask : CopyAsk) → ask_of z ≡ Some ask → IsFitCopyAsk ask
+pub resizer_fits : (z : Resizer) → IsValidResizer z → (ask : CopyAsk) → ask_of z ≡ Some ask → IsFitCopyAsk ask
 resizer_fits z stands ask e = fits_in z.state stands.state ask e

@@ -16,7 +16,7 @@ use Rattle.papaya_call.specs.declared.chain.ask.Answer.{Answer}
 use Rattle.papaya_call.specs.declared.chain.ask.Answer.TheVariants as given
 use Rattle.papaya_call.specs.declared.chain.machine.Machine.{Machine}
 use Rattle.papaya_call.specs.ChainMachine.{ask_of, kind_of_ask, after}
-use Rattle.papaya_call_law.specs.Says.{Agrees, Inserts, IsAnswered, IsSaidBy, IsSaidChange, Makes, MakesPair, Removes, Said, ShowsPairs, StandsOn, show}
+use Rattle.papaya_call_law.specs.Says.{Agrees, Inserts, IsAnswered, IsResultBy, IsResultChange, Makes, MakesPair, Removes, ClosureResult, NamesPairs, ActsOn, show}
 use Rattle.papaya_call_law.specs.Goes.{IsOwnStep}
 use Rattle.papaya_core_store.specs.declared.pairs.Running.{Running}
 use Rattle.papaya_core_timeline.specs.declared.trace.Event.{Event}
@@ -28,7 +28,7 @@ use Rattle.papaya_core_timeline.specs.Runs.{History}
 use Rattle.papaya_core_store.specs.Store.{KeepsPairs, StoreState, Stored, pair_of}
 use Rattle.papaya_core_timeline.specs.Timeline.{Answered, IsAgreed, IsAnsweredIn, WasAnswered, number_in}
 use Rattle.papaya_core_timeline.proofs.ChainLemmas.{asks_own, own_asks}
-use Rattle.papaya_core_timeline.proofs.Good.{WasSaid}
+use Rattle.papaya_core_timeline.proofs.Good.{WasReturned}
 use Rattle.papaya_core_timeline.proofs.StepEvents.{event_shown, step_asked, step_answered}
 use Rattle.papaya_core_timeline.proofs.StepTells.{at_hand}
 use Rattle.papaya_core_timeline.proofs.TellLemmas.{IsAnswering}
@@ -39,18 +39,18 @@ use Rattle.papaya_core_timeline.proofs.MadeStands.{made_stands}
 
 -- What a call that made a pair stands on of it was answered just now to be stored, or before: then the pair has the value that was logged last.
 pub made_said : (m : Machine) (answer : Answer) (own : IsOwnStep m answer) (shown : Option ℕ) (n : ℕ) → MakesPair (calls.ask_of m.call)
-    → own.told ≡ Made_number n → ShowsPairs m.call → StandsOn (after m answer).call (Makes shown n)
-    → StandsOn m.call (Inserts shown) ⊎ StandsOn m.call (Makes shown n)
-    ⊎ ((i : ℕ) × (before : ℕ) × (shown ≡ Some i) × StandsOn m.call (Makes (Some i) before) × (IsAnswered m.call.state → ⊥))
+    → own.told ≡ Made_number n → NamesPairs m.call → ActsOn (after m answer).call (Makes shown n)
+    → ActsOn m.call (Inserts shown) ⊎ ActsOn m.call (Makes shown n)
+    ⊎ ((i : ℕ) × (before : ℕ) × (shown ≡ Some i) × ActsOn m.call (Makes (Some i) before) × (IsAnswered m.call.state → ⊥))
 made_said m answer own shown n makes told shows stands =
-    made_stands m.call shown n makes shows (subst (λ y. StandsOn (calls.after m.call y) (Makes shown n)) told
-    (subst (λ d. StandsOn d (Makes shown n)) own.call stands))
+    made_stands m.call shown n makes shows (subst (λ y. ActsOn (calls.after m.call y) (Makes shown n)) told
+    (subst (λ d. ActsOn d (Makes shown n)) own.call stands))
 
 -- it was answered a value but once
-stands_once : (m : Call_machine) (shown other : Option ℕ) → StandsOn m (Inserts shown) → calls.ask_of m ≡ show other → ⊥
+stands_once : (m : Call_machine) (shown other : Option ℕ) → ActsOn m (Inserts shown) → calls.ask_of m ≡ show other → ⊥
 stands_once m shown other stands e = search rules
 
-pub one_value : (m : Machine) (shown other : Option ℕ) → StandsOn m.call (Inserts shown) → ask_of m ≡ asks.Call (show other) → ⊥
+pub one_value : (m : Machine) (shown other : Option ℕ) → ActsOn m.call (Inserts shown) → ask_of m ≡ asks.Call (show other) → ⊥
 one_value m shown other stands e = stands_once m.call shown other stands (own_asks m (show other) e).1
 
 -- an operation of a kind that has no value
@@ -71,8 +71,8 @@ module _ {K V S A : Type 0} (eq : K → K → Bool) (says : Says K V A) (hash : 
   module _ (performs : PerformsAsk eq says hash refuse (ask_of r.machine) s r a s' r') (stay : KeepsPairs s s')
       (made : (n : ℕ) → MakesOver (ask_of r.machine) → a ≡ given.Call (Made_number n) → (q : Stored K V) × (pair_of s' n ≡ Some q)
       × (own_value s r ≡ Some q.value))
-      (again : (i n : ℕ) → StandsOn r.machine.call (Makes (Some i) n) → IsAnswered r.machine.call.state
-      ⊎ ((p : Stored K V) × (pair_of s n ≡ Some p) × (own_value s r ≡ Some p.value))) (shows : ShowsPairs r.machine.call) where
+      (again : (i n : ℕ) → ActsOn r.machine.call (Makes (Some i) n) → IsAnswered r.machine.call.state
+      ⊎ ((p : Stored K V) × (pair_of s n ≡ Some p) × (own_value s r ≡ Some p.value))) (shows : NamesPairs r.machine.call) where
     module _ (turn c : ℕ) (event : Event) (is : event ≡ event_of (kind_of_ask r.machine) (ask_of r.machine) a) (h : History) (answers : Answered V)
         (answering : IsAnswering says s' r r' event) where
       abbrev o : Option (Operation V ℕ)
@@ -99,8 +99,8 @@ module _ {K V S A : Type 0} (eq : K → K → Bool) (says : Says K V A) (hash : 
           (inr (asks, said, now))
 
       -- what was said before and is stood on still
-      still_said : (said : Said) → StandsOn r.machine.call said → StandsOn (after r.machine a).call said → WasSaid s r c h answers said
-          → WasSaid s' later c (entry turn c event ∷ h) (o ∷ answers) said
+      still_said : (said : ClosureResult) → ActsOn r.machine.call said → ActsOn (after r.machine a).call said → WasReturned s r c h answers said
+          → WasReturned s' later c (entry turn c event ∷ h) (o ∷ answers) said
       still_said (Agrees n agrees) before stands was = step_asked c turn n agrees (kind_of_ask r.machine) (ask_of r.machine) a event h is (inl was)
       still_said (Inserts shown) before stands (v, has, was) = (v, value, answered_still shown (ops.Insert v) was)
         where
@@ -111,8 +111,8 @@ module _ {K V S A : Type 0} (eq : K → K → Bool) (says : Says K V A) (hash : 
       still_said (Removes n) before stands was = answered_still (Some n) ops.Remove was
 
       -- what is said now
-      now_said : (said : Said) (own : IsOwnStep r.machine a) → IsSaidBy r.machine.call own.told said → StandsOn (after r.machine a).call said
-          → ((said : Said) → StandsOn r.machine.call said → WasSaid s r c h answers said) → WasSaid s' later c (entry turn c event ∷ h) (o ∷ answers) said
+      now_said : (said : ClosureResult) (own : IsOwnStep r.machine a) → IsResultBy r.machine.call own.told said → ActsOn (after r.machine a).call said
+          → ((said : ClosureResult) → ActsOn r.machine.call said → WasReturned s r c h answers said) → WasReturned s' later c (entry turn c event ∷ h) (o ∷ answers) said
       now_said (Agrees n agrees) own (asking, answer) stands before = step_asked c turn n agrees (kind_of_ask r.machine) (ask_of r.machine) a event h
           is (inr (asks_own r.machine own.phase ∙ ap asks.Call asking, own.is ∙ ap given.Call answer))
       now_said (Inserts shown) own (asking, answer) stands before =
@@ -153,21 +153,21 @@ module _ {K V S A : Type 0} (eq : K → K → Bool) (says : Says K V A) (hash : 
           answered_now (Some n) ops.Remove asking' answer' (now ∙ ap (λ y. Some y) (removing op kind))
 
       -- of any of it, where the machine stands on what it stood on or on what is said now
-      pub said_after : ((said : Said) → StandsOn (after r.machine a).call said → StandsOn r.machine.call said
-          ⊎ ((own : IsOwnStep r.machine a) × IsSaidBy r.machine.call own.told said))
-          → ((said : Said) → StandsOn r.machine.call said → WasSaid s r c h answers said) → (said : Said) → StandsOn (after r.machine a).call said
-          → WasSaid s' later c (entry turn c event ∷ h) (o ∷ answers) said
+      pub said_after : ((said : ClosureResult) → ActsOn (after r.machine a).call said → ActsOn r.machine.call said
+          ⊎ ((own : IsOwnStep r.machine a) × IsResultBy r.machine.call own.told said))
+          → ((said : ClosureResult) → ActsOn r.machine.call said → WasReturned s r c h answers said) → (said : ClosureResult) → ActsOn (after r.machine a).call said
+          → WasReturned s' later c (entry turn c event ∷ h) (o ∷ answers) said
       said_after goes before said stands =
           ⊎_elim
           (λ was. still_said said was stands (before said was))
-          (λ (by : (own : IsOwnStep r.machine a) × IsSaidBy r.machine.call own.told said). now_said said by.0 by.1 stands before)
+          (λ (by : (own : IsOwnStep r.machine a) × IsResultBy r.machine.call own.told said). now_said said by.0 by.1 stands before)
           (goes said stands)
 
 module _ {K V S A : Type 0} where
   -- A change is one to which the closure of the call has agreed, where the call has one.
   pub change_agreed : (call : Call K V A) (s : StoreState K V S) (r : Running K V A) (c : ℕ) (h : History) (answers : Answered V)
-      → ((said : Said) → StandsOn r.machine.call said → WasSaid s r c h answers said) → (old : Option ℕ) (came : Option (Stored K V))
-      → ((q : Stored K V) → came ≡ Some q → pair_of s q.number ≡ Some q) → IsSaidChange (the_task call) r.machine.call old (number_in came)
+      → ((said : ClosureResult) → ActsOn r.machine.call said → WasReturned s r c h answers said) → (old : Option ℕ) (came : Option (Stored K V))
+      → ((q : Stored K V) → came ≡ Some q → pair_of s q.number ≡ Some q) → IsResultChange (the_task call) r.machine.call old (number_in came)
       → IsAgreed (Some call) c old came h answers
   change_agreed (Get j) s r c h answers before old came logged said = tt
   change_agreed (Insert j v) s r c h answers before old came logged said = tt

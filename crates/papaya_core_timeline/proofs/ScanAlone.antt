@@ -17,14 +17,14 @@ use Rattle.papaya_words_law.specs.Meaning.{map_left}
 use Rattle.papaya_words_law.proofs.Moments.{allowed_first, allowed_rest, run-append}
 use Rattle.papaya_words_law.proofs.OneMap.{keeping}
 use Rattle.papaya_call_law.specs.Copier.{AreThere, HasWords, IsCopyAsked}
-use Rattle.papaya_call_law.specs.Told.{IsWritten, word_of}
+use Rattle.papaya_call_law.specs.TrueAnswers.{IsWritten, word_of}
 use Rattle.papaya_call_alone.specs.Prompt.{IsBounded}
 use Rattle.papaya_call_alone.proofs.Measures.{measure_less}
 use Rattle.papaya_core_store.specs.Store.{StoreState, Stored}
 use Rattle.papaya_core_store.specs.Tables.{word_at}
 use Rattle.papaya_core_timeline.specs.Core.{CoreState, IsCore}
 use Rattle.papaya_core_timeline.specs.Ends.{budget_of}
-use Rattle.papaya_core_timeline.specs.Kept.{CallTrace, IsKept, IsScanning, ScanTrace, coding_of, low, setting_of, told_call_traces}
+use Rattle.papaya_core_timeline.specs.Kept.{CallTrace, IsConsistent, IsScanning, ScanTrace, coding_of, low, setting_of, told_call_traces}
 use Rattle.papaya_core_timeline.proofs.BudgetLaw.{call_fewer}
 use Rattle.papaya_core_timeline.proofs.BudgetSpends.{IsSpentAt, budget_bounded, copied_spends, copy_spent, kept_bounded, write_spends}
 use Rattle.papaya_core_timeline.proofs.BudgetTables.{IsChunkOf, changes_at}
@@ -36,8 +36,8 @@ use Rattle.papaya_call.specs.declared.chain.ask.ScanAsk.TheVariants.{Copy, Show,
 use Rattle.papaya_call.specs.declared.chain.scanner.Spot.{Spot}
 use Rattle.papaya_call.specs.declared.chain.scanner.ScannerState.{ScannerState}
 use Rattle.papaya_call.specs.declared.chain.scanner.ScannerState.TheVariants.{Copying, AtRoot, Sizing, Looking, Giving, Showing, Burying, Uncounting, Done, Refused}
-use Rattle.papaya_call.specs.Scanner.{IsStandingScanner, after, ask_of, asks_in}
-use Rattle.papaya_call_law.specs.ScanTold.{IsScanTold}
+use Rattle.papaya_call.specs.Scanner.{IsValidScanner, after, ask_of, asks_in}
+use Rattle.papaya_call_law.specs.ScanAnswers.{IsTrueOfScan}
 use Rattle.papaya_call_law.specs.Scans.{IsScanAsked, ReliesState, link_in_scan}
 use Rattle.papaya_core_timeline.proofs.LinkWords.{scan_words}
 use Rattle.papaya_call_law.proofs.ScanAsks.{state_may, state_named}
@@ -46,16 +46,16 @@ use Rattle.papaya_call_alone.proofs.ScanLefts.{scan_small}
 use Rattle.papaya_call_alone.proofs.ScanLaw.{state_nearer}
 use Rattle.papaya_core_store.specs.declared.scans.Scanning.{Scanning}
 use Rattle.papaya_core_store.specs.Scans.{PerformsScan}
-use Rattle.papaya_core_timeline.specs.Scans.{IsHeard}
+use Rattle.papaya_core_timeline.specs.Scans.{IsScanAnswered}
 
 module _ {K V S A : Type 0} (eq : K → K → Bool) (hash : K → ℕ) (law : IsLawfulKeys eq hash) (says : Says K V A) (hashes : S → K → ℕ) (refuse : Bool)
     (s : CoreState K V S A) (core : IsCore s.store s.callers s.mode) (hasher : hashes s.store.hasher ≡ hash) (caller : ℕ)
     (call_trace : ScanTrace K V) (call_traces : ℕ → CallTrace K V)
-    (kept : IsKept eq hash s.mode s.store s.callers (call_trace.begun ++ call_trace.since) call_traces) (v : Scanning A)
+    (kept : IsConsistent eq hash s.mode s.store s.callers (call_trace.begun ++ call_trace.since) call_traces) (v : Scanning A)
     (scanning : IsScanning eq hash s.mode s.store v (call_trace.begun ++ call_trace.since) call_trace)
     (ask : ScanAsk) (asks : ask_of v.scanner ≡ Some ask) (a : Answer) (store' : StoreState K V S) (v' : Scanning A)
     (performs : PerformsScan eq says hashes refuse ask s.store v a store' v')
-    (heard : IsHeard eq hash s caller (call_trace.begun ++ call_trace.since) call_traces v call_trace a store' v') where
+    (heard : IsScanAnswered eq hash s caller (call_trace.begun ++ call_trace.since) call_traces v call_trace a store' v') where
   -- the exchanges, the setting, the coding and the words
   abbrev es : List (Exchange (Stored K V))
   es = call_trace.begun ++ call_trace.since
@@ -194,8 +194,8 @@ module _ {K V S A : Type 0} (eq : K → K → Bool) (hash : K → ℕ) (law : Is
   bounded : IsBounded g (run call_trace.since first)
   bounded = subst (IsBounded g) (sym same) (kept_bounded eq hash law s.mode s.store s.callers core es call_traces kept)
 
-  told : IsScanTold g c (run call_trace.since first) call_trace.since v.scanner.state call_trace.loaded a heard.made heard.loaded
-  told = subst (λ w. IsScanTold g c w call_trace.since v.scanner.state call_trace.loaded a heard.made heard.loaded) (sym same) heard.told
+  told : IsTrueOfScan g c (run call_trace.since first) call_trace.since v.scanner.state call_trace.loaded a heard.made heard.loaded
+  told = subst (λ w. IsTrueOfScan g c w call_trace.since v.scanner.state call_trace.loaded a heard.made heard.loaded) (sym same) heard.told
 
   module _ (read : IsScannerRead (word_at s.store.words) v.scanner) where
     read_now : IsScannerRead (word_of g c (run call_trace.since first)) v.scanner
@@ -208,7 +208,7 @@ module _ {K V S A : Type 0} (eq : K → K → Bool) (hash : K → ℕ) (law : Is
         call_trace.loaded a heard.made heard.loaded v.scanner.state scanning.relies.state (words v.scanner.state refl) read_now told).read
 
     -- and it is nearer its end
-    pub falls : IsCore store' s.callers s.mode → IsStandingScanner (after v.scanner a)
+    pub falls : IsCore store' s.callers s.mode → IsValidScanner (after v.scanner a)
         → scanner_measure (budget_of store') (word_at store'.words) (after v.scanner a) < scanner_measure (budget_of s.store) (word_at s.store.words) v.scanner
     falls core' stands =
         let out = state_nearer g c hashed first m keeps_first call_trace.since may_since bounded v.scanner scanning.relies.mode scanning.relies.cut

@@ -19,8 +19,8 @@ use Rattle.papaya_call.specs.declared.chain.ask.Answer.TheVariants as answers
 use Rattle.papaya_call.specs.declared.chain.resizer.ResizerState.{ResizerState as Stage}
 use Rattle.papaya_call.specs.Resizer as resizers
 use Rattle.papaya_call_law.specs.Resizers.{ReliesStage}
-use Rattle.papaya_call_law.specs.ChainTold.{IsCopyTold, told_of}
-use Rattle.papaya_call_law.specs.ChainTold as copies
+use Rattle.papaya_call_law.specs.ChainAnswers.{IsTrueOfCopy, told_of}
+use Rattle.papaya_call_law.specs.ChainAnswers as copies
 use Rattle.papaya_words_law.specs.Allows.{AllAllowed}
 use Rattle.papaya_words_law.specs.Code.{Coding, IsHashed}
 use Rattle.papaya_words_law.specs.Exchange.{Live, Buried, Setting, State as Words, Exchange, Bury, after as state_after, run, start}
@@ -30,13 +30,13 @@ use Rattle.papaya_words_law.specs.Meaning.{map_left}
 use Rattle.papaya_words_law.proofs.Moments.{allowed_first, allowed_rest, run-append}
 use Rattle.papaya_words_law.proofs.OneMap.{keeping}
 use Rattle.papaya_call_law.specs.Copier.{AreThere, told_last}
-use Rattle.papaya_call_law.specs.Told.{IsWritten, or_last, word_of}
+use Rattle.papaya_call_law.specs.TrueAnswers.{IsWritten, or_last, word_of}
 use Rattle.papaya_core_store.specs.CopyAsks.{PerformsCopy}
 use Rattle.papaya_core_store.specs.Store.{StoreState, Stored, pair_of}
 use Rattle.papaya_core_store.specs.Tables.{hint_at, put, word_at}
 use Rattle.papaya_core_timeline.specs.Counted.{owed_scan}
 use Rattle.papaya_core_timeline.specs.Core.{CoreState, IsCore}
-use Rattle.papaya_core_timeline.specs.Kept.{CallTrace, HasAnswers, IsLogged, IsMade, IsMadeFor}
+use Rattle.papaya_core_timeline.specs.Kept.{CallTrace, HasAnswers, IsInArena, IsMade, IsMadeFor}
 use Rattle.papaya_core_timeline.specs.Kept.{IsResizing, IsScanLink, WasShown, coding_of, low, numbers_of}
 use Rattle.papaya_core_timeline.specs.Kept.{setting_of}
 use Rattle.papaya_core_timeline.proofs.CopyAnswers.{IsLeft, Suits, copied_left, exchanged_left, quiet_left, placed}
@@ -51,12 +51,12 @@ use Rattle.papaya_call.specs.declared.chain.scanner.ScannerState.{ScannerState}
 use Rattle.papaya_call.specs.declared.chain.scanner.ScannerState.TheVariants.{Copying, AtRoot, Sizing, Looking, Giving, Showing, Burying, Uncounting, Done, Refused}
 use Rattle.papaya_call.specs.declared.chain.scanner.Scan.TheVariants.{Retain}
 use Rattle.papaya_call.specs.Scanner.{asks_in, copy_asks, buries, resizer_of}
-use Rattle.papaya_call_law.specs.ScanTold.{IsBuried, IsFoundThere, IsScanTold, LoadedPairs, last_of}
+use Rattle.papaya_call_law.specs.ScanAnswers.{IsBuried, IsFoundThere, IsTrueOfScan, LoadedPairs, last_of}
 use Rattle.papaya_call_law.specs.Scans.{HadPair, IsOfAll, ReliesScanner, ReliesState}
 use Rattle.papaya_call_law.proofs.ScanAsks.{state_may, state_named}
 use Rattle.papaya_core_store.specs.declared.scans.Scanning.{Scanning}
 use Rattle.papaya_core_store.specs.Scans.{PerformsScan}
-use Rattle.papaya_core_timeline.specs.Scans.{IsUnheard}
+use Rattle.papaya_core_timeline.specs.Scans.{IsListRefused}
 use Rattle.papaya_words_law.specs.Hints.{IsHint}
 
 -- what is told otherwise, where all else is the same
@@ -111,8 +111,8 @@ module _ {K V S A : Type 0} (eq : K → K → Bool) (hash : K → ℕ) (law : Is
     (relies : ReliesScanner (setting_of eq (low hash) s.mode s.store.words.tables) (coding_of (low hash)) (run begun start)
     (map_left (setting_of eq (low hash) s.mode s.store.words.tables) begun) since v.scanner loaded)
     (has_answers : HasAnswers v.scanner.scan v.answers)
-    (last : (p : Stored K V) → loaded.copy.call.last ≡ Some p → IsLogged s.store p)
-    (carried : (p : Stored K V) → loaded.copy.kept ≡ Some p → IsLogged s.store p)
+    (last : (p : Stored K V) → loaded.copy.call.last ≡ Some p → IsInArena s.store p)
+    (carried : (p : Stored K V) → loaded.copy.kept ≡ Some p → IsInArena s.store p)
     (given_is : v.given ≡ numbers_of loaded.given)
     (linked : (behind t chunks : ℕ) → IsScanLink v.scanner.state (links.Linking behind t chunks) → IsMadeFor s.store t chunks) where
   -- the setting, the coding and the words
@@ -159,7 +159,7 @@ module _ {K V S A : Type 0} (eq : K → K → Bool) (hash : K → ℕ) (law : Is
     pub words : StoreState K V S
     pub loaded' : LoadedPairs (Stored K V)
     pub left : IsLeft g c s.store (begun ++ since) loaded.copy
-        (λ made copy. IsScanTold g c now since state loaded a made loaded' × (loaded'.copy ≡ copy)) a words
+        (λ made copy. IsTrueOfScan g c now since state loaded a made loaded' × (loaded'.copy ≡ copy)) a words
     pub store_is : store' ≡ record words { count = store'.count }
     pub given : v'.given ≡ numbers_of loaded'.given
     pub answers : HasAnswers v.scanner.scan v'.answers
@@ -220,7 +220,7 @@ module _ {K V S A : Type 0} (eq : K → K → Bool) (hash : K → ℕ) (law : Is
       (state_named g c hashed first m keeps_first since may_since v.scanner.scan loaded state r (Copy ask) e)
 
   abbrev Hears : CopyAsk → Answer → StoreState K V S → Type 0
-  Hears ask a store' = IsLeft g c s.store (begun ++ since) loaded.copy (λ made copy. IsCopyTold g c now None 0 loaded.copy ask a made copy) a store'
+  Hears ask a store' = IsLeft g c s.store (begun ++ since) loaded.copy (λ made copy. IsTrueOfCopy g c now None 0 loaded.copy ask a made copy) a store'
 
   loads : (at : At) → Named (Load at) → (a : Answer) (store' : StoreState K V S) → PerformsCopy eq hashes refuse (Load at) s.store a store'
       → Hears (Load at) a store'
@@ -254,7 +254,7 @@ module _ {K V S A : Type 0} (eq : K → K → Bool) (hash : K → ℕ) (law : Is
   word_left : (state : ScannerState) (before : List (Exchange (Stored K V)) → List (Exchange (Stored K V))) → (ask : CopyAsk)
       → asks_in state ≡ Some (Copy ask) → (a : Answer) (store' : StoreState K V S) → (left : Hears ask a store')
       → ((loaded' : LoadedPairs (Stored K V)) → loaded' ≡ record loaded { copy = left.loaded'; before = before left.made }
-      → IsScanTold g c now since state loaded a left.made loaded') → owed_scan state ≡ pos 0 → (v' : Scanning A) → v' ≡ v → IsScanLeft state a store' v'
+      → IsTrueOfScan g c now since state loaded a left.made loaded') → owed_scan state ≡ pos 0 → (v' : Scanning A) → v' ≡ v → IsScanLeft state a store' v'
   word_left state before ask e a store' left tells owes v' same_v =
       let loaded' : LoadedPairs (Stored K V) = record loaded { copy = left.loaded'; before = before left.made } in
       record {
@@ -271,7 +271,7 @@ module _ {K V S A : Type 0} (eq : K → K → Bool) (hash : K → ℕ) (law : Is
   -- an answer that leaves the store, and tells of no word
   still : (state : ScannerState) (a : Answer) (store' : StoreState K V S) (loaded' : LoadedPairs (Stored K V)) → loaded'.copy ≡ loaded.copy
       → store' ≡ record s.store { count = store'.count } → ((t : ℕ) → a ≡ answers.Call (Made_number t) → ⊥)
-      → IsScanTold g c now since state loaded a [] loaded' → (v' : Scanning A) → v'.given ≡ numbers_of loaded'.given
+      → IsTrueOfScan g c now since state loaded a [] loaded' → (v' : Scanning A) → v'.given ≡ numbers_of loaded'.given
       → HasAnswers v.scanner.scan v'.answers →
       ((p : Stored K V) → WasShown loaded'.shown p → WasShown loaded.shown p ⊎ (loaded.copy.call.last ≡ Some p))
       → int_wrap w64 store'.count.sum ≡ int_wrap w64 (s.store.count.sum +ℤ owed_scan state) → IsScanLeft state a store' v'
@@ -279,7 +279,7 @@ module _ {K V S A : Type 0} (eq : K → K → Bool) (hash : K → ℕ) (law : Is
     words = s.store;
     loaded' = loaded';
     left = quiet_left g c s.store (begun ++ since) loaded.copy coded there
-        (λ made copy. IsScanTold g c now since state loaded a made loaded' × (loaded'.copy ≡ copy)) a s.store loaded.copy refl (told, copy)
+        (λ made copy. IsTrueOfScan g c now since state loaded a made loaded' × (loaded'.copy ≡ copy)) a s.store loaded.copy refl (told, copy)
         (λ p h. inl h) (λ p h. inl h) refl never;
     store_is = is;
     given = given;
@@ -294,7 +294,7 @@ module _ {K V S A : Type 0} (eq : K → K → Bool) (hash : K → ℕ) (law : Is
 
   -- a pair is given, or there was no memory for its number
   abbrev Left : ScannerState → Answer → StoreState K V S → Scanning A → Type 0
-  Left state a store' v' = IsUnheard s.store v a store' ⊎ IsScanLeft state a store' v'
+  Left state a store' v' = IsListRefused s.store v a store' ⊎ IsScanLeft state a store' v'
 
   give_left : (spot : Spot) (word : ℕ) → v.scanner.state ≡ Giving spot word → Relies (Giving spot word)
       → (a : Answer) (store' : StoreState K V S) (v' : Scanning A) → PerformsScan eq says hashes refuse (Given (number_in word)) s.store v a store' v'
@@ -371,12 +371,12 @@ module _ {K V S A : Type 0} (eq : K → K → Bool) (hash : K → ℕ) (law : Is
           let by : Exchange (Stored K V) = Bury spot.table spot.slot p in
           let live : now.slot spot.table spot.slot ≡ Live p = subst (λ (w : Words (Stored K V)). w.slot spot.table spot.slot ≡ Live p) same stood in
           let named_there : Named (buries spot word) = word_named (Burying spot word) r (buries spot word) refl in
-          let told : IsScanTold g c now since (Burying spot word) loaded (answers.Call Exchanged) (by ∷ []) loaded =
+          let told : IsTrueOfScan g c now since (Burying spot word) loaded (answers.Call Exchanged) (by ∷ []) loaded =
           subst (λ b. MatchBool b (IsBuried g c now since spot loaded (answers.Call Exchanged) (by ∷ []) loaded)
           (IsFoundThere g c now since spot loaded (answers.Call Exchanged) (by ∷ []) loaded))
           (sym (ap (λ y. y == word) (coded at) ∙ hit)) (record { pair = p; live = live; is = refl; one = refl; handed = refl }) in
           let left = exchanged_left g c s.store (begun ++ since) loaded.copy coded there
-          (λ made copy. IsScanTold g c now since (Burying spot word) loaded (answers.Call Exchanged) made loaded × (loaded.copy ≡ copy)) at
+          (λ made copy. IsTrueOfScan g c now since (Burying spot word) loaded (answers.Call Exchanged) made loaded × (loaded.copy ≡ copy)) at
           (grave_word word) by loaded.copy (told, refl)
           (placed g c s.store (begun ++ since) loaded.copy coded there eq hashes last carried suits None 0 at named_there)
           (subst (λ y. IsWritten g c now at (grave_word word) (state_after now y)) is_bury written)
@@ -405,7 +405,7 @@ module _ {K V S A : Type 0} (eq : K → K → Bool) (hash : K → ℕ) (law : Is
           let at : At = Slot spot.table spot.slot in
           let nothing : List (Exchange (Stored K V)) = [] in
           let loaded' : LoadedPairs (Stored K V) = record loaded { copy = told_of (told_last now at (last_of loaded)) loaded.copy } in
-          let told : IsScanTold g c now since (Burying spot word) loaded a nothing loaded' =
+          let told : IsTrueOfScan g c now since (Burying spot word) loaded a nothing loaded' =
           subst (λ b. MatchBool b (IsBuried g c now since spot loaded a nothing loaded') (IsFoundThere g c now since spot loaded a nothing loaded'))
           (sym (ap (λ y. y == word) (coded at) ∙ miss))
           (record { is = is ∙ ap (λ y. answers.Call (Found_instead y)) (sym (coded at)); none = refl; handed = refl }) in
@@ -413,7 +413,7 @@ module _ {K V S A : Type 0} (eq : K → K → Bool) (hash : K → ℕ) (law : Is
             words = store';
             loaded' = loaded';
             left = quiet_left g c s.store (begun ++ since) loaded.copy coded there
-                (λ made copy. IsScanTold g c now since (Burying spot word) loaded a made loaded' × (loaded'.copy ≡ copy)) a store' loaded'.copy stored
+                (λ made copy. IsTrueOfScan g c now since (Burying spot word) loaded a made loaded' × (loaded'.copy ≡ copy)) a store' loaded'.copy stored
                 (told, refl)
                 (λ q e. told_stood now spot.table spot.slot loaded.copy.call.last q (named (now.slot spot.table spot.slot)) refl e) (λ p h. inl h)
                 refl (λ t e. let f = sym is ∙ e in absurd cc);

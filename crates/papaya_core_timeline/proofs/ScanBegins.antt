@@ -15,7 +15,7 @@ use Rattle.papaya_call.specs.declared.chain.scanner.Scan.{Scan}
 use Rattle.papaya_call.specs.declared.chain.scanner.Scan.TheVariants.{Clear, Retain, Walk}
 use Rattle.papaya_call.specs.declared.chain.scanner.Scanner.{Scanner}
 use Rattle.papaya_call.specs.Scanner.{begun, begun_in}
-use Rattle.papaya_call_law.specs.ScanTold.{nothing_loaded}
+use Rattle.papaya_call_law.specs.ScanAnswers.{nothing_loaded}
 use Rattle.papaya_call_law.specs.Scans.{GivesNone, ReliesScanner, ReliesState}
 use Rattle.papaya_core_store.specs.declared.scans.Scanning.{Scanning}
 

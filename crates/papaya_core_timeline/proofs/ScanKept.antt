@@ -9,7 +9,7 @@ use Rattle.papaya_call.specs.declared.chain.ask.Answer.{Answer}
 use Rattle.papaya_call.specs.declared.chain.ask.Answer.TheVariants as answers
 use Rattle.papaya_call.specs.declared.chain.resizer.ResizerState.{ResizerState as Stage}
 use Rattle.papaya_call.specs.declared.chain.resizer.ResizerState.TheVariants as stages
-use Rattle.papaya_call_law.specs.ChainTold as copies
+use Rattle.papaya_call_law.specs.ChainAnswers as copies
 use Rattle.papaya_words_law.specs.Allows.{AllAllowed}
 use Rattle.papaya_words_law.specs.Class.{IsOn}
 use Rattle.papaya_words_law.specs.Code.{Coding, IsHashed}
@@ -20,7 +20,7 @@ use Rattle.papaya_words_law.specs.Meaning.{map_left}
 use Rattle.papaya_words_law.proofs.Grows.{map_of_carries}
 use Rattle.papaya_words_law.proofs.Moments.{allowed_append, allowed_first, allowed_rest, run-append}
 use Rattle.papaya_words_law.proofs.OneMap.{keeping}
-use Rattle.papaya_call_law.specs.Told.{word_of}
+use Rattle.papaya_call_law.specs.TrueAnswers.{word_of}
 use Rattle.papaya_core_store.specs.Pairs.{key_in, value_in}
 use Rattle.papaya_core_store.specs.Store.{KeepsPairs, StoreState, Stored, pair_of}
 use Rattle.papaya_core_store.specs.Tables.{word_at}
@@ -28,7 +28,7 @@ use Rattle.papaya_core_store.specs.declared.pairs.Pair.{Pair}
 use Rattle.papaya_core_timeline.specs.declared.seat.Seat.{Seat}
 use Rattle.papaya_core_timeline.specs.Callers.{with_work, working}
 use Rattle.papaya_core_timeline.specs.Core.{CoreState, IsCore, work_of}
-use Rattle.papaya_core_timeline.specs.Kept.{CallTrace, IsKept, IsLogged, IsMade, IsMadeFor, IsScanning, ScanTrace, WasShown, coding_of, low, setting_of, told_more}
+use Rattle.papaya_core_timeline.specs.Kept.{CallTrace, IsConsistent, IsInArena, IsMade, IsMadeFor, IsScanning, ScanTrace, WasShown, coding_of, low, setting_of, told_more}
 use Rattle.papaya_core_timeline.proofs.CopyAnswers.{left_logged}
 use Rattle.papaya_core_timeline.proofs.KeptAnswer.{Stands}
 use Rattle.papaya_core_timeline.proofs.KeptOthers as others
@@ -42,13 +42,13 @@ use Rattle.papaya_call_law.specs.Copier.{HasWords}
 use Rattle.papaya_core_store.specs.CopyAsks.{PerformsCopy}
 use Rattle.papaya_call.specs.declared.ask.Answer.TheVariants.{Made as Made_number}
 use Rattle.papaya_call.specs.declared.copy_ask.CopyAsk.TheVariants.{MakeTable}
-use Rattle.papaya_call_law.specs.ScanTold.{IsScanTold}
+use Rattle.papaya_call_law.specs.ScanAnswers.{IsTrueOfScan}
 use Rattle.papaya_call_law.specs.Scans.{IsOfAll, ReliesScanner, ReliesState, link_in_scan}
 use Rattle.papaya_call_law.proofs.ScanLearns.{state_gives, state_learns}
 use Rattle.papaya_call_law.proofs.ScanTables.{gives_carries, state_carries}
 use Rattle.papaya_core_store.specs.declared.scans.Scanning.{Scanning}
 use Rattle.papaya_core_store.specs.Scans.{PerformsScan}
-use Rattle.papaya_core_timeline.specs.Scans.{IsHeard, IsUnheard}
+use Rattle.papaya_core_timeline.specs.Scans.{IsScanAnswered, IsListRefused}
 use Rattle.papaya_core_timeline.proofs.CallersLemmas.{same_item}
 use Rattle.papaya_core_timeline.proofs.LinkWords.{scan_words}
 use Rattle.papaya_core_timeline.proofs.MadeTables.{copier_made}
@@ -70,7 +70,7 @@ no_work (seat ∷ seats) caller idle = seat_still seat seats caller (seat.caller
 module _ {K V S A : Type 0} (eq : K → K → Bool) (hash : K → ℕ) (law : IsLawfulKeys eq hash) (says : Says K V A) (hashes : S → K → ℕ) (refuse : Bool)
     (s : CoreState K V S A) (core : IsCore s.store s.callers s.mode) (hasher : hashes s.store.hasher ≡ hash) (caller : ℕ) (idle : work_of s caller ≡ None)
     (call_trace : ScanTrace K V) (call_traces : ℕ → CallTrace K V)
-    (kept : IsKept eq hash s.mode s.store s.callers (call_trace.begun ++ call_trace.since) call_traces) (v : Scanning A)
+    (kept : IsConsistent eq hash s.mode s.store s.callers (call_trace.begun ++ call_trace.since) call_traces) (v : Scanning A)
     (scanning : IsScanning eq hash s.mode s.store v (call_trace.begun ++ call_trace.since) call_trace)
     (ask : ScanAsk) (asks : ask_of v.scanner ≡ Some ask) (a : Answer) (store' : StoreState K V S) (v' : Scanning A)
     (performs : PerformsScan eq says hashes refuse ask s.store v a store' v') where
@@ -114,7 +114,7 @@ module _ {K V S A : Type 0} (eq : K → K → Bool) (hash : K → ℕ) (law : Is
       kept.hints v call_trace.loaded scanning.relies scanning.answers scanning.last scanning.carried scanning.given scanning.links v.scanner.state a store' v'
 
   -- what the answer leaves
-  left_so : IsUnheard s.store v a store' ⊎ HasLeft
+  left_so : IsListRefused s.store v a store' ⊎ HasLeft
   left_so = left_by.scan_left eq hash law says hashes refuse s core hasher call_trace.begun call_trace.since kept.allowed kept.coded kept.made
       kept.hints v call_trace.loaded scanning.relies scanning.answers scanning.last scanning.carried scanning.given scanning.links v.scanner.state refl
       scanning.relies.state ask asks a store' v' performs
@@ -127,8 +127,8 @@ module _ {K V S A : Type 0} (eq : K → K → Bool) (hash : K → ℕ) (law : Is
     of_store : (P : StoreState K V S → Type 0) → P (record l.words { count = store'.count }) → P store'
     of_store P h = subst P (sym l.store_is) h
 
-    told_first : IsScanTold g c (run call_trace.since first) call_trace.since v.scanner.state call_trace.loaded a made l.loaded'
-    told_first = subst (λ w. IsScanTold g c w call_trace.since v.scanner.state call_trace.loaded a made l.loaded') (sym same) l.left.told.0
+    told_first : IsTrueOfScan g c (run call_trace.since first) call_trace.since v.scanner.state call_trace.loaded a made l.loaded'
+    told_first = subst (λ w. IsTrueOfScan g c w call_trace.since v.scanner.state call_trace.loaded a made l.loaded') (sym same) l.left.told.0
 
     -- the table that it is about to link has its words
     words : HasWords g (link_in_scan v.scanner.state)
@@ -190,7 +190,7 @@ module _ {K V S A : Type 0} (eq : K → K → Bool) (hash : K → ℕ) (law : Is
         (subst (λ y. PerformsCopy eq hashes refuse y s.store a store') (same_item _ _ (sym at ∙ making)) h.0) n told
 
     -- the calls of all callers rely on what is told of them
-    kept_then : IsKept eq hash s.mode store' s.callers (es ++ made)
+    kept_then : IsConsistent eq hash s.mode store' s.callers (es ++ made)
         (others.call_traces' eq hash law s caller s' refl es call_traces core kept made (call_traces caller).loaded)
     kept_then = others.leaves_kept eq hash law s caller s' refl es call_traces core kept made (call_traces caller).loaded leaving None
         (sym (no_work s.callers caller idle)) (λ r e. absurd cc) (λ z e. absurd cc) (λ v e. absurd cc) (λ r e. absurd cc)
@@ -221,15 +221,15 @@ module _ {K V S A : Type 0} (eq : K → K → Bool) (hash : K → ℕ) (law : Is
     })
 
     -- a pair that it was told of is logged
-    last_logged : (p : Stored K V) → (call_trace.loaded.copy.call.last ≡ Some p) ⊎ Stands (run es start) p → IsLogged store' p
+    last_logged : (p : Stored K V) → (call_trace.loaded.copy.call.last ≡ Some p) ⊎ Stands (run es start) p → IsInArena store' p
     last_logged p (inl old) = logged p.number p (scanning.last p old)
     last_logged p (inr (t, x, names)) = logged p.number p (kept.logged t x p names)
 
-    carried_logged : (p : Stored K V) → (call_trace.loaded.copy.kept ≡ Some p) ⊎ (call_trace.loaded.copy.call.last ≡ Some p) → IsLogged store' p
+    carried_logged : (p : Stored K V) → (call_trace.loaded.copy.kept ≡ Some p) ⊎ (call_trace.loaded.copy.call.last ≡ Some p) → IsInArena store' p
     carried_logged p (inl old) = logged p.number p (scanning.carried p old)
     carried_logged p (inr told) = logged p.number p (scanning.last p told)
 
-    shown_logged : (p : Stored K V) → WasShown call_trace.loaded.shown p ⊎ (call_trace.loaded.copy.call.last ≡ Some p) → IsLogged store' p
+    shown_logged : (p : Stored K V) → WasShown call_trace.loaded.shown p ⊎ (call_trace.loaded.copy.call.last ≡ Some p) → IsInArena store' p
     shown_logged p (inl old) = logged p.number p (scanning.shown p old)
     shown_logged p (inr told) = logged p.number p (scanning.last p told)
 
@@ -256,7 +256,7 @@ module _ {K V S A : Type 0} (eq : K → K → Bool) (hash : K → ℕ) (law : Is
     others_stay u other scans = others.other_scanner eq hash law s caller s' refl es call_traces core kept made (call_traces caller).loaded leaving u
         other scans
 
-    heard : IsHeard eq hash s caller es call_traces v call_trace a store' v'
+    heard : IsScanAnswered eq hash s caller es call_traces v call_trace a store' v'
     heard = record {
       made = made;
       loaded = l.loaded';
@@ -274,5 +274,5 @@ module _ {K V S A : Type 0} (eq : K → K → Bool) (hash : K → ℕ) (law : Is
     }
 
   -- it was told nothing, or relies on what it was told, as all others do
-  pub scan_heard : IsUnheard s.store v a store' ⊎ IsHeard eq hash s caller es call_traces v call_trace a store' v'
-  scan_heard = ⊎_elim (λ (u : IsUnheard s.store v a store'). inl u) (λ (l : HasLeft). inr (heard l)) left_so
+  pub scan_heard : IsListRefused s.store v a store' ⊎ IsScanAnswered eq hash s caller es call_traces v call_trace a store' v'
+  scan_heard = ⊎_elim (λ (u : IsListRefused s.store v a store'). inl u) (λ (l : HasLeft). inr (heard l)) left_so

@@ -11,15 +11,15 @@ use Rattle.papaya_core_store.specs.Tables.{word_at}
 use Rattle.papaya_core_timeline.specs.declared.trace.Event.{Event}
 use Rattle.papaya_core_timeline.specs.Core.{CoreState, IsCore, work_of}
 use Rattle.papaya_core_timeline.specs.Ends.{budget_of}
-use Rattle.papaya_core_timeline.specs.Kept.{CallTrace, IsKept, IsScanning, ScanTrace, coding_of, low, setting_of}
+use Rattle.papaya_core_timeline.specs.Kept.{CallTrace, IsConsistent, IsScanning, ScanTrace, coding_of, low, setting_of}
 use Rattle.papaya_core_timeline.specs.Runs.{Steps}
 use Rattle.papaya_core_timeline.proofs.KeptSettings.{IsLawfulKeys}
 use Rattle.papaya_call.specs.declared.chain.ask.ScanAsk.{ScanAsk}
-use Rattle.papaya_call.specs.Scanner.{IsStandingScanner, after, ask_of, kind_of_ask, reply_of}
+use Rattle.papaya_call.specs.Scanner.{IsValidScanner, after, ask_of, kind_of_ask, reply_of}
 use Rattle.papaya_call_alone.specs.Scanners.{IsScannerRead, scanner_measure}
 use Rattle.papaya_core_store.specs.declared.scans.Scanning.{Scanning}
 use Rattle.papaya_core_store.specs.Scans.{PerformsScan}
-use Rattle.papaya_core_timeline.specs.Scans.{HasScannedIn, IsCountedBeside, IsHeard, IsUnheard, MovesByScan, MovesScan, StaysBeside}
+use Rattle.papaya_core_timeline.specs.Scans.{HasScannedIn, IsCountedBeside, IsScanAnswered, IsListRefused, MovesByScan, MovesScan, StaysBeside}
 use Rattle.papaya_core_timeline.specs.ScanGoes.{event_of_scan}
 use Rattle.papaya_core_timeline.proofs.ScanAlone as lone
 use Rattle.papaya_core_timeline.proofs.ScanKept.{scan_heard}
@@ -38,24 +38,24 @@ module _ {K V S A : Type 0} (eq : K → K → Bool) (hashes : S → K → ℕ) (
 
   -- what is so after these exchanges
   abbrev pub Heard : Answer → StoreState K V S → Scanning A → (caller : ℕ) → List (Exchange (Stored K V)) → Type 0
-  Heard a store' v' caller es = IsKept eq hash s.mode s.store s.callers es call_traces → IsScanning eq hash s.mode s.store v es call_trace
-      → IsUnheard s.store v a store' ⊎ IsHeard eq hash s caller es call_traces v call_trace a store' v'
+  Heard a store' v' caller es = IsConsistent eq hash s.mode s.store s.callers es call_traces → IsScanning eq hash s.mode s.store v es call_trace
+      → IsListRefused s.store v a store' ⊎ IsScanAnswered eq hash s caller es call_traces v call_trace a store' v'
 
-  pub heard : (caller : ℕ) → work_of s caller ≡ None → (es : List (Exchange (Stored K V))) → IsKept eq hash s.mode s.store s.callers es call_traces
+  pub heard : (caller : ℕ) → work_of s caller ≡ None → (es : List (Exchange (Stored K V))) → IsConsistent eq hash s.mode s.store s.callers es call_traces
       → IsScanning eq hash s.mode s.store v es call_trace → (ask : ScanAsk) → ask_of v.scanner ≡ Some ask
       → (a : Answer) (store' : StoreState K V S) (v' : Scanning A)
-      → PerformsScan eq says hashes refuse ask s.store v a store' v' → IsUnheard s.store v a store'
-      ⊎ IsHeard eq hash s caller es call_traces v call_trace a store' v'
+      → PerformsScan eq says hashes refuse ask s.store v a store' v' → IsListRefused s.store v a store'
+      ⊎ IsScanAnswered eq hash s caller es call_traces v call_trace a store' v'
   heard caller idle es kept scanning ask asks a store' v' performs =
       subst (Heard a store' v' caller) scanning.split
       (λ kept scanning. scan_heard eq hash law says hashes refuse s core refl caller idle call_trace call_traces kept v scanning ask asks a store' v' performs)
       kept scanning
 
   abbrev pub Stays : CoreState K V S A → List (Exchange (Stored K V)) → Type 0
-  Stays s' es = IsKept eq hash s.mode s.store s.callers es call_traces → IsScanning eq hash s.mode s.store v es call_trace
+  Stays s' es = IsConsistent eq hash s.mode s.store s.callers es call_traces → IsScanning eq hash s.mode s.store v es call_trace
       → StaysBeside eq hash s' es v call_trace
 
-  pub beside : (es : List (Exchange (Stored K V))) → IsKept eq hash s.mode s.store s.callers es call_traces
+  pub beside : (es : List (Exchange (Stored K V))) → IsConsistent eq hash s.mode s.store s.callers es call_traces
       → IsScanning eq hash s.mode s.store v es call_trace → (caller : ℕ) (s' : CoreState K V S A) (event : Event) (reply : Option Reply)
       → Steps eq says hashes refuse s caller s' event reply → StaysBeside eq hash s' es v call_trace
   beside es kept scanning caller s' event reply steps =
@@ -68,42 +68,42 @@ module _ {K V S A : Type 0} (eq : K → K → Bool) (hash : K → ℕ) (s : Core
     (store' : StoreState K V S) (v' : Scanning A) (core' : IsCore store' s.callers s.mode) where
   -- what a step does after these exchanges
   abbrev pub Moves : List (Exchange (Stored K V)) → Type 0
-  Moves es = IsKept eq hash s.mode s.store s.callers es call_traces → IsScanning eq hash s.mode s.store v es call_trace
-      → IsHeard eq hash s caller es call_traces v call_trace a store' v' → MovesScan eq s.store store' v.scanner.scan call_trace.loaded.shown
+  Moves es = IsConsistent eq hash s.mode s.store s.callers es call_traces → IsScanning eq hash s.mode s.store v es call_trace
+      → IsScanAnswered eq hash s caller es call_traces v call_trace a store' v' → MovesScan eq s.store store' v.scanner.scan call_trace.loaded.shown
 
-  pub moves : (es : List (Exchange (Stored K V))) → IsKept eq hash s.mode s.store s.callers es call_traces
-      → IsScanning eq hash s.mode s.store v es call_trace → IsHeard eq hash s caller es call_traces v call_trace a store' v'
+  pub moves : (es : List (Exchange (Stored K V))) → IsConsistent eq hash s.mode s.store s.callers es call_traces
+      → IsScanning eq hash s.mode s.store v es call_trace → IsScanAnswered eq hash s caller es call_traces v call_trace a store' v'
       → MovesScan eq s.store store' v.scanner.scan call_trace.loaded.shown
   moves es kept scanning heard = subst Moves scanning.split
       (λ kept scanning heard. moving.moves eq hash law s core caller call_trace call_traces kept v scanning a store' v' heard core') kept scanning heard
 
   -- and by its event
   abbrev pub Tells : ScanAsk → List (Exchange (Stored K V)) → Type 0
-  Tells ask es = IsKept eq hash s.mode s.store s.callers es call_traces → IsScanning eq hash s.mode s.store v es call_trace
-      → IsHeard eq hash s caller es call_traces v call_trace a store' v'
+  Tells ask es = IsConsistent eq hash s.mode s.store s.callers es call_traces → IsScanning eq hash s.mode s.store v es call_trace
+      → IsScanAnswered eq hash s caller es call_traces v call_trace a store' v'
       → MovesByScan eq s.store store' v.scanner.scan call_trace.loaded.shown (event_of_scan (kind_of_ask v.scanner) ask a)
 
-  pub tells : (es : List (Exchange (Stored K V))) → IsKept eq hash s.mode s.store s.callers es call_traces
-      → IsScanning eq hash s.mode s.store v es call_trace → IsHeard eq hash s caller es call_traces v call_trace a store' v' → (ask : ScanAsk)
+  pub tells : (es : List (Exchange (Stored K V))) → IsConsistent eq hash s.mode s.store s.callers es call_traces
+      → IsScanning eq hash s.mode s.store v es call_trace → IsScanAnswered eq hash s caller es call_traces v call_trace a store' v' → (ask : ScanAsk)
       → ask_of v.scanner ≡ Some ask → MovesByScan eq s.store store' v.scanner.scan call_trace.loaded.shown (event_of_scan (kind_of_ask v.scanner) ask a)
   tells es kept scanning heard ask asks = subst (Tells ask) scanning.split
       (λ kept scanning heard. moving.moves_as eq hash law s core caller call_trace call_traces kept v scanning a store' v' heard core' ask asks) kept
       scanning heard
 
   abbrev pub Counts : List (Exchange (Stored K V)) → Type 0
-  Counts es = IsKept eq hash s.mode s.store s.callers es call_traces → IsScanning eq hash s.mode s.store v es call_trace
-      → IsHeard eq hash s caller es call_traces v call_trace a store' v' → IsCountedBeside eq s.store s.callers v.scanner.state
+  Counts es = IsConsistent eq hash s.mode s.store s.callers es call_traces → IsScanning eq hash s.mode s.store v es call_trace
+      → IsScanAnswered eq hash s caller es call_traces v call_trace a store' v' → IsCountedBeside eq s.store s.callers v.scanner.state
       → IsCountedBeside eq store' s.callers (after v.scanner a).state
 
-  pub counted : (es : List (Exchange (Stored K V))) → IsKept eq hash s.mode s.store s.callers es call_traces
-      → IsScanning eq hash s.mode s.store v es call_trace → IsHeard eq hash s caller es call_traces v call_trace a store' v'
+  pub counted : (es : List (Exchange (Stored K V))) → IsConsistent eq hash s.mode s.store s.callers es call_traces
+      → IsScanning eq hash s.mode s.store v es call_trace → IsScanAnswered eq hash s caller es call_traces v call_trace a store' v'
       → IsCountedBeside eq s.store s.callers v.scanner.state → IsCountedBeside eq store' s.callers (after v.scanner a).state
   counted es kept scanning heard = subst Counts scanning.split
       (λ kept scanning heard. moving.counted eq hash law s core caller call_trace call_traces kept v scanning a store' v' heard core') kept scanning heard
 
 module _ {K V S A : Type 0} (eq : K → K → Bool) (hashes : S → K → ℕ) (says : Says K V A) (refuse : Bool) (s : CoreState K V S A)
     (law : IsLawfulKeys eq (hashes s.store.hasher)) (core : IsCore s.store s.callers s.mode) (call_traces : ℕ → CallTrace K V) (v : Scanning A)
-    (call_trace : ScanTrace K V) (stands : IsStandingScanner v.scanner) (read : IsScannerRead (word_at s.store.words) v.scanner)
+    (call_trace : ScanTrace K V) (stands : IsValidScanner v.scanner) (read : IsScannerRead (word_at s.store.words) v.scanner)
     (ask : ScanAsk) (asks : ask_of v.scanner ≡ Some ask) (a : Answer) (store' : StoreState K V S) (v' : Scanning A)
     (performs : PerformsScan eq says hashes refuse ask s.store v a store' v') (caller : ℕ) where
   -- what has come of a step, nearer the end
@@ -112,13 +112,13 @@ module _ {K V S A : Type 0} (eq : K → K → Bool) (hashes : S → K → ℕ) (
       × (scanner_measure (budget_of store') (word_at store'.words) (after v.scanner a) < scanner_measure (budget_of s.store) (word_at s.store.words) v.scanner)
 
   abbrev pub Nears : List (Exchange (Stored K V)) → Type 0
-  Nears es = IsKept eq (hashes s.store.hasher) s.mode s.store s.callers es call_traces
+  Nears es = IsConsistent eq (hashes s.store.hasher) s.mode s.store s.callers es call_traces
       → IsScanning eq (hashes s.store.hasher) s.mode s.store v es call_trace
-      → IsHeard eq (hashes s.store.hasher) s caller es call_traces v call_trace a store' v' → Nearer
+      → IsScanAnswered eq (hashes s.store.hasher) s caller es call_traces v call_trace a store' v' → Nearer
 
-  pub nears : (es : List (Exchange (Stored K V))) → IsKept eq (hashes s.store.hasher) s.mode s.store s.callers es call_traces
+  pub nears : (es : List (Exchange (Stored K V))) → IsConsistent eq (hashes s.store.hasher) s.mode s.store s.callers es call_traces
       → IsScanning eq (hashes s.store.hasher) s.mode s.store v es call_trace
-      → IsHeard eq (hashes s.store.hasher) s caller es call_traces v call_trace a store' v' → Nearer
+      → IsScanAnswered eq (hashes s.store.hasher) s caller es call_traces v call_trace a store' v' → Nearer
   nears es kept scanning heard =
       let after_it = scan_core eq says hashes refuse s.store s.callers s.mode core v stands a store' v' ask asks performs in
       subst Nears scanning.split

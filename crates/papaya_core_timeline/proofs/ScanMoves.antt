@@ -26,7 +26,7 @@ use Rattle.papaya_core_store.specs.Store.{StoreState, Stored, pair_of}
 use Rattle.papaya_core_timeline.specs.Content.{content, map_in}
 use Rattle.papaya_core_timeline.specs.Core.{CoreState, IsCore}
 use Rattle.papaya_core_timeline.specs.Counted.{owed_in, owed_scan}
-use Rattle.papaya_core_timeline.specs.Kept.{CallTrace, IsKept, IsLogged, IsScanning, ScanTrace, WasShown, coding_of, low, setting_of, told_call_traces}
+use Rattle.papaya_core_timeline.specs.Kept.{CallTrace, IsConsistent, IsInArena, IsScanning, ScanTrace, WasShown, coding_of, low, setting_of, told_call_traces}
 use Rattle.papaya_core_timeline.specs.Maps.{IsUpdate, Same}
 use Rattle.papaya_core_timeline.proofs.CountedContent.{content_apart, content_few}
 use Rattle.papaya_core_timeline.proofs.CountedLemmas.{length_fits}
@@ -39,11 +39,11 @@ use Rattle.papaya_call.specs.declared.chain.scanner.Scan.{Scan}
 use Rattle.papaya_call.specs.declared.chain.scanner.Scan.TheVariants.{Clear, Retain, Walk}
 use Rattle.papaya_call.specs.Scanner.{after, after_in, ask_of, asks_in, copy_asks, buries, kind_in, kind_of_ask}
 use Rattle.papaya_call_law.specs.ScanOutcomes.{HasDone, LeavesMap, owes_in}
-use Rattle.papaya_call_law.specs.ScanTold.{IsBuried, IsFoundThere, IsLastAnswer, IsScanTold}
+use Rattle.papaya_call_law.specs.ScanAnswers.{IsBuried, IsFoundThere, IsLastAnswer, IsTrueOfScan}
 use Rattle.papaya_call_law.specs.Scans.{MayTake, ReliesState}
 use Rattle.papaya_call_law.proofs.ScanOutcomes.{asked, copied_owes, state_done}
 use Rattle.papaya_core_store.specs.declared.scans.Scanning.{Scanning}
-use Rattle.papaya_core_timeline.specs.Scans.{IsCountedBeside, IsHeard, MovesByScan, MovesScan}
+use Rattle.papaya_core_timeline.specs.Scans.{IsCountedBeside, IsScanAnswered, MovesByScan, MovesScan}
 use Rattle.papaya_call.specs.declared.ask.Answer.{Answer as Call_answer}
 use Rattle.papaya_call.specs.declared.ask.StepKind.{StepKind}
 use Rattle.papaya_call.specs.declared.ask.StepKind.TheVariants.{Bury as Kind_bury}
@@ -112,10 +112,10 @@ owed_by (Refused refused) false e = refl
 module _ {K V S A : Type 0} (eq : K → K → Bool) (hash : K → ℕ) (law : IsLawfulKeys eq hash) (s : CoreState K V S A)
     (core : IsCore s.store s.callers s.mode) (caller : ℕ)
     (call_trace : ScanTrace K V) (call_traces : ℕ → CallTrace K V)
-    (kept : IsKept eq hash s.mode s.store s.callers (call_trace.begun ++ call_trace.since) call_traces) (v : Scanning A)
+    (kept : IsConsistent eq hash s.mode s.store s.callers (call_trace.begun ++ call_trace.since) call_traces) (v : Scanning A)
     (scanning : IsScanning eq hash s.mode s.store v (call_trace.begun ++ call_trace.since) call_trace)
     (a : Answer) (store' : StoreState K V S) (v' : Scanning A)
-    (heard : IsHeard eq hash s caller (call_trace.begun ++ call_trace.since) call_traces v call_trace a store' v')
+    (heard : IsScanAnswered eq hash s caller (call_trace.begun ++ call_trace.since) call_traces v call_trace a store' v')
     (core' : IsCore store' s.callers s.mode) where
   -- the exchanges, the setting before and after, the coding and the words
   abbrev es : List (Exchange (Stored K V))
@@ -148,8 +148,8 @@ module _ {K V S A : Type 0} (eq : K → K → Bool) (hash : K → ℕ) (law : Is
   same : run call_trace.since first ≡ now
   same = sym (run-append call_trace.begun call_trace.since start)
 
-  told : IsScanTold g c (run call_trace.since first) call_trace.since v.scanner.state call_trace.loaded a heard.made heard.loaded
-  told = subst (λ w. IsScanTold g c w call_trace.since v.scanner.state call_trace.loaded a heard.made heard.loaded) (sym same) heard.told
+  told : IsTrueOfScan g c (run call_trace.since first) call_trace.since v.scanner.state call_trace.loaded a heard.made heard.loaded
+  told = subst (λ w. IsTrueOfScan g c w call_trace.since v.scanner.state call_trace.loaded a heard.made heard.loaded) (sym same) heard.told
 
   done : HasDone g v.scanner a heard.made
   done = state_done g c first m call_trace.since v.scanner call_trace.loaded a heard.made heard.loaded v.scanner.state scanning.relies.state told
@@ -182,7 +182,7 @@ module _ {K V S A : Type 0} (eq : K → K → Bool) (hash : K → ℕ) (law : Is
   }
 
   -- two pairs of the log under one number are one
-  one_pair : (p q : Stored K V) → IsLogged s.store p → IsLogged s.store q → p.number ≡ q.number → p ≡ q
+  one_pair : (p q : Stored K V) → IsInArena s.store p → IsInArena s.store q → p.number ≡ q.number → p ≡ q
   one_pair p q is_p is_q number = let both : Some p ≡ Some q = sym is_p ∙ ap (pair_of s.store) number ∙ is_q in cc
 
   -- a retain deletes what its closure answered no to
@@ -202,7 +202,7 @@ module _ {K V S A : Type 0} (eq : K → K → Bool) (hash : K → ℕ) (law : Is
 
   said_no : (t x : ℕ) (p : Stored K V) → heard.made ≡ Bury t x p ∷ [] → (state : ScannerState)
       → ReliesState g c first m call_trace.since v.scanner.scan call_trace.loaded state
-      → IsScanTold g c (run call_trace.since first) call_trace.since state call_trace.loaded a heard.made heard.loaded → owes_in (Goes state) ≡ true
+      → IsTrueOfScan g c (run call_trace.since first) call_trace.since state call_trace.loaded a heard.made heard.loaded → owes_in (Goes state) ≡ true
       → v.scanner.scan ≡ Retain → IsLastAnswer call_trace.loaded.shown p false
   said_no t x p one (Copying stage) r h owes is = let no : false ≡ true = sym
       (copied_owes stage (resizers.after_in CopyAll v.scanner.mode v.scanner.initial v.scanner.number a stage)) ∙ owes in absurd cc
@@ -266,7 +266,7 @@ module _ {K V S A : Type 0} (eq : K → K → Bool) (hash : K → ℕ) (law : Is
       done
 
   state_moves : (state : ScannerState) → v.scanner.state ≡ state → ReliesState g c first m call_trace.since v.scanner.scan call_trace.loaded state
-      → IsScanTold g c (run call_trace.since first) call_trace.since state call_trace.loaded a heard.made heard.loaded → (ask : ScanAsk)
+      → IsTrueOfScan g c (run call_trace.since first) call_trace.since state call_trace.loaded a heard.made heard.loaded → (ask : ScanAsk)
       → asks_in state ≡ Some ask → ByEvent (event_of_scan (kind_in state) ask a)
   state_moves (Copying stage) is r h ask e =
       let stays = copied_stays stage is in

@@ -8,7 +8,7 @@ use Rattle.papaya_core_store.specs.Store.{Stored}
 use Rattle.papaya_core_timeline.specs.declared.trace.Event.{Event}
 use Rattle.papaya_core_timeline.specs.Advances.{Advances, goes_on}
 use Rattle.papaya_core_timeline.specs.Core.{CoreState, IsCore}
-use Rattle.papaya_core_timeline.specs.Kept.{CallTrace, IsKept, IsScanning, ScanTrace, told_more}
+use Rattle.papaya_core_timeline.specs.Kept.{CallTrace, IsConsistent, IsScanning, ScanTrace, told_more}
 use Rattle.papaya_core_timeline.specs.Resizes.{Resizes}
 use Rattle.papaya_core_timeline.specs.Runs.{Steps}
 use Rattle.papaya_core_timeline.specs.ScanGoes.{Scans}
@@ -29,7 +29,7 @@ module _ {K V S A : Type 0} (eq : K → K → Bool) (hash : K → ℕ) (law : Is
     (s : CoreState K V S A) (caller : ℕ) (s' : CoreState K V S A) (event : Event) (reply : Option Reply) (hasher : hashes s.store.hasher ≡ hash)
     (core : IsCore s.store s.callers s.mode)
     (call_trace : ScanTrace K V) (call_traces : ℕ → CallTrace K V)
-    (kept : IsKept eq hash s.mode s.store s.callers (call_trace.begun ++ call_trace.since) call_traces) (v : Scanning A)
+    (kept : IsConsistent eq hash s.mode s.store s.callers (call_trace.begun ++ call_trace.since) call_traces) (v : Scanning A)
     (scanning : IsScanning eq hash s.mode s.store v (call_trace.begun ++ call_trace.since) call_trace) where
   abbrev all : List (Exchange (Stored K V))
   all = call_trace.begun ++ call_trace.since
@@ -69,7 +69,7 @@ module _ {K V S A : Type 0} (eq : K → K → Bool) (hash : K → ℕ) (law : Is
       record {
         made = [];
         call_traces = call_traces;
-        kept = subst (λ l. IsKept eq hash s'.mode s'.store s'.callers l call_traces) (sym (append-nil all))
+        kept = subst (λ l. IsConsistent eq hash s'.mode s'.store s'.callers l call_traces) (sym (append-nil all))
             (scanned.unheard_kept eq hash law says hashes refuse s caller s' event reply x hasher all call_traces core kept u);
         scanning = told_nothing (subst (λ y. IsScanning eq hash y s'.store v all call_trace) (sym x.mode)
             (subst (λ y. IsScanning eq hash s.mode y v all call_trace) (sym u.same) scanning));

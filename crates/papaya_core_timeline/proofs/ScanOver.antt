@@ -8,7 +8,7 @@ use Rattle.papaya_call.specs.declared.chain.scanner.ScannerState.{ScannerState}
 use Rattle.papaya_call.specs.declared.chain.scanner.ScannerState.TheVariants.{Copying, AtRoot, Sizing, Looking, Giving, Showing, Burying, Uncounting, Done, Refused}
 use Rattle.papaya_call.specs.declared.chain.scanner.Scan.{Scan}
 use Rattle.papaya_call.specs.Scanner.{asks_in, reply_in}
-use Rattle.papaya_call_law.specs.ScanTold.{LoadedPairs}
+use Rattle.papaya_call_law.specs.ScanAnswers.{LoadedPairs}
 use Rattle.papaya_call_law.specs.Scans.{HasScanned, ReliesState}
 
 module _ {K P : Type 0} (g : Setting K P) (c : Coding K P) (s : Words P) (m : K → Option P) (since : List (Exchange P)) (scan : Scan)

@@ -32,7 +32,7 @@ use Rattle.papaya_call.specs.declared.chain.scanner.ScannerState.TheVariants.{Co
 use Rattle.papaya_call.specs.declared.chain.scanner.Scan.{Scan}
 use Rattle.papaya_call.specs.declared.chain.scanner.Scan.TheVariants.{Clear, Retain, Walk}
 use Rattle.papaya_call.specs.declared.chain.scanner.Scanner.{Scanner}
-use Rattle.papaya_call.specs.Scanner.{IsStandingIn, IsStandingScanner, IsStandingSpot, after}
+use Rattle.papaya_call.specs.Scanner.{IsValidIn, IsValidScanner, IsValidSpot, after}
 use Rattle.papaya_call.specs.Scanner.{after_in, ask_of, asks_in, at_root, copied, copy_asks}
 use Rattle.papaya_call.specs.Scanner.{buries, found_by, looks, meets, next, resizer_of, scanned}
 use Rattle.papaya_call.specs.Scanner.{shown, told}
@@ -41,20 +41,20 @@ use Rattle.papaya_core_store.specs.Scans.{PerformsScan}
 use Rattle.papaya_core_store.specs.declared.store.Mode.{Mode}
 
 -- a slot that is looked at is one of its table
-looks_stands : (spot : Spot) → IsStandingIn (looks spot)
-looks_stands spot = cond_both (nat_lt spot.slot spot.len) (Looking spot) Done IsStandingIn (λ within. leb-true _ _ within) (λ _. tt)
+looks_stands : (spot : Spot) → IsValidIn (looks spot)
+looks_stands spot = cond_both (nat_lt spot.slot spot.len) (Looking spot) Done IsValidIn (λ within. leb-true _ _ within) (λ _. tt)
 
-next_stands : (spot : Spot) → IsStandingIn (next spot)
+next_stands : (spot : Spot) → IsValidIn (next spot)
 next_stands spot = looks_stands (record spot { slot = spot.slot + 1 })
 
-root_stands : (root : ℕ) → IsStandingIn (at_root root)
-root_stands root = cond_both (root == 0) Done (Sizing root) IsStandingIn (λ _. tt) (λ _. tt)
+root_stands : (root : ℕ) → IsValidIn (at_root root)
+root_stands root = cond_both (root == 0) Done (Sizing root) IsValidIn (λ _. tt) (λ _. tt)
 
-shown_stands : (spot : Spot) (word : ℕ) (stays : Bool) → IsStandingSpot spot → IsStandingIn (shown spot word stays)
+shown_stands : (spot : Spot) (word : ℕ) (stays : Bool) → IsValidSpot spot → IsValidIn (shown spot word stays)
 shown_stands spot word true stands = next_stands spot
 shown_stands spot word false stands = stands
 
-meets_stands : (scan : Scan) (spot : Spot) (word : ℕ) (kind : Kind) → IsStandingSpot spot → IsStandingIn (meets scan spot word kind)
+meets_stands : (scan : Scan) (spot : Spot) (word : ℕ) (kind : Kind) → IsValidSpot spot → IsValidIn (meets scan spot word kind)
 meets_stands Clear spot word kinds.Live stands = stands
 meets_stands Retain spot word kinds.Live stands = stands
 meets_stands Walk spot word kinds.Live stands = stands
@@ -67,7 +67,7 @@ meets_stands Retain spot word kinds.Copied stands = tt
 meets_stands scan spot word kind stands = next_stands spot
 
 -- whatever is told while nothing is copied
-told_stands : (scan : Scan) (state : ScannerState) (answer : Call_answer) → IsStandingIn state → IsStandingIn (told scan state answer)
+told_stands : (scan : Scan) (state : ScannerState) (answer : Call_answer) → IsValidIn state → IsValidIn (told scan state answer)
 told_stands scan AtRoot (Word root) stands = root_stands root
 told_stands scan (Sizing table) (Size slots limit) stands = looks_stands (record { table = table; len = slots; slot = 0 })
 told_stands scan (Looking spot) (Word word) stands = meets_stands scan spot word (kind_of word) stands
@@ -78,13 +78,13 @@ told_stands scan (Burying spot word) (Found other) stands = meets_stands scan sp
 told_stands scan (Uncounting spot) Ok stands = next_stands spot
 told_stands scan state answer stands = stands
 
-scanned_stands : (scan : Scan) (state : ScannerState) (answer : Answer) → IsStandingIn state → IsStandingIn (scanned scan state answer)
+scanned_stands : (scan : Scan) (state : ScannerState) (answer : Answer) → IsValidIn state → IsValidIn (scanned scan state answer)
 scanned_stands scan state (answers.Call answer) stands = told_stands scan state answer stands
 scanned_stands scan state (answers.Hash hash) stands = stands
 scanned_stands scan state (answers.Count count) stands = stands
 
 -- and where the copy of all leads
-copied_stands : (from to : Stage) → resizers.IsStandingIn to → IsStandingIn (copied from to)
+copied_stands : (from to : Stage) → resizers.IsValidIn to → IsValidIn (copied from to)
 copied_stands from stages.Done stands = root_stands (found_by from)
 copied_stands from (stages.Refused refused) stands = tt
 copied_stands from stages.AtRoot stands = stands
@@ -96,8 +96,8 @@ copied_stands from (stages.Looking root len room) stands = stands
 copied_stands from (stages.Linking link) stands = stands
 copied_stands from (stages.Copying root copying) stands = stands
 
-module _ (scanner : Scanner) (stands : IsStandingScanner scanner) (answer : Answer) (fit : IsFit answer) where
-  state_stands : (state : ScannerState) → IsStandingIn state → IsStandingIn (after_in scanner.scan scanner.mode scanner.initial scanner.number answer state)
+module _ (scanner : Scanner) (stands : IsValidScanner scanner) (answer : Answer) (fit : IsFit answer) where
+  state_stands : (state : ScannerState) → IsValidIn state → IsValidIn (after_in scanner.scan scanner.mode scanner.initial scanner.number answer state)
   state_stands (Copying stage) h = copied_stands stage (resizers.after_in CopyAll scanner.mode scanner.initial scanner.number answer stage)
       (resizer_stands (resizer_of scanner stage) answer (record { chunked = stands.chunked; initial = stands.initial; state = h }) fit).state
   state_stands AtRoot h = scanned_stands scanner.scan AtRoot answer h
@@ -111,18 +111,18 @@ module _ (scanner : Scanner) (stands : IsStandingScanner scanner) (answer : Answ
   state_stands (Refused refused) h = scanned_stands scanner.scan (Refused refused) answer h
 
   -- it stands after an answer
-  pub scanner_stands : IsStandingScanner (after scanner answer)
+  pub scanner_stands : IsValidScanner (after scanner answer)
   scanner_stands = record { chunked = stands.chunked; initial = stands.initial; state = state_stands scanner.state stands.state }
 
-module _ (scanner : Scanner) (stands : IsStandingScanner scanner) where
-  copy_fits : (stage : Stage) → resizers.IsStandingIn stage → (o : Option CopyAsk) → resizers.asks_in stage ≡ o → (ask : CopyAsk)
+module _ (scanner : Scanner) (stands : IsValidScanner scanner) where
+  copy_fits : (stage : Stage) → resizers.IsValidIn stage → (o : Option CopyAsk) → resizers.asks_in stage ≡ o → (ask : CopyAsk)
       → copy_asks o ≡ Some (Copy ask) → IsFitCopyAsk ask
   copy_fits stage h None is ask e = absurd cc
   copy_fits stage h (Some a) is ask e =
       let one : a ≡ ask = cc e in
       subst IsFitCopyAsk one (resizer_fits (resizer_of scanner stage) (record { chunked = stands.chunked; initial = stands.initial; state = h }) a is)
 
-  fits_in : (state : ScannerState) → IsStandingIn state → (ask : CopyAsk) → asks_in state ≡ Some (Copy ask) → IsFitCopyAsk ask
+  fits_in : (state : ScannerState) → IsValidIn state → (ask : CopyAsk) → asks_in state ≡ Some (Copy ask) → IsFitCopyAsk ask
   fits_in (Copying stage) h ask e = copy_fits stage h (resizers.asks_in stage) refl ask e
   fits_in AtRoot h ask e = let one : Load words_at.Root ≡ ask = cc e in subst IsFitCopyAsk one tt
   fits_in (Sizing table) h ask e = let one : SizeOf table ≡ ask = cc e in subst IsFitCopyAsk one tt
@@ -139,7 +139,7 @@ module _ (scanner : Scanner) (stands : IsStandingScanner scanner) where
   scanner_fits ask e = fits_in scanner.state stands.state ask e
 
 module _ {K V S A : Type 0} (eq : K → K → Bool) (says : Says K V A) (hash : S → K → ℕ) (refuse : Bool) (store : StoreState K V S)
-    (callers : List (Seat K V A)) (mode : Mode) (core : IsCore store callers mode) (v : Scanning A) (stands : IsStandingScanner v.scanner)
+    (callers : List (Seat K V A)) (mode : Mode) (core : IsCore store callers mode) (v : Scanning A) (stands : IsValidScanner v.scanner)
     (a : Answer) (store' : StoreState K V S) (v' : Scanning A) where
   all_sized : AllSized store.words.tables
   all_sized = unnumbered store.words.tables core.sizes
@@ -162,14 +162,14 @@ module _ {K V S A : Type 0} (eq : K → K → Bool) (says : Says K V A) (hash : 
 
   -- so the core stays in order, and the scanner within its table
   pub scan_core : (ask : ScanAsk) → ask_of v.scanner ≡ Some ask → PerformsScan eq says hash refuse ask store v a store' v'
-      → IsCore store' callers mode × IsFit a × IsStandingScanner (after v.scanner a)
+      → IsCore store' callers mode × IsFit a × IsValidScanner (after v.scanner a)
   scan_core ask asks performs =
       let kept = kept_asked ask asks performs in (
         record {
           chunked = core.chunked;
           limit = core.limit;
           sizes = numbered store'.words.tables kept.sized;
-          standing = core.standing;
+          valid = core.valid;
           going = core.going;
           resizers = core.resizers;
           scanners = core.scanners;

@@ -13,10 +13,10 @@ use Rattle.papaya_words_law.specs.Code.{Coding, IsHashed}
 use Rattle.papaya_words_law.specs.Exchange.{Exchange, Setting, State, run, start}
 use Rattle.papaya_call.specs.declared.chain.ask.Ask.TheVariants as asks
 use Rattle.papaya_call.specs.ChainMachine.{after, ask_of, follows_of, kind_of_ask}
-use Rattle.papaya_call_law.specs.ChainTold.{IsTold}
+use Rattle.papaya_call_law.specs.ChainAnswers.{IsTrueOf}
 use Rattle.papaya_call_law.proofs.Names.{call_asks}
 use Rattle.papaya_call_law.proofs.Order.{in_order}
-use Rattle.papaya_call_law.specs.Told.{word_of}
+use Rattle.papaya_call_law.specs.TrueAnswers.{word_of}
 use Rattle.papaya_call_alone.specs.Ahead.{IsCurrent}
 use Rattle.papaya_call_alone.specs.Budget.{Spends}
 use Rattle.papaya_call_alone.specs.Prompt.{IsBounded, IsServedAsk}
@@ -48,7 +48,7 @@ use Rattle.papaya_call_alone.specs.Scanners.{IsScannerRead}
 use Rattle.papaya_core_store.specs.declared.scans.Scanning.{Scanning}
 use Rattle.papaya_core_timeline.specs.Core.{CoreState, IsCore}
 use Rattle.papaya_core_timeline.specs.Ends.{HasValue, IsLone, IsMaker, IsNearer, IsToPair, budget_of, lone_measure}
-use Rattle.papaya_core_timeline.specs.Kept.{CallTrace, IsCall, IsKept, IsLawfulCore, coding_of, low, setting_of, told_call_traces}
+use Rattle.papaya_core_timeline.specs.Kept.{CallTrace, IsCall, IsConsistent, IsLawfulCore, coding_of, low, setting_of, told_call_traces}
 use Rattle.papaya_core_timeline.proofs.BudgetSpends.{budget_bounded, kept_bounded, performs_spends}
 use Rattle.papaya_core_timeline.proofs.CallersLemmas.{same_item}
 use Rattle.papaya_core_timeline.proofs.HeadlineLemmas.{advance-core}
@@ -111,7 +111,7 @@ module _ {K V S A : Type 0} (eq : K → K → Bool) (hash : S → K → ℕ) (s 
       in_order' = record {
         core = f.core;
         law = subst (λ y. (es : _)
-            × ((call_traces : _) × IsKept eq (hash y) s'.mode s'.store s'.callers es call_traces)) (sym f.hasher_is) (f.es, (f.call_traces, f.kept));
+            × ((call_traces : _) × IsConsistent eq (hash y) s'.mode s'.store s'.callers es call_traces)) (sym f.hasher_is) (f.es, (f.call_traces, f.kept));
       }
 
       scan_read : (mode : ResizeMode) (scan : Scan) → IsScannerRead (word_at s'.store.words) (begun scan mode s.initial x.number)
@@ -150,7 +150,7 @@ module _ {K V S A : Type 0} (eq : K → K → Bool) (hash : S → K → ℕ) (s 
 
   module _ (says : Says K V A) (refuse : Bool) (s' : CoreState K V S A) (event : Event) (x : Advances eq says hash refuse s 0 s' event None)
       (core : IsCore s.store s.callers s.mode) (es : List (Exchange (Stored K V))) (call_traces : ℕ → CallTrace K V)
-      (kept : IsKept eq (hash s.store.hasher) s.mode s.store s.callers es call_traces)
+      (kept : IsConsistent eq (hash s.store.hasher) s.mode s.store s.callers es call_traces)
       (alone : s.callers ≡ one_seat (Some (works.Call x.before))) (maker : IsMaker x.before)
       (current : IsCurrent (word_at s.store.words) x.before.machine) where
     -- the setting and the coding
@@ -195,9 +195,9 @@ module _ {K V S A : Type 0} (eq : K → K → Bool) (hash : S → K → ℕ) (s 
     words'_are = fun_ext (λ at. ap (λ l. word_of g c (run l start) at) step.own.split ∙ step.kept.coded at)
 
     -- the answer is told of them
-    told : IsTold g c call.key then (kind_of_ask x.before.machine) (follows_of x.before.machine) call_trace.loaded (ask_of x.before.machine) x.answer
+    told : IsTrueOf g c call.key then (kind_of_ask x.before.machine) (follows_of x.before.machine) call_trace.loaded (ask_of x.before.machine) x.answer
         step.made step.loaded
-    told = subst (λ l. IsTold g c call.key (run l start) (kind_of_ask x.before.machine) (follows_of x.before.machine) call_trace.loaded
+    told = subst (λ l. IsTrueOf g c call.key (run l start) (kind_of_ask x.before.machine) (follows_of x.before.machine) call_trace.loaded
         (ask_of x.before.machine) x.answer step.made step.loaded) (sym call.split) step.told
 
     hashed : IsHashed g c
@@ -226,7 +226,7 @@ module _ {K V S A : Type 0} (eq : K → K → Bool) (hash : S → K → ℕ) (s 
 
     -- what is asked is served
     served : IsServedAsk x.before.machine.call.task (ask_of x.before.machine) x.answer
-    served = ask_served eq says hash refuse s.store x.before x.answer s'.store x.later x.performs (core.standing 0 x.before x.was).call.state maker
+    served = ask_served eq says hash refuse s.store x.before x.answer s'.store x.later x.performs (core.valid 0 x.before x.was).call.state maker
         call.answers shows as_loaded (core.going 0 x.before x.was)
 
     -- the table that it is about to link has its words
@@ -255,7 +255,7 @@ module _ {K V S A : Type 0} (eq : K → K → Bool) (hash : S → K → ℕ) (s 
         (subst (λ n. measure (budget_of s'.store) then'.root (after x.before.machine x.answer) < measure (budget_of s.store) n x.before.machine)
         (ap (λ f. f Root) words_are)
         (call_nears g c hashed call_trace.begun call_trace.since may bounded call.key x.before.machine call_trace.loaded call.relies words read
-        x.answer step.made step.loaded told served (budget_of s.store) (budget_of s'.store) spends few (core'.standing 0 later runs)))
+        x.answer step.made step.loaded told served (budget_of s.store) (budget_of s'.store) spends few (core'.valid 0 later runs)))
 
     -- the call is alone still, and nearer its end
     pub nearer_from : IsNearer eq hash s x.before s'
@@ -265,11 +265,11 @@ module _ {K V S A : Type 0} (eq : K → K → Bool) (hash : S → K → ℕ) (s 
         callers = still_alone;
         lawful = record {
           core = core';
-          law = subst (λ y. (es : _) × ((call_traces : _) × IsKept eq (hash y) s'.mode s'.store s'.callers es call_traces))
+          law = subst (λ y. (es : _) × ((call_traces : _) × IsConsistent eq (hash y) s'.mode s'.store s'.callers es call_traces))
               (sym (performs-hasher eq says hash refuse (ask_of x.before.machine) s.store x.before x.answer s'.store x.later x.performs))
               (es ++ step.made, (told_call_traces call_traces 0 step.made step.loaded, step.kept));
         };
-        maker = next_maker eq says hash refuse s.store x.before x.answer s'.store x.later x.performs (core.standing 0 x.before x.was).call.state maker
+        maker = next_maker eq says hash refuse s.store x.before x.answer s'.store x.later x.performs (core.valid 0 x.before x.was).call.state maker
             (in_order g c call_trace.begun call_trace.since call.key x.before.machine call_trace.loaded then x.answer step.made step.loaded call.relies told);
         current = subst (λ words. IsCurrent words (after x.before.machine x.answer)) words'_are
             (call_current g c hashed call_trace.begun call_trace.since may bounded call.key x.before.machine call_trace.loaded call.relies words read

@@ -16,17 +16,17 @@ use Rattle.papaya_call.specs.declared.chain.resizer.Resize.TheVariants as resize
 use Rattle.papaya_call.specs.declared.chain.resizer.Resizer.{Resizer}
 use Rattle.papaya_call.specs.declared.chain.resizer.ResizerState.{ResizerState as Stage}
 use Rattle.papaya_call.specs.declared.chain.resizer.ResizerState.TheVariants as stages
-use Rattle.papaya_call.specs.Resizer.{IsStandingIn, after, after_in, asks_in, kind_in}
+use Rattle.papaya_call.specs.Resizer.{IsValidIn, after, after_in, asks_in, kind_in}
 use Rattle.papaya_call.specs.TableSize.{entries_of}
-use Rattle.papaya_call_law.specs.Resizers.{IsStageAsked, IsStageTold, ReliesStage, link_of}
-use Rattle.papaya_call_law.specs.ChainTold.{LoadedPairs}
+use Rattle.papaya_call_law.specs.Resizers.{IsStageAsked, IsTrueOfStage, ReliesStage, link_of}
+use Rattle.papaya_call_law.specs.ChainAnswers.{LoadedPairs}
 use Rattle.papaya_words_law.specs.Code.{Coding, IsHashed}
 use Rattle.papaya_words_law.specs.Exchange.{Exchange, Setting, State, run, start}
 use Rattle.papaya_words_law.specs.Invariant.{IsKeeping}
 use Rattle.papaya_words_law.specs.Meaning.{map_left}
 use Rattle.papaya_words_law.proofs.Moments.{run-append}
 use Rattle.papaya_words_law.proofs.OneMap.{keeping}
-use Rattle.papaya_call_law.specs.Told.{word_of}
+use Rattle.papaya_call_law.specs.TrueAnswers.{word_of}
 use Rattle.papaya_call_alone.specs.Budget.{SpendsCopy}
 use Rattle.papaya_call_alone.specs.Prompt.{IsBounded}
 use Rattle.papaya_call_alone.specs.Resizers.{HasResized, IsResizerRead, IsWhole, left_of_stage, resizer_measure}
@@ -43,7 +43,7 @@ use Rattle.papaya_core_timeline.specs.declared.trace.Event.{Event}
 use Rattle.papaya_core_timeline.specs.Callers.{resizing, with_work}
 use Rattle.papaya_core_timeline.specs.Core.{CoreState, IsCore}
 use Rattle.papaya_core_timeline.specs.Ends.{budget_of}
-use Rattle.papaya_core_timeline.specs.Kept.{CallTrace, IsKept, IsLawfulCore, IsResizing, coding_of, low, setting_of, slots_in}
+use Rattle.papaya_core_timeline.specs.Kept.{CallTrace, IsConsistent, IsLawfulCore, IsResizing, coding_of, low, setting_of, slots_in}
 use Rattle.papaya_core_timeline.specs.Resized.{IsLoneResizer, IsNearerResized, IsResized, lone_resizer_measure}
 use Rattle.papaya_core_timeline.specs.Resizes.{Resizes}
 use Rattle.papaya_core_timeline.proofs.BudgetSpends.{IsSpentAt, budget_bounded, made_low, copied_spends, copy_spent, kept_bounded, write_spends}
@@ -80,7 +80,7 @@ counts eq hash refuse (copies.MakeTable slots limit chunks) s a s' (told, is, h)
 module _ {K V S A : Type 0} (eq : K → K → Bool) (hash : S → K → ℕ) (refuse : Bool) (s : CoreState K V S A)
     (law : IsLawfulKeys eq (hash s.store.hasher)) (s' : CoreState K V S A) (event : Event) (reply : Option Reply)
     (x : Resizes eq hash refuse s 0 s' event reply) (core : IsCore s.store s.callers s.mode) (es : List (Exchange (Stored K V)))
-    (call_traces : ℕ → CallTrace K V) (kept : IsKept eq (hash s.store.hasher) s.mode s.store s.callers es call_traces)
+    (call_traces : ℕ → CallTrace K V) (kept : IsConsistent eq (hash s.store.hasher) s.mode s.store s.callers es call_traces)
     (read : IsResizerRead (word_at s.store.words) x.before) where
   -- the setting, the coding and the words
   abbrev g : Setting K (Stored K V)
@@ -120,7 +120,7 @@ module _ {K V S A : Type 0} (eq : K → K → Bool) (hash : S → K → ℕ) (re
   abbrev loaded' : LoadedPairs (Stored K V)
   loaded' = (resized.left eq (hash s.store.hasher) law refuse s 0 s' event reply x refl es call_traces core kept).loaded'
 
-  told : IsStageTold g c now x.before.state (call_traces 0).loaded x.answer made loaded'
+  told : IsTrueOfStage g c now x.before.state (call_traces 0).loaded x.answer made loaded'
   told = (resized.left eq (hash s.store.hasher) law refuse s 0 s' event reply x refl es call_traces core kept).told
 
   -- the words after it
@@ -131,14 +131,14 @@ module _ {K V S A : Type 0} (eq : K → K → Bool) (hash : S → K → ℕ) (re
   core' : IsCore s'.store s'.callers s'.mode
   core' = resize-core eq hash refuse s 0 s' event reply x core
 
-  kept' : IsKept eq (hash s.store.hasher) s'.mode s'.store s'.callers (es ++ made)
+  kept' : IsConsistent eq (hash s.store.hasher) s'.mode s'.store s'.callers (es ++ made)
       (resized.call_traces' eq (hash s.store.hasher) law refuse s 0 s' event reply x refl es call_traces core kept)
   kept' = resized.resize_kept eq (hash s.store.hasher) law refuse s 0 s' event reply x refl es call_traces core kept
 
   pub lawful' : IsLawfulCore eq (hash s'.store.hasher) s'.store s'.callers s'.mode
   lawful' = record {
     core = core';
-    law = subst (λ y. (es : _) × ((call_traces : _) × IsKept eq (hash y) s'.mode s'.store s'.callers es call_traces))
+    law = subst (λ y. (es : _) × ((call_traces : _) × IsConsistent eq (hash y) s'.mode s'.store s'.callers es call_traces))
         (sym (resized.left eq (hash s.store.hasher) law refuse s 0 s' event reply x refl es call_traces core kept).hasher_is) (es ++ made, (_, kept'));
   }
 
@@ -233,12 +233,12 @@ module _ {K V S A : Type 0} (eq : K → K → Bool) (hash : S → K → ℕ) (re
       resizing_now.relies.mode resizing_now.relies.cut (budget_of s.store) (budget_of s'.store) x.before.state resizing_now.relies.stage words
       read_now x.answer made loaded' told x.ask x.asked spends)))
     where
-      standing' : IsStandingIn (after x.before x.answer).state
+      standing' : IsValidIn (after x.before x.answer).state
       standing' =
-          let standing = (core.resizers 0 x.before x.was).0 in
-          (resizer_stands x.before x.answer standing
+          let valid = (core.resizers 0 x.before x.was).0 in
+          (resizer_stands x.before x.answer valid
           (performed_copy eq hash refuse x.ask s.store x.answer s'.store (unnumbered s.store.words.tables core.sizes)
-          (resizer_fits x.before standing x.ask x.asked) x.performs).fit).state
+          (resizer_fits x.before valid x.ask x.asked) x.performs).fit).state
 
 module _ {K V S A H : Type 0} (eq : K → K → Bool) (input : K → List (List ℕ)) (build : S → H) (write : H → List ℕ → H) (finish : H → ℕ)
     (classes : IsEquivalence eq) (respects : (x y : K) → eq x y ≡ true → input x ≡ input y) (refuse : Bool) (s s' : CoreState K V S A) (event : Event) where

@@ -14,7 +14,7 @@ use Rattle.papaya_words_law.specs.Exchange.{Exchange, Setting}
 use Rattle.papaya_call.specs.declared.chain.ask.Ask.TheVariants as asks
 use Rattle.papaya_call.specs.ChainMachine.{after, ask_of, kind_of_ask}
 use Rattle.papaya_call_law.specs.Relies.{IsMadePair, IsReply, change_in}
-use Rattle.papaya_call_law.specs.Told.{IsOneOf, LoadedPairs}
+use Rattle.papaya_call_law.specs.TrueAnswers.{IsOneOf, LoadedPairs}
 use Rattle.papaya_core_timeline.specs.declared.seat.Seat.{Seat}
 use Rattle.papaya_core_store.specs.declared.pairs.Pair.{Pair}
 use Rattle.papaya_core_timeline.specs.declared.trace.Entry.{Entry}
@@ -35,7 +35,7 @@ use Rattle.papaya_core_timeline.proofs.KeptResized.{left as resize_left, resize_
 use Rattle.papaya_core_timeline.specs.Content.{map_in, map_of}
 use Rattle.papaya_core_timeline.specs.Core.{CoreState, IsCore}
 use Rattle.papaya_core_timeline.specs.Counted.{IsCounted, owed_in}
-use Rattle.papaya_core_timeline.specs.Kept.{CallTrace, IsKept, IsLawfulCore, begun_call_traces, coding_of, low, setting_of, told_call_traces}
+use Rattle.papaya_core_timeline.specs.Kept.{CallTrace, IsConsistent, IsLawfulCore, begun_call_traces, coding_of, low, setting_of, told_call_traces}
 use Rattle.papaya_core_timeline.specs.Runs.{BeginRuns, History, StepRuns, StepsRun, TurnRuns, TurnsRun, with_event, with_step}
 use Rattle.papaya_core_timeline.specs.Solo.{IsNewIn, RunsAlone, whatever}
 use Rattle.papaya_core_store.specs.Store.{KeepsPairs, StoreState, Stored, pair_of}
@@ -54,8 +54,8 @@ use Rattle.papaya_core_store.proofs.Logs.{pair_below, pair_number}
 use Rattle.papaya_core_timeline.proofs.MachineLemmas.{machine_replies}
 use Rattle.papaya_core_timeline.proofs.SoloTimeline.{AreOfSteps, IsOfStep, open_history}
 use Rattle.papaya_words.specs.declared.refused.Refused.{Refused as Refusal}
-use Rattle.papaya_call_law.specs.ChainTold as chain_told
-use Rattle.papaya_core_timeline.specs.ScanGoes.{Scans, reply_or, unheard}
+use Rattle.papaya_call_law.specs.ChainAnswers as chain_told
+use Rattle.papaya_core_timeline.specs.ScanGoes.{Scans, reply_or, list_refusal}
 use Rattle.papaya_core_timeline.proofs.CountedScanned.{counted_scan}
 use Rattle.papaya_core_timeline.proofs.KeptScanned.{scanned-core, step_after as scan_after}
 use Rattle.papaya_core_timeline.proofs.SoloScans.{scan_of_step}
@@ -94,7 +94,7 @@ module _ {K V S A : Type 0} (eq : K → K → Bool) (hash : S → K → ℕ) (s 
     pub es : List (Exchange (Stored K V))
     pub call_traces : ℕ → CallTrace K V
     pub core : IsCore s'.store s'.callers s'.mode
-    pub kept : IsKept eq (hash s.store.hasher) s'.mode s'.store s'.callers es call_traces
+    pub kept : IsConsistent eq (hash s.store.hasher) s'.mode s'.store s'.callers es call_traces
     pub counted : IsCounted eq s.store s.callers → IsCounted eq s'.store s'.callers
     pub hasher_is : s'.store.hasher ≡ s.store.hasher
     pub mode_is : s'.mode ≡ s.mode
@@ -106,7 +106,7 @@ module _ {K V S A : Type 0} (eq : K → K → Bool) (hash : S → K → ℕ) (s 
 
   -- after the begin
   pub follows_begin : (call : Call K V A) (s' : CoreState K V S A) → s.callers ≡ [] → IsCore s.store s.callers s.mode
-      → (es : List (Exchange (Stored K V))) (call_traces : ℕ → CallTrace K V) → IsKept eq (hash s.store.hasher) s.mode s.store s.callers es call_traces
+      → (es : List (Exchange (Stored K V))) (call_traces : ℕ → CallTrace K V) → IsConsistent eq (hash s.store.hasher) s.mode s.store s.callers es call_traces
       → Begins (hash s.store.hasher) s 0 call s' → Follows s'
   follows_begin call s' idle core es call_traces kept x = record {
     es = es;
@@ -276,7 +276,7 @@ module _ {K V S A : Type 0} (eq : K → K → Bool) (hash : S → K → ℕ) (s 
 
   -- after the begin the call is open
   begin_runs : (call : Call K V A) (s' : CoreState K V S A) (h : History) → s.callers ≡ [] → IsCore s.store s.callers s.mode
-      → (es : List (Exchange (Stored K V))) (call_traces : ℕ → CallTrace K V) → IsKept eq (hash s.store.hasher) s.mode s.store s.callers es call_traces
+      → (es : List (Exchange (Stored K V))) (call_traces : ℕ → CallTrace K V) → IsConsistent eq (hash s.store.hasher) s.mode s.store s.callers es call_traces
       → BeginRuns eq says hash 0 0 call s [] s' h → IsSole s' h
   begin_runs call s' h idle core es call_traces kept (inl (none, x, told)) = record {
     follows = follows_begin call s' idle core es call_traces kept x;
@@ -387,7 +387,7 @@ module _ {K V S A : Type 0} (eq : K → K → Bool) (hash : S → K → ℕ) (s 
       events = event ∷ sole.events;
       of_steps = (subst IsOfStep (sym x.event_is) (scan_of_step (kind_of_scan x.before.scanner) x.ask x.answer), sole.of_steps);
       history = told ∙ ap (λ l. with_event 1 0 (Replied reply) (with_event 1 0 event l)) sole.history;
-      unlogged = scan_unlogged (unheard x.ask x.answer) (after_scan x.before.scanner x.answer).state reply (sym x.reply_is);
+      unlogged = scan_unlogged (list_refusal x.ask x.answer) (after_scan x.before.scanner x.answer).state reply (sym x.reply_is);
     },
   )
     where
@@ -469,14 +469,14 @@ module _ {K V S A : Type 0} (eq : K → K → Bool) (hash : S → K → ℕ) (s 
           chunked = f.core.chunked;
           limit = f.core.limit;
           sizes = f.core.sizes;
-          standing = λ caller r e. let n : None ≡ Some r = e in
+          valid = λ caller r e. let n : None ≡ Some r = e in
               absurd cc;
           going = λ caller r e. let n : None ≡ Some r = e in absurd cc;
           resizers = λ caller z e. let n : None ≡ Some z = e in
               absurd cc;
           scanners = λ caller v e. let n : None ≡ Some v = e in absurd cc;
         };
-        law = subst (λ y. (es : _) × ((call_traces : _) × IsKept {A = A} eq (hash y) s'.mode s'.store [] es call_traces)) (sym f.hasher_is) (
+        law = subst (λ y. (es : _) × ((call_traces : _) × IsConsistent {A = A} eq (hash y) s'.mode s'.store [] es call_traces)) (sym f.hasher_is) (
           f.es,
           (
             f.call_traces,

@@ -47,9 +47,9 @@ use Rattle.papaya_words_law.specs.Exchange.{Setting, State, Exchange}
 use Rattle.papaya_call_law.specs.Copier.{IsCopyAsked}
 use Rattle.papaya_call_law.specs.Relies.{Change}
 use Rattle.papaya_call_law.specs.Says.{show}
-use Rattle.papaya_call_law.specs.Told.{word_of}
+use Rattle.papaya_call_law.specs.TrueAnswers.{word_of}
 use Rattle.papaya_call_law.specs.Goes.{change_by as changed_by}
-use Rattle.papaya_call_law.specs.ChainTold.{IsCopyTold, IsTold, LoadedPairs}
+use Rattle.papaya_call_law.specs.ChainAnswers.{IsTrueOfCopy, IsTrueOf, LoadedPairs}
 use Rattle.papaya_core_timeline.specs.declared.trace.Event.{Event}
 use Rattle.papaya_core_timeline.specs.declared.trace.Event.TheVariants.{Changed, Moved, Shown, Other}
 use Rattle.papaya_core_timeline.specs.Advances.{answered_event, call_event, event_of, kind_event}
@@ -283,7 +283,7 @@ pub record IsCopied {K P : Type 0} (g : Setting K P) (c : Coding K P) (s : State
 module _ {K P : Type 0} (g : Setting K P) (c : Coding K P) (s : State P) (kind : Option StepKind) (follows : ℕ) (loaded : LoadedPairs P) where
   -- what a copy is told is that it made an exchange, or that nothing was exchanged
   pub copy_told : (ask : CopyAsk) (answer : Answer) (es : List (Exchange P)) (loaded' : LoadedPairs P)
-      → IsCopyTold g c s kind follows loaded ask answer es loaded' → (es ≡ []) ⊎ IsCopied g c s kind loaded.kept ask es
+      → IsTrueOfCopy g c s kind follows loaded ask answer es loaded' → (es ≡ []) ⊎ IsCopied g c s kind loaded.kept ask es
   copy_told (Load at) answer es loaded' h = inl h.1
   copy_told (Copy_exchange at old new) answer es loaded' h =
       matched ((es ≡ []) ⊎ IsCopied g c s kind loaded.kept (Copy_exchange at old new) es) (word_of g c s at == old) _ _ h
@@ -309,7 +309,7 @@ module _ {K P : Type 0} (g : Setting K P) (c : Coding K P) (s : State P) (kind :
 -- so at most one exchange
 pub one_exchange : {K P : Type 0} (g : Setting K P) (c : Coding K P) (k : K) (s : State P) (kind : Option StepKind) (follows : ℕ)
     (loaded : LoadedPairs P) (ask : Ask) (answer : Answer) (es : List (Exchange P)) (loaded' : LoadedPairs P)
-    → IsTold g c k s kind follows loaded ask answer es loaded' → (es ≡ []) ⊎ ((e : Exchange P) × (es ≡ e ∷ []))
+    → IsTrueOf g c k s kind follows loaded ask answer es loaded' → (es ≡ []) ⊎ ((e : Exchange P) × (es ≡ e ∷ []))
 one_exchange g c k s kind follows loaded (asks.Call ask) answer es loaded' h = calls.one_exchange g c k s kind loaded.call ask h.told es h.call h.tells
 one_exchange {P = P} g c k s kind follows loaded (asks.Copy ask) answer es loaded' h =
     ⊎_elim (λ none. inl none) (λ (made : IsCopied g c s kind loaded.kept ask es). inr (made.by, made.made))

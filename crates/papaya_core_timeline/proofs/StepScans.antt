@@ -32,7 +32,7 @@ use Rattle.papaya_call.specs.declared.chain.scanner.Spot.{Spot}
 use Rattle.papaya_call.specs.declared.chain.scanner.ScannerState.{ScannerState}
 use Rattle.papaya_call.specs.declared.chain.scanner.ScannerState.TheVariants.{Copying, AtRoot, Sizing, Looking, Giving, Showing, Burying, Uncounting, Done, Refused}
 use Rattle.papaya_call.specs.Scanner.{asks_in, copy_asks, buries, kind_in}
-use Rattle.papaya_call_law.specs.ScanTold.{IsBuried, IsFoundThere, IsScanTold, IsWordAnswer, LoadedPairs, last_of}
+use Rattle.papaya_call_law.specs.ScanAnswers.{IsBuried, IsFoundThere, IsTrueOfScan, IsWordAnswer, LoadedPairs, last_of}
 use Rattle.papaya_core_store.specs.declared.scans.Scanning.{Scanning}
 use Rattle.papaya_core_store.specs.Scans.{PerformsScan}
 
@@ -104,7 +104,7 @@ module _ {K V : Type 0} (eq : K → K → Bool) (g : Setting K (Stored K V)) (c 
   Step state ask = IsScanStep eq g c hashed s since state loaded (event_of_scan (kind_in state) ask answer) es loaded'
 
   copy_stills : (stage : Stage) → (o : Option CopyAsk) → resizers.asks_in stage ≡ o → (ask : ScanAsk) → copy_asks o ≡ Some ask
-      → IsScanTold g c s since (Copying stage) loaded answer es loaded' → Step (Copying stage) ask
+      → IsTrueOfScan g c s since (Copying stage) loaded answer es loaded' → Step (Copying stage) ask
   copy_stills stage None is ask e told = absurd cc
   copy_stills stage (Some asked) is ask e told = subst (Step (Copying stage)) (same_item (Copy asked) ask e) (inl (record {
     quiet = subst IsQuiet (sym (copied_event (resizers.kind_in stage) asked answer)) (stage_moves IsQuiet tt (λ kind. tt) stage asked answer);
@@ -131,7 +131,7 @@ module _ {K V : Type 0} (eq : K → K → Bool) (g : Setting K (Stored K V)) (c 
         })
 
   -- what a scanner's step is
-  pub scan_step : (state : ScannerState) (ask : ScanAsk) → asks_in state ≡ Some ask → IsScanTold g c s since state loaded answer es loaded' → Step state ask
+  pub scan_step : (state : ScannerState) (ask : ScanAsk) → asks_in state ≡ Some ask → IsTrueOfScan g c s since state loaded answer es loaded' → Step state ask
   scan_step (Copying stage) ask e told = copy_stills stage (resizers.asks_in stage) refl ask e told
   scan_step AtRoot ask e told =
       let same : Copy told.ask ≡ ask = same_item (Copy told.ask) ask (sym told.asks ∙ e) in

@@ -19,7 +19,7 @@ use Rattle.papaya_call.specs.ChainMachine.{ask_of, kind_of_ask}
 use Rattle.papaya_words_law.specs.Code.{Coding}
 use Rattle.papaya_words_law.specs.Exchange.{Exchange, Setting, State}
 use Rattle.papaya_call_law.specs.Says.{MakesPair, show}
-use Rattle.papaya_call_law.specs.ChainTold.{IsTold, LoadedPairs}
+use Rattle.papaya_call_law.specs.ChainAnswers.{IsTrueOf, LoadedPairs}
 use Rattle.papaya_core_store.specs.declared.pairs.Running.{Running}
 use Rattle.papaya_core_store.specs.Asks.{PerformsAsk}
 use Rattle.papaya_core_store.specs.Store.{StoreState}
@@ -101,10 +101,10 @@ module _ {K V S A : Type 0} (eq : K → K → Bool) (says : Says K V A) (hash : 
 module _ {K P : Type 0} (g : Setting K P) (c : Coding K P) (k : K) (s : State P) (kind : Option StepKind) (follows : ℕ) (loaded : LoadedPairs P) where
   -- a pair that was made is at the head of those that the machine was told of
   pub told_made : (asked : Call_ask) (ask : Ask) (a : Answer) (es : List (Exchange P)) (loaded' : LoadedPairs P) (n : ℕ) → ask ≡ asks.Call asked
-      → MakesPair asked → a ≡ answers.Call (Made_number n) → IsTold g c k s kind follows loaded ask a es loaded' → (q : P) × (c.number q ≡ n)
+      → MakesPair asked → a ≡ answers.Call (Made_number n) → IsTrueOf g c k s kind follows loaded ask a es loaded' → (q : P) × (c.number q ≡ n)
       × (loaded'.call.made ≡ q ∷ loaded.call.made)
   told_made asked ask a es loaded' n asking makes is told =
-      let h = subst (λ y. IsTold g c k s kind follows loaded y a es loaded') asking told in
+      let h = subst (λ y. IsTrueOf g c k s kind follows loaded y a es loaded') asking told in
       let same : h.told ≡ Made_number n = cc (h.is, is) in
       let (q, number, made) = calls.told_made g c k s kind loaded.call asked h.told es h.call n makes same h.tells in
       (q, number, ap (λ (y : LoadedPairs P). y.call.made) h.handed ∙ made)

@@ -36,7 +36,7 @@ use Rattle.papaya_core_store.specs.Asks.{PerformsAsk}
 use Rattle.papaya_core_store.specs.CopyAsks.{PerformsCopy, hash_in}
 use Rattle.papaya_core_store.specs.Pairs.{brought_by}
 use Rattle.papaya_core_store.specs.Performs.{Exchanges, Performs, Refuses, Stays, HasNoPair, HasNoPairOf}
-use Rattle.papaya_core_store.specs.Performs.{IsPutOff, LogsOf, LogsOwn, LogsPair, MakesOr, MakesTable}
+use Rattle.papaya_core_store.specs.Performs.{IsPutOff, PushesOf, PushesOwn, PushesPair, MakesOr, MakesTable}
 use Rattle.papaya_core_store.specs.Performs.{size_of}
 use Rattle.papaya_call.specs.declared.ask.Answer.TheVariants.{Made as Made_number, Ok as Ok_told, Refused as Was_refused}
 use Rattle.papaya_words.specs.declared.refused.Refused.TheVariants.{Memory, Capacity}
@@ -48,14 +48,14 @@ matched R false P Q h f g = g refl h
 
 module _ {K V S A : Type 0} (s : StoreState K V S) (r : Running K V A) (a : Answer) (s' : StoreState K V S) (r' : Running K V A) where
   -- Nothing was logged: that was refused, there was nothing to log, or it goes into the log with a pair.
-  abbrev pub IsUnlogged : Type 0
-  IsUnlogged = (a ≡ Was_refused Memory) ⊎ (a ≡ Was_refused Capacity) ⊎ (a ≡ Ok_told) ⊎ (a ≡ Made_number 0)
+  abbrev pub IsNotStored : Type 0
+  IsNotStored = (a ≡ Was_refused Memory) ⊎ (a ≡ Was_refused Capacity) ⊎ (a ≡ Ok_told) ⊎ (a ≡ Made_number 0)
 
   -- what an ask for a key, a value or a pair leaves
   abbrev pub LogsOrNot : Type 0
-  LogsOrNot = (IsUnlogged × Stays s r s' r') ⊎ ((key : Part K) × (left : Part K) × LogsPair key left a s r s' r')
+  LogsOrNot = (IsNotStored × Stays s r s' r') ⊎ ((key : Part K) × (left : Part K) × PushesPair key left a s r s' r')
 
-  unlogged : (most count : ℕ) → Refuses most count a → IsUnlogged
+  unlogged : (most count : ℕ) → Refuses most count a → IsNotStored
   unlogged most count (inl e) = inl e
   unlogged most count (inr (e, full)) = inr (inl e)
 
@@ -65,20 +65,20 @@ module _ {K V S A : Type 0} (s : StoreState K V S) (r : Running K V A) (a : Answ
 
   -- a pair of the call's own key
   pub own_logs : (refuse : Bool) → MakesOr refuse a s r s' r'
-      ((Refuses MAX_LOG_LEN (length s.pairs) a × Stays s r s' r') ⊎ (HasNoPair a r × Stays s r s' r') ⊎ LogsOwn a s r s' r') → LogsOrNot
+      ((Refuses MAX_LOG_LEN (length s.pairs) a × Stays s r s' r') ⊎ (HasNoPair a r × Stays s r s' r') ⊎ PushesOwn a s r s' r') → LogsOrNot
   own_logs refuse h = matched LogsOrNot refuse _ _ h (λ _ none. inl (inl none.0, none.1)) (λ _ makes. by_cases makes)
     where
-      by_cases : (Refuses MAX_LOG_LEN (length s.pairs) a × Stays s r s' r') ⊎ (HasNoPair a r × Stays s r s' r') ⊎ LogsOwn a s r s' r' → LogsOrNot
+      by_cases : (Refuses MAX_LOG_LEN (length s.pairs) a × Stays s r s' r') ⊎ (HasNoPair a r × Stays s r s' r') ⊎ PushesOwn a s r s' r' → LogsOrNot
       by_cases (inl (f, stays)) = inl (unlogged _ _ f, stays)
       by_cases (inr (inl (has, stays))) = inl (inr (inr (inl has.0)), stays)
       by_cases (inr (inr logs)) = inr (r.key, Logged (brought_by (length s.pairs) r.key), logs)
 
   -- and one of another's
   pub of_logs : (refuse : Bool) (n : ℕ) → MakesOr refuse a s r s' r'
-      ((Refuses MAX_LOG_LEN (length s.pairs) a × Stays s r s' r') ⊎ (HasNoPairOf n a s r × Stays s r s' r') ⊎ LogsOf n a s r s' r') → LogsOrNot
+      ((Refuses MAX_LOG_LEN (length s.pairs) a × Stays s r s' r') ⊎ (HasNoPairOf n a s r × Stays s r s' r') ⊎ PushesOf n a s r s' r') → LogsOrNot
   of_logs refuse n h = matched LogsOrNot refuse _ _ h (λ _ none. inl (inl none.0, none.1)) (λ _ makes. by_cases makes)
     where
-      by_cases : (Refuses MAX_LOG_LEN (length s.pairs) a × Stays s r s' r') ⊎ (HasNoPairOf n a s r × Stays s r s' r') ⊎ LogsOf n a s r s' r' → LogsOrNot
+      by_cases : (Refuses MAX_LOG_LEN (length s.pairs) a × Stays s r s' r') ⊎ (HasNoPairOf n a s r × Stays s r s' r') ⊎ PushesOf n a s r s' r' → LogsOrNot
       by_cases (inl (f, stays)) = inl (unlogged _ _ f, stays)
       by_cases (inr (inl (has, stays))) = inl (inr (inr (inl has.0)), stays)
       by_cases (inr (inr (first, from, logs))) = inr (Logged first, r.key, logs)

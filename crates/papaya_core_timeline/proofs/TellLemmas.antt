@@ -23,7 +23,7 @@ use Rattle.papaya_call.specs.declared.call.Task.TheVariants as tasks
 use Rattle.papaya_words_law.specs.Code.{Coding}
 use Rattle.papaya_words_law.specs.Exchange.{Exchange, Setting, State}
 use Rattle.papaya_call_law.specs.Says.{MakesPair, show}
-use Rattle.papaya_call_law.specs.Told.{IsTold, LoadedPairs}
+use Rattle.papaya_call_law.specs.TrueAnswers.{IsTrueOf, LoadedPairs}
 use Rattle.papaya_core_store.specs.declared.pairs.Running.{Running}
 use Rattle.papaya_core_timeline.specs.declared.trace.Event.{Event}
 use Rattle.papaya_core_timeline.specs.declared.trace.Event.TheVariants as events
@@ -360,7 +360,7 @@ module _ {K P : Type 0} (g : Setting K P) (c : Coding K P) (k : K) (s : State P)
 
   -- a pair that was made is at the head of those that the machine was told of
   pub told_made : (ask : Ask) (a : Answer) (es : List (Exchange P)) (loaded' : LoadedPairs P) (n : ℕ) → MakesPair ask → a ≡ Made_number n
-      → IsTold g c k s kind loaded ask a es loaded' → (q : P) × (c.number q ≡ n) × (loaded'.made ≡ q ∷ loaded.made)
+      → IsTrueOf g c k s kind loaded ask a es loaded' → (q : P) × (c.number q ≡ n) × (loaded'.made ≡ q ∷ loaded.made)
   told_made MakePair a es loaded' n makes is (inl (inl (why, e), quiet)) = let f = sym is ∙ e in absurd cc
   told_made MakePair a es loaded' n makes is (inl (inr e, quiet)) = let f = sym is ∙ e in absurd cc
   told_made MakePair a es loaded' n makes is (inr (q, own, (e, none, same))) = (q, number_made q n (sym e ∙ is), ap (λ (y : LoadedPairs P). y.made) same)

@@ -27,10 +27,10 @@ use Rattle.papaya_call.specs.declared.chain.ask.Ask.TheVariants as asks
 use Rattle.papaya_call.specs.declared.chain.ask.Answer.{Answer}
 use Rattle.papaya_call.specs.ChainMachine.{ask_of}
 use Rattle.papaya_call_law.specs.ChainRelies.{Relies}
-use Rattle.papaya_call_law.specs.ChainTold.{LoadedPairs}
+use Rattle.papaya_call_law.specs.ChainAnswers.{LoadedPairs}
 use Rattle.papaya_call_law.specs.Relies.{IsReply, change_of_reply, WasAtMoment}
-use Rattle.papaya_call_law.specs.Says.{Said, Agrees, Inserts, Makes, Removes, said_in_reply}
-use Rattle.papaya_call_law.specs.Told.{IsOneOf}
+use Rattle.papaya_call_law.specs.Says.{ClosureResult, Agrees, Inserts, Makes, Removes, result_in_reply}
+use Rattle.papaya_call_law.specs.TrueAnswers.{IsOneOf}
 use Rattle.papaya_words.specs.Table.{TableWords}
 use Rattle.papaya_words.specs.declared.refused.Refused.{Refused as Refusal}
 use Rattle.papaya_words.specs.declared.refused.Refused.TheVariants.{RemoveNothing}
@@ -52,7 +52,7 @@ use Rattle.papaya_core_timeline.specs.Runs.{History}
 use Rattle.papaya_core_timeline.specs.Timeline.{Answered, is_begin, change_of, last_shown, number_in, was_shown_none, AtSomeMoment, Fits, FitsShown}
 use Rattle.papaya_core_timeline.proofs.CallersLemmas.{differs}
 use Rattle.papaya_core_timeline.proofs.ChainLemmas.{own_asks}
-use Rattle.papaya_core_timeline.proofs.Good.{IsTied, WasSaid, replay, replayed}
+use Rattle.papaya_core_timeline.proofs.Good.{IsTied, WasReturned, replay, replayed}
 use Rattle.papaya_core_store.proofs.Logs.{key-more, pair-more, value-more, value_logged}
 use Rattle.papaya_core_timeline.proofs.MachineLemmas.{machine_replies, machine_says}
 use Rattle.papaya_core_timeline.proofs.ReplayLemmas.{beginning-cases, map_replayed, replay-three}
@@ -219,12 +219,12 @@ module _ {K V : Type 0} (eq : K → K → Bool) where
 module _ {K V S A : Type 0} where
   -- what a reply stands on was said by the closure in the call
   abbrev pub SaidForReply : StoreState K V S → Running K V A → Task → Reply → ℕ → History → Answered V → Type 0
-  SaidForReply s r task reply caller h answers = (said : Said) → said_in_reply task reply ≡ Some said → WasSaid s r caller h answers said
+  SaidForReply s r task reply caller h answers = (said : ClosureResult) → result_in_reply task reply ≡ Some said → WasReturned s r caller h answers said
 
   -- what a closure said stays said, whatever another caller does
   pub said-other : (s s' : StoreState K V S) (r : Running K V A) (c d turn : ℕ) (event : Event) (h : History) (o : Option (Operation V ℕ))
-      (answers : Answered V) → KeepsParts s s' → KeepsPairs s s' → c ≢ d → (said : Said) → WasSaid s r d h answers said
-      → WasSaid s' r d (entry turn c event ∷ h) (o ∷ answers) said
+      (answers : Answered V) → KeepsParts s s' → KeepsPairs s s' → c ≢ d → (said : ClosureResult) → WasReturned s r d h answers said
+      → WasReturned s' r d (entry turn c event ∷ h) (o ∷ answers) said
   said-other s s' r c d turn event h o answers parts stay differ (Agrees n agrees) was = asked-other c d turn n agrees event h differ was
   said-other s s' r c d turn event h o answers parts stay differ (Inserts shown)
       (v, has, was) = (v, value_forth s.pairs s'.pairs parts.values r.value v has, answered-other c d turn shown (ops.Insert v) event h o answers differ was)
@@ -359,7 +359,7 @@ module _ {K V A : Type 0} (eq : K → K → Bool) where
         call_trace.loaded.call relies.call reply replied in
         by_reply call reply own (subst (λ y. IsReply (setting_of eq hash mode tables) (coding_of hash) call_trace.begun call_trace.since k
         call_trace.loaded.call y reply) tied.task ends.0) (tied.change ∙ ends.1)
-        (λ said e. tied.said said (inl (machine_says r.machine.call reply replied ∙ ap (λ t. said_in_reply t reply) tied.task ∙ e)))
+        (λ said e. tied.said said (inl (machine_says r.machine.call reply replied ∙ ap (λ t. result_in_reply t reply) tied.task ∙ e)))
         (subst (λ t. IsEnding t call reply caller h maps) tied.task ending) tied.moments
       where
         answer : (call : Call K V A) (v : Option (Stored K V)) (reply : Reply) → Some k ≡ key_of call → Moments call caller call_trace h maps

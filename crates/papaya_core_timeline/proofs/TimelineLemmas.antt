@@ -7,7 +7,7 @@ use Rattle.papaya_core_timeline.specs.declared.trace.Turn.{Turn}
 use Rattle.papaya_core_timeline.specs.declared.trace.Entry.{Entry}
 use Rattle.papaya_core_timeline.specs.declared.trace.Event.{Event}
 use Rattle.papaya_core_timeline.specs.declared.trace.Event.TheVariants.{Asked, Shown}
-use Rattle.papaya_core_timeline.specs.Headline.{AreLogged}
+use Rattle.papaya_core_timeline.specs.Headline.{AreInArena}
 use Rattle.papaya_core_timeline.specs.Maps.{Map}
 use Rattle.papaya_core_timeline.specs.Runs.{History}
 use Rattle.papaya_core_store.specs.Store.{StoreState, Stored, pair_of}
@@ -117,12 +117,12 @@ module _ {K V : Type 0} where
 module _ {K V S : Type 0} where
   -- pairs that stay in the log are its pairs still
   pub logged_more : (store store' : StoreState K V S) (maps : List (Map K V))
-      → ((n : ℕ) (p : Stored K V) → pair_of store n ≡ Some p → pair_of store' n ≡ Some p) → AreLogged store maps → AreLogged store' maps
+      → ((n : ℕ) (p : Stored K V) → pair_of store n ≡ Some p → pair_of store' n ≡ Some p) → AreInArena store maps → AreInArena store' maps
   logged_more store store' [] stay x = tt
   logged_more store store' (m ∷ maps) stay x = (λ j p e. stay p.number p (x.0 j p e), logged_more store store' maps stay x.1)
 
   -- and the number after all of them is unused
-  pub logged_unused : (store : StoreState K V S) (maps : List (Map K V)) → AreLogged store maps → IsUnused (length store.pairs) maps
+  pub logged_unused : (store : StoreState K V S) (maps : List (Map K V)) → AreInArena store maps → IsUnused (length store.pairs) maps
   logged_unused store [] x = tt
   logged_unused store (m ∷ maps) x = (
     λ j p e same. let lt : p.number < length store.pairs = pair_below store p.number p (x.0 j p e) in

@@ -38,7 +38,7 @@ use Rattle.papaya_call_law.specs.Goes.{Goes, IsOwnStep}
 use Rattle.papaya_call_law.specs.ChainRelies.{left_by}
 use Rattle.papaya_call_law.proofs.Names.{call_asks}
 use Rattle.papaya_call_law.proofs.Replies.{aside_asks}
-use Rattle.papaya_call_law.specs.Says.{IsAnswered, Makes, MakesPair, StandsOn, said_in, said_to_choose, said_to_fill}
+use Rattle.papaya_call_law.specs.Says.{IsAnswered, Makes, MakesPair, ActsOn, result_in, result_to_choose, result_to_fill}
 use Rattle.papaya_core_timeline.proofs.MadePairs.{MakesOver}
 
 -- the stages of a call that waits for a value's pair, or is over
@@ -68,7 +68,7 @@ module _ (m : Call_machine) (i n : ℕ) where
 
   -- it waits on, or makes the pair
   abbrev WaitsOn : Call_answer → Stage → Type 0
-  WaitsOn a s = StandsOn (calls.after (at_stage s) a) (Makes (Some i) n) → IsAnswered (calls.after (at_stage s) a).state
+  WaitsOn a s = ActsOn (calls.after (at_stage s) a) (Makes (Some i) n) → IsAnswered (calls.after (at_stage s) a).state
       ⊎ (MakesPair (calls.ask_of (at_stage s)) × (a ≡ Made_number n))
 
   ended_waits : (a : Call_answer) (reply : Reply) → WaitsOn a (Ended reply)
@@ -83,9 +83,9 @@ module _ (m : Call_machine) (i n : ℕ) where
   ended_waits (Was_refused refused) reply stands = inl tt
 
   -- the pair for an absent key was answered to no pair, and the other is the newest
-  new_pair : (purpose : Purpose) → IsAnswered (Pairing purpose) → (l : ℕ) → (said_in m.task (provides purpose l) ≡ Some (Makes (Some i) n))
-      ⊎ (said_to_fill (with_pair m.remembered purpose l).fill ≡ Some (Makes (Some i) n))
-      ⊎ (said_to_choose (with_pair m.remembered purpose l).choice ≡ Some (Makes (Some i) n)) → l ≡ n
+  new_pair : (purpose : Purpose) → IsAnswered (Pairing purpose) → (l : ℕ) → (result_in m.task (provides purpose l) ≡ Some (Makes (Some i) n))
+      ⊎ (result_to_fill (with_pair m.remembered purpose l).fill ≡ Some (Makes (Some i) n))
+      ⊎ (result_to_choose (with_pair m.remembered purpose l).choice ≡ Some (Makes (Some i) n)) → l ≡ n
   new_pair (Fill NoRoot) waits l (inl e) = absurd cc
   new_pair (Fill (At place)) waits l (inl e) = absurd cc
   new_pair (Fill (After t)) waits l (inl e) = absurd cc
@@ -94,16 +94,16 @@ module _ (m : Call_machine) (i n : ℕ) where
   new_pair (Replace write) waits l (inl e) = cc
   new_pair (Replace write) waits l (inr (inl e)) = absurd (filled m.remembered.fill e)
     where
-      filled : (fill : Option ℕ) → said_to_fill fill ≡ Some (Makes (Some i) n) → ⊥
+      filled : (fill : Option ℕ) → result_to_fill fill ≡ Some (Makes (Some i) n) → ⊥
       filled None e = cc
       filled (Some j) e = cc
   new_pair (Replace write) waits l (inr (inr e)) = cc
   new_pair (Again write) waits l e = absurd waits
 
   made_waits : (purpose : Purpose) → IsAnswered (Pairing purpose) → (l : ℕ) (G : Grown) → grown m.made (in_place_of purpose) ≡ G
-      → (said_in m.task (paired G purpose l) ≡ Some (Makes (Some i) n))
-      ⊎ (said_to_fill (paired_held G m.remembered purpose l).fill ≡ Some (Makes (Some i) n))
-      ⊎ (said_to_choose (paired_held G m.remembered purpose l).choice ≡ Some (Makes (Some i) n))
+      → (result_in m.task (paired G purpose l) ≡ Some (Makes (Some i) n))
+      ⊎ (result_to_fill (paired_held G m.remembered purpose l).fill ≡ Some (Makes (Some i) n))
+      ⊎ (result_to_choose (paired_held G m.remembered purpose l).choice ≡ Some (Makes (Some i) n))
       → IsAnswered (paired G purpose l) ⊎ (MakesPair (pair_ask m.made (in_place_of purpose)) × (Made_number l ≡ Made_number n))
   made_waits purpose waits l (On made) is stands = inl waits
   made_waits purpose waits l (Pair made) is stands = inr (makes_pair m.made (in_place_of purpose) made is, ap Made_number (new_pair purpose waits l stands))
@@ -119,7 +119,7 @@ module _ (m : Call_machine) (i n : ℕ) where
   pairing_waits Ok_done purpose waits stands = inl waits
   pairing_waits (Was_refused refused) purpose waits stands = inl tt
 
-waits_after : (m : Call_machine) (a : Call_answer) (i n : ℕ) → IsAnswered m.state → StandsOn (calls.after m a) (Makes (Some i) n)
+waits_after : (m : Call_machine) (a : Call_answer) (i n : ℕ) → IsAnswered m.state → ActsOn (calls.after m a) (Makes (Some i) n)
     → IsAnswered (calls.after m a).state ⊎ (MakesPair (calls.ask_of m) × (a ≡ Made_number n))
 waits_after m a i n waits stands = waiting (WaitsOn m i n a) (pairing_waits m i n a) (ended_waits m i n a) m.state waits stands
 
@@ -136,11 +136,11 @@ answered_pair m n computes e = search rules
 
 -- the same over a chain of tables
 pub chain_waits : (m : Machine) (answer : Answer) → Goes m answer → IsAnswered m.call.state → (i n : ℕ)
-    → StandsOn (after m answer).call (Makes (Some i) n) → IsAnswered (after m answer).call.state
+    → ActsOn (after m answer).call (Makes (Some i) n) → IsAnswered (after m answer).call.state
     ⊎ (MakesOver (ask_of m) × (answer ≡ answers.Call (Made_number n)))
 chain_waits m answer (inl waits) answered i n stands = inl (subst (λ (d : Call_machine). IsAnswered d.state) (sym waits.call) answered)
 chain_waits m answer (inr (inl own)) answered i n stands =
-    elim (waits_after m.call own.told i n answered (subst (λ (d : Call_machine). StandsOn d (Makes (Some i) n)) own.call stands)) [
+    elim (waits_after m.call own.told i n answered (subst (λ (d : Call_machine). ActsOn d (Makes (Some i) n)) own.call stands)) [
       | inl still ↦ inl (subst (λ (d : Call_machine). IsAnswered d.state) (sym own.call) still)
       | inr (makes, told) ↦ inr (subst MakesOver (sym (ap (λ p. asks_in m.call p) own.phase)) makes, own.is ∙ ap answers.Call told)
     ]

@@ -9,14 +9,14 @@ use Rattle.papaya_words.specs.Mode.{IsChunked}
 use Rattle.papaya_call.specs.Made.{IsLimit}
 use Rattle.papaya_call.specs.declared.chain.ask.Ask.TheVariants.{Call}
 use Rattle.papaya_call.specs.declared.chain.machine.Machine.{Machine}
-use Rattle.papaya_call.specs.ChainMachine.{IsStanding, ask_of}
+use Rattle.papaya_call.specs.ChainMachine.{IsValid, ask_of}
 use Rattle.papaya_core_store.specs.declared.store.Mode.{Mode}
 use Rattle.papaya_core_store.specs.declared.pairs.Running.{Running}
 use Rattle.papaya_core_timeline.specs.declared.seat.Seat.{Seat}
 use Rattle.papaya_core_timeline.specs.Callers.{resizing, running, scanning, working}
 use Rattle.papaya_core_timeline.specs.declared.seat.Work.{Work}
 use Rattle.papaya_call.specs.declared.chain.resizer.Resizer.{Resizer}
-use Rattle.papaya_call.specs.Resizer.{IsStandingResizer, reply_of}
+use Rattle.papaya_call.specs.Resizer.{IsValidResizer, reply_of}
 use Rattle.papaya_core_store.specs.Tables.{table_of}
 use Rattle.papaya_core_store.specs.Store.{StoreState}
 use Rattle.papaya_call.specs.Scanner as scanner
@@ -54,10 +54,10 @@ pub record IsCore {K V S A : Type 0} (store : StoreState K V S) (callers : List 
   pub limit : IsLimit mode.limit
   pub sizes : (n : ℕ) (t : TableWords) → table_of store.words.tables n ≡ Some t
       → IsSize (length t.slots) t.limit
-  pub standing : (caller : ℕ) (r : Running K V A) → running callers caller ≡ Some r
-      → IsStanding r.machine
+  pub valid : (caller : ℕ) (r : Running K V A) → running callers caller ≡ Some r
+      → IsValid r.machine
   pub going : (caller : ℕ) (r : Running K V A) → running callers caller ≡ Some r → IsGoing r.machine
   pub resizers : (caller : ℕ) (resizer : Resizer) → resizing callers caller ≡ Some resizer
-      → IsStandingResizer resizer × (reply_of resizer ≡ None)
+      → IsValidResizer resizer × (reply_of resizer ≡ None)
   pub scanners : (caller : ℕ) (v : Scanning A) → scanning callers caller ≡ Some v
-      → scanner.IsStandingScanner v.scanner × (scanner.reply_of v.scanner ≡ None)
+      → scanner.IsValidScanner v.scanner × (scanner.reply_of v.scanner ≡ None)

@@ -14,10 +14,10 @@ use Rattle.papaya_core_timeline.specs.Timeline.{Answered, Timeline, open_call}
 use Rattle.papaya_core_timeline.specs.Content.{map_of}
 
 -- each pair of each of these maps is in the arena under its number
-abbrev pub AreLogged : {K V S : Type 0} → StoreState K V S → List (Map K V) → Type 0
-AreLogged store [] = Unit {0}
-AreLogged {K = K} {V = V} store (m ∷ maps) = ((j : K) (p : Stored K V) → m j ≡ Some p
-    → pair_of store p.number ≡ Some p) × AreLogged store maps
+abbrev pub AreInArena : {K V S : Type 0} → StoreState K V S → List (Map K V) → Type 0
+AreInArena store [] = Unit {0}
+AreInArena {K = K} {V = V} store (m ∷ maps) = ((j : K) (p : Stored K V) → m j ≡ Some p
+    → pair_of store p.number ≡ Some p) × AreInArena store maps
 
 -- if the event puts a pair into the map, no pair of this arena has its number
 abbrev pub ComesNew : {K V S : Type 0} → StoreState K V S → Event → Type 0
@@ -44,7 +44,7 @@ pub record HasTimeline {K V S A : Type 0} (eq : K → K → Bool) (says : Says K
   pub said : Answered V
   pub timeline : Timeline eq schedule (map_of eq s) h (last ∷ maps) said
   pub is_last : (j : K) → last j ≡ map_of eq s' j
-  pub logged : AreLogged s'.store (last ∷ maps)
+  pub logged : AreInArena s'.store (last ∷ maps)
   pub given : AreGiven says s'.store schedule h said
   pub fresh : AreNew s.store schedule h
   pub keeps : KeepsPairs s.store s'.store

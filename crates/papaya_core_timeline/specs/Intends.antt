@@ -13,7 +13,7 @@ use Rattle.papaya_call.specs.declared.made.Of.{Of}
 use Rattle.papaya_call.specs.declared.chain.scanner.ScannerState.{ScannerState}
 use Rattle.papaya_call.specs.declared.chain.scanner.ScannerState.TheVariants.{Burying}
 use Rattle.papaya_call.specs.declared.chain.scanner.Scan.TheVariants.{Retain}
-use Rattle.papaya_call_law.specs.Says.{Agrees, Inserts, Makes, Removes, StandsOn}
+use Rattle.papaya_call_law.specs.Says.{Agrees, Inserts, Makes, Removes, ActsOn}
 use Rattle.papaya_core_store.specs.declared.pairs.Running.{Running}
 use Rattle.papaya_core_store.specs.Performs.{own_value}
 use Rattle.papaya_core_store.specs.Store.{StoreState, Stored, pair_of}
@@ -48,15 +48,15 @@ module _ {K V S A : Type 0} (store : StoreState K V S) where
   -- A compute would store the value v, which its closure returned when it was called with `shown`:
   -- the call has this value, or a pair that it made has it.
   abbrev pub WouldStoreFor : Running K V A → Option ℕ → V → Type 0
-  WouldStoreFor r shown v = (StandsOn r.machine.call (Inserts shown)
+  WouldStoreFor r shown v = (ActsOn r.machine.call (Inserts shown)
       × (own_value store r ≡ Some v))
-      ⊎ ((n : ℕ) × StandsOn r.machine.call (Makes shown n) × HasValue store n v)
+      ⊎ ((n : ℕ) × ActsOn r.machine.call (Makes shown n) × HasValue store n v)
 
   abbrev pub IntendsAs : Task → Running K V A → Option ℕ → Operation V ℕ → Type 0
   IntendsAs (Insert replace) r shown (ops.Insert v) = WouldStore r v
-  IntendsAs RemoveIf r (Some n) ops.Remove = StandsOn r.machine.call (Agrees n true)
+  IntendsAs RemoveIf r (Some n) ops.Remove = ActsOn r.machine.call (Agrees n true)
   IntendsAs Compute r shown (ops.Insert v) = WouldStoreFor r shown v
-  IntendsAs Compute r (Some n) ops.Remove = StandsOn r.machine.call (Removes n)
+  IntendsAs Compute r (Some n) ops.Remove = ActsOn r.machine.call (Removes n)
   IntendsAs _ _ _ _ = ⊥
 
   -- What is under way would do `op` if the class of its key has the pair `shown`, or none: store a

@@ -16,7 +16,7 @@ use Rattle.papaya_call.specs.declared.chain.ask.Ask.TheVariants.{Call}
 use Rattle.papaya_call.specs.ChainMachine.{ask_of}
 use Rattle.papaya_call_law.specs.Goes.{link_in}
 use Rattle.papaya_call_law.specs.ChainRelies.{Relies}
-use Rattle.papaya_call_law.specs.ChainTold.{LoadedPairs, nothing_loaded}
+use Rattle.papaya_call_law.specs.ChainAnswers.{LoadedPairs, nothing_loaded}
 use Rattle.papaya_words_law.specs.Allows.{AllAllowed}
 use Rattle.papaya_words_law.specs.Code.{Coding}
 use Rattle.papaya_words_law.specs.Exchange.{Setting, Exchange, run, start}
@@ -26,8 +26,8 @@ use Rattle.papaya_words_law.specs.Hints.{IsHint}
 use Rattle.papaya_words_law.specs.Invariant.{named}
 use Rattle.papaya_words_law.specs.Meaning.{map_left}
 use Rattle.papaya_call_law.specs.Relies.{change_in}
-use Rattle.papaya_call_law.specs.Says.{IsAnswered, Makes, ShowsPairs, StandsOn}
-use Rattle.papaya_call_law.specs.Told.{IsOneOf, word_of}
+use Rattle.papaya_call_law.specs.Says.{IsAnswered, Makes, NamesPairs, ActsOn}
+use Rattle.papaya_call_law.specs.TrueAnswers.{IsOneOf, word_of}
 use Rattle.papaya_core_store.specs.declared.store.Mode.{Mode}
 use Rattle.papaya_core_store.specs.declared.pairs.Part.{Part}
 use Rattle.papaya_core_store.specs.declared.pairs.Running.{Running}
@@ -45,7 +45,7 @@ use Rattle.papaya_call.specs.declared.chain.scanner.ScannerState.{ScannerState}
 use Rattle.papaya_call.specs.declared.chain.scanner.ScannerState.TheVariants.{Copying}
 use Rattle.papaya_call.specs.declared.chain.scanner.Scan.{Scan}
 use Rattle.papaya_call.specs.declared.chain.scanner.Scan.TheVariants.{Retain}
-use Rattle.papaya_call_law.specs.ScanTold as scans
+use Rattle.papaya_call_law.specs.ScanAnswers as scans
 use Rattle.papaya_call_law.specs.Scans.{ReliesScanner}
 use Rattle.papaya_core_store.specs.declared.scans.Scanning.{Scanning}
 
@@ -138,8 +138,8 @@ HasAnswers _ left = Unit {0}
 
 module _ {K V S : Type 0} (store : StoreState K V S) where
   -- the arena has the pair p under its number
-  abbrev pub IsLogged : Stored K V → Type 0
-  IsLogged p = pair_of store p.number ≡ Some p
+  abbrev pub IsInArena : Stored K V → Type 0
+  IsInArena p = pair_of store p.number ≡ Some p
 
   -- there is a table of this number
   abbrev pub IsMade : ℕ → Type 0
@@ -157,8 +157,8 @@ module _ {K V S : Type 0} (eq : K → K → Bool) (hash : K → ℕ) (mode : Mod
       (call_trace : CallTrace K V) : Type 0 where
     pub relies : ReliesResizer (setting_of eq (low hash) mode store.words.tables)
         (coding_of (low hash)) (run es start) resizer call_trace.loaded
-    pub last : (p : Stored K V) → call_trace.loaded.call.last ≡ Some p → IsLogged store p
-    pub carried : (p : Stored K V) → call_trace.loaded.kept ≡ Some p → IsLogged store p
+    pub last : (p : Stored K V) → call_trace.loaded.call.last ≡ Some p → IsInArena store p
+    pub carried : (p : Stored K V) → call_trace.loaded.kept ≡ Some p → IsInArena store p
     -- the table that it is about to open or to link was made as requested
     pub opens : (t : ℕ) → resizer.state ≡ Opening t → IsMade store t
     pub links : (behind t chunks : ℕ) → HasLink resizer.state (Linking behind t chunks)
@@ -178,9 +178,9 @@ module _ {K V S A : Type 0} (eq : K → K → Bool) (hash : K → ℕ) (mode : M
     pub answers : HasAnswers v.scanner.scan v.answers
     -- its list has the numbers of the pairs that it returned
     pub given : v.given ≡ numbers_of call_trace.loaded.given
-    pub last : (p : Stored K V) → call_trace.loaded.copy.call.last ≡ Some p → IsLogged store p
-    pub carried : (p : Stored K V) → call_trace.loaded.copy.kept ≡ Some p → IsLogged store p
-    pub shown : (p : Stored K V) → WasShown call_trace.loaded.shown p → IsLogged store p
+    pub last : (p : Stored K V) → call_trace.loaded.copy.call.last ≡ Some p → IsInArena store p
+    pub carried : (p : Stored K V) → call_trace.loaded.copy.kept ≡ Some p → IsInArena store p
+    pub shown : (p : Stored K V) → WasShown call_trace.loaded.shown p → IsInArena store p
     -- the table that it is about to link was made as requested
     pub links : (behind t chunks : ℕ) → IsScanLink v.scanner.state (Linking behind t chunks)
         → IsMadeFor store t chunks
@@ -201,9 +201,9 @@ module _ {K V S A : Type 0} (eq : K → K → Bool) (hash : K → ℕ) (mode : M
     pub split : call_trace.begun ++ call_trace.since ≡ es
     pub relies : Relies (setting_of eq (low hash) mode store.words.tables) (coding_of (low hash))
         call_trace.begun call_trace.since key r.machine call_trace.loaded
-    pub last : (p : Stored K V) → call_trace.loaded.call.last ≡ Some p → IsLogged store p
-    pub carried : (p : Stored K V) → call_trace.loaded.kept ≡ Some p → IsLogged store p
-    pub made : (p : Stored K V) → IsOneOf call_trace.loaded.call.made p → IsLogged store p
+    pub last : (p : Stored K V) → call_trace.loaded.call.last ≡ Some p → IsInArena store p
+    pub carried : (p : Stored K V) → call_trace.loaded.kept ≡ Some p → IsInArena store p
+    pub made : (p : Stored K V) → IsOneOf call_trace.loaded.call.made p → IsInArena store p
     -- the table that it is about to open or to link was made as requested
     pub opens : (t : ℕ) → ask_of r.machine ≡ Call (Asks_exchange Root 0 t) → IsMade store t
     pub links : (behind t chunks : ℕ) → link_in r.machine.phase ≡ Some (Linking behind t chunks)
@@ -214,18 +214,18 @@ module _ {K V S A : Type 0} (eq : K → K → Bool) (hash : K → ℕ) (mode : M
         → (t x : ℕ) (q : Stored K V) → named ((run es start).slot t x) ≡ Some q
         → q.number ≢ p.number
     -- the word of a pair that its closure is called with, or was called with, is not 0
-    pub shows : ShowsPairs r.machine.call
+    pub shows : NamesPairs r.machine.call
     -- the value that it is to store, if it has one, is its own or in the arena
     pub valued : (part : Part V) → r.value ≡ Some part → (v : V)
         × (value_in store.pairs part ≡ Some v)
     -- a pair that is to replace another one has that value, unless a newer value is yet to be
     -- stored
-    pub again : (i n : ℕ) → StandsOn r.machine.call (Makes (Some i) n)
+    pub again : (i n : ℕ) → ActsOn r.machine.call (Makes (Some i) n)
         → IsAnswered r.machine.call.state ⊎ HasOwnValue r n
 
   -- The words are those that the exchanges es leave, which were allowed, and what each call under
   -- way relies on holds.
-  pub record IsKept (callers : List (Seat K V A)) (es : List (Exchange (Stored K V)))
+  pub record IsConsistent (callers : List (Seat K V A)) (es : List (Exchange (Stored K V)))
       (call_traces : ℕ → CallTrace K V) : Type 0 where
     pub allowed : AllAllowed (setting_of eq (low hash) mode store.words.tables) start es
     pub coded : (at : At) → word_of (setting_of eq (low hash) mode store.words.tables)
@@ -235,7 +235,7 @@ module _ {K V S A : Type 0} (eq : K → K → Bool) (hash : K → ℕ) (mode : M
         (coding_of (low hash)) (run es start) n i (hint_at store.words n i)
     pub made : (t : ℕ) → 0 < t → Comes (run es start) t → IsMade store t
     pub logged : (t x : ℕ) (p : Stored K V) → named ((run es start).slot t x) ≡ Some p
-        → IsLogged store p
+        → IsInArena store p
     -- the arena has no more pairs than it may have
     pub few : length store.pairs ≤ MAX_LOG_LEN
     -- there are no more tables than there may be
@@ -258,7 +258,7 @@ pub record IsLawfulCore {K V S A : Type 0} (eq : K → K → Bool) (hash : K →
     (store : StoreState K V S) (callers : List (Seat K V A)) (mode : Mode) : Type 0 where
   pub core : IsCore store callers mode
   pub law : (es : List (Exchange (Stored K V)))
-      × ((call_traces : ℕ → CallTrace K V) × IsKept eq hash mode store callers es call_traces)
+      × ((call_traces : ℕ → CallTrace K V) × IsConsistent eq hash mode store callers es call_traces)
 
 -- the traces after a step of the caller that made the exchanges `made`, with `loaded` as the pairs
 -- that its machine has learned of

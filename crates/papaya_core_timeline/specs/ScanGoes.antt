@@ -23,9 +23,9 @@ use Rattle.papaya_core_store.specs.declared.scans.Scanning.{Scanning}
 use Rattle.papaya_core_store.specs.Scans.{PerformsScan}
 
 -- why the list of a scan could not grow, if it could not; the scanner is given no answer then
-abbrev pub unheard : ScanAsk → Answer → Option Refused
-unheard (Given n) (answers.Call (Was_refused refused)) = Some refused
-unheard ask answer = None
+abbrev pub list_refusal : ScanAsk → Answer → Option Refused
+list_refusal (Given n) (answers.Call (Was_refused refused)) = Some refused
+list_refusal ask answer = None
 
 -- the refusal, if there is one, and otherwise the reply of the scanner
 abbrev pub reply_or : Option Refused → Option Reply → Option Reply
@@ -58,10 +58,10 @@ pub record Scans {K V S A : Type 0} (eq : K → K → Bool) (says : Says K V A) 
   pub later : Scanning A
   pub performs : PerformsScan eq says hash refuse ask s.store before answer s'.store later
   pub event_is : event ≡ event_of_scan (kind_of_ask before.scanner) ask answer
-  pub reply_is : reply ≡ reply_or (unheard ask answer) (reply_of (after before.scanner answer))
+  pub reply_is : reply ≡ reply_or (list_refusal ask answer) (reply_of (after before.scanner answer))
   pub callers : s'.callers ≡ with_work s.callers caller
       (goes_on reply (works.Scan (record later { scanner = after before.scanner answer })))
   pub mode : s'.mode ≡ s.mode
   pub initial : s'.initial ≡ s.initial
   pub cause : (refused : Refused) → reply ≡ Some (Reply_refused refused)
-      → (unheard ask answer ≡ Some refused) ⊎ IsScanCause before.scanner answer refused
+      → (list_refusal ask answer ≡ Some refused) ⊎ IsScanCause before.scanner answer refused

@@ -9,7 +9,7 @@ use Rattle.papaya_call.specs.declared.chain.ask.Answer.TheVariants as answers
 use Rattle.papaya_words_law.specs.Allows.{AllAllowed}
 use Rattle.papaya_words_law.specs.Exchange.{Exchange, run, start}
 use Rattle.papaya_words_law.specs.Meaning.{map_left}
-use Rattle.papaya_call_law.specs.Told.{word_of}
+use Rattle.papaya_call_law.specs.TrueAnswers.{word_of}
 use Rattle.papaya_core_store.specs.Tables.{word_at}
 use Rattle.papaya_core_store.specs.declared.store.Mode.{Mode}
 use Rattle.papaya_core_store.specs.Store.{KeepsPairs, StoreState, Stored}
@@ -19,14 +19,14 @@ use Rattle.papaya_core_timeline.specs.declared.trace.Event.TheVariants.{Changed}
 use Rattle.papaya_core_timeline.specs.declared.seat.Seat.{Seat}
 use Rattle.papaya_core_timeline.specs.Counted.{owed_in, owed_scan}
 use Rattle.papaya_core_timeline.specs.Core.{CoreState}
-use Rattle.papaya_core_timeline.specs.Kept.{CallTrace, IsKept, IsScanning, ScanTrace, coding_of, low, numbers_of, setting_of, told_call_traces, told_more}
+use Rattle.papaya_core_timeline.specs.Kept.{CallTrace, IsConsistent, IsScanning, ScanTrace, coding_of, low, numbers_of, setting_of, told_call_traces, told_more}
 use Rattle.papaya_core_timeline.specs.Maps.{IsUpdate, Same}
 use Rattle.papaya_call.specs.declared.chain.scanner.ScannerState.{ScannerState}
 use Rattle.papaya_call.specs.declared.chain.scanner.ScannerState.TheVariants.{Giving}
 use Rattle.papaya_call.specs.declared.chain.scanner.Scan.{Scan}
 use Rattle.papaya_call.specs.declared.chain.scanner.Scan.TheVariants.{Retain, Walk}
 use Rattle.papaya_call.specs.Scanner.{after}
-use Rattle.papaya_call_law.specs.ScanTold.{IsLastAnswer, IsScanTold, LoadedPairs}
+use Rattle.papaya_call_law.specs.ScanAnswers.{IsLastAnswer, IsTrueOfScan, LoadedPairs}
 use Rattle.papaya_call_law.specs.Scans.{HasScanned}
 use Rattle.papaya_core_store.specs.declared.scans.Scanning.{Scanning}
 
@@ -52,7 +52,7 @@ pub record HasScannedIn {K V S A : Type 0} (eq : K → K → Bool) (hash : K →
   pub list : v.given ≡ numbers_of call_trace.loaded.given
 
 -- memory ran out for a pair of the scan's list, and the store did not change
-pub record IsUnheard {K V S A : Type 0} (store : StoreState K V S) (v : Scanning A)
+pub record IsListRefused {K V S A : Type 0} (store : StoreState K V S) (v : Scanning A)
     (answer : Answer) (store' : StoreState K V S) : Type 0 where
   pub giving : (spot : _) × (word : ℕ) × (v.scanner.state ≡ Giving spot word)
   pub refused : answer ≡ answers.Call (Was_refused Memory)
@@ -60,17 +60,17 @@ pub record IsUnheard {K V S A : Type 0} (store : StoreState K V S) (v : Scanning
 
 -- The answer to a scanner's ask is true of the words, and what the scanner and the calls of all
 -- callers beside it rely on still holds. No pair is gone from the arena.
-pub record IsHeard {K V S A : Type 0} (eq : K → K → Bool) (hash : K → ℕ) (s : CoreState K V S A)
+pub record IsScanAnswered {K V S A : Type 0} (eq : K → K → Bool) (hash : K → ℕ) (s : CoreState K V S A)
     (caller : ℕ) (es : List (Exchange (Stored K V))) (call_traces : ℕ
     → CallTrace K V) (v : Scanning A)
     (call_trace : ScanTrace K V) (answer : Answer) (store' : StoreState K V S)
     (v' : Scanning A) : Type 0 where
   pub made : List (Exchange (Stored K V))
   pub loaded : LoadedPairs (Stored K V)
-  pub told : IsScanTold (setting_of eq (low hash) s.mode s.store.words.tables)
+  pub told : IsTrueOfScan (setting_of eq (low hash) s.mode s.store.words.tables)
       (coding_of (low hash)) (run es start) call_trace.since v.scanner.state call_trace.loaded
       answer made loaded
-  pub kept : IsKept eq hash s.mode store' s.callers (es ++ made)
+  pub kept : IsConsistent eq hash s.mode store' s.callers (es ++ made)
       (told_call_traces call_traces caller made (call_traces caller).loaded)
   pub scanning : IsScanning eq hash s.mode store' (record v' { scanner = after v.scanner answer })
       (es ++ made) (told_more call_trace made loaded)
@@ -99,7 +99,7 @@ pub record StaysBeside {K V S A : Type 0} (eq : K → K → Bool) (hash : K → 
     (call_trace : ScanTrace K V) : Type 0 where
   pub made : List (Exchange (Stored K V))
   pub call_traces : ℕ → CallTrace K V
-  pub kept : IsKept eq hash s'.mode s'.store s'.callers (es ++ made) call_traces
+  pub kept : IsConsistent eq hash s'.mode s'.store s'.callers (es ++ made) call_traces
   pub scanning : IsScanning eq hash s'.mode s'.store v (es ++ made)
       (told_more call_trace made call_trace.loaded)
 

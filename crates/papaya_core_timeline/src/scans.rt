@@ -10,14 +10,14 @@ ghost use Rattle.papaya_core_store.specs.Tables.{word_at};
 ghost use Rattle.papaya_core_timeline.specs.declared.trace.Event.{Event};
 ghost use Rattle.papaya_core_timeline.specs.Core.{CoreState, IsCore, work_of};
 ghost use Rattle.papaya_core_timeline.specs.Ends.{budget_of};
-ghost use Rattle.papaya_core_timeline.specs.Kept.{CallTrace, HasAnswers, IsKept, IsScanning, ScanTrace};
+ghost use Rattle.papaya_core_timeline.specs.Kept.{CallTrace, HasAnswers, IsConsistent, IsScanning, ScanTrace};
 ghost use Rattle.papaya_core_timeline.specs.Runs.{Steps};
-ghost use Rattle.papaya_call.specs.Scanner.{IsStandingScanner, after, ask_of, begun, reply_of};
+ghost use Rattle.papaya_call.specs.Scanner.{IsValidScanner, after, ask_of, begun, reply_of};
 ghost use Rattle.papaya_call.specs.ChainMachine.{IsFit};
 ghost use Rattle.papaya_call_alone.specs.Scanners.{IsScannerRead, scanner_measure};
-ghost use Rattle.papaya_call_law.specs.ScanTold.{nothing_loaded};
+ghost use Rattle.papaya_call_law.specs.ScanAnswers.{nothing_loaded};
 ghost use Rattle.papaya_core_store.specs.Scans.{PerformsScan};
-ghost use Rattle.papaya_core_timeline.specs.Scans.{HasScannedIn, IsHeard, IsUnheard};
+ghost use Rattle.papaya_core_timeline.specs.Scans.{HasScannedIn, IsScanAnswered, IsListRefused};
 ghost use Rattle.papaya_core_timeline.specs.Scans.{IsCountedBeside, MovesScan, StaysBeside};
 
 use papaya_call::answers::Answers;
@@ -39,7 +39,7 @@ pub fn scans_keep<K: Hash + Eq, V, S: BuildHasher, A: Answers<K, V>>()
         s.mode s.store v es (record { begun = es; since = []; loaded = nothing_loaded }) }
     ensures steps { (refuse : Bool) (s : CoreState K V S A)
         → IsCore s.store s.callers s.mode → (caller : ℕ) → work_of s caller ≡ None
-        → (es : List (Exchange (Stored K V))) (call_traces : ℕ → CallTrace K V) → IsKept K.eq
+        → (es : List (Exchange (Stored K V))) (call_traces : ℕ → CallTrace K V) → IsConsistent K.eq
         (hash_of K.hash_input S.build_hasher S.Hasher.write S.Hasher.finish s.store.hasher)
         s.mode s.store s.callers es call_traces → (v : Scanning A) (call_trace : ScanTrace K V)
         → IsScanning K.eq
@@ -48,16 +48,16 @@ pub fn scans_keep<K: Hash + Eq, V, S: BuildHasher, A: Answers<K, V>>()
         → (a : Answer) (store' : StoreState K V S) (v' : Scanning A)
         → PerformsScan K.eq (record { op = A.op_gives; yes = A.yes_gives })
         (hash_of K.hash_input S.build_hasher S.Hasher.write S.Hasher.finish) refuse ask s.store v a
-        store' v' → IsUnheard s.store v a store' ⊎ IsHeard K.eq
+        store' v' → IsListRefused s.store v a store' ⊎ IsScanAnswered K.eq
         (hash_of K.hash_input S.build_hasher S.Hasher.write S.Hasher.finish s.store.hasher) s
         caller es call_traces v call_trace a store' v' }
     ensures stands { (refuse : Bool) (s : CoreState K V S A) → IsCore s.store s.callers s.mode
-        → (v : Scanning A) → IsStandingScanner v.scanner → (ask : ScanAsk)
+        → (v : Scanning A) → IsValidScanner v.scanner → (ask : ScanAsk)
         → ask_of v.scanner ≡ Some ask → (a : Answer) (store' : StoreState K V S)
         (v' : Scanning A) → PerformsScan K.eq (record { op = A.op_gives; yes = A.yes_gives })
         (hash_of K.hash_input S.build_hasher S.Hasher.write S.Hasher.finish) refuse ask s.store v a
         store' v' → IsCore store' s.callers s.mode × IsFit a
-        × IsStandingScanner (after v.scanner a) }
+        × IsValidScanner (after v.scanner a) }
     ensures asks { (s : CoreState K V S A) (es : List (Exchange (Stored K V))) (v : Scanning A)
         (call_trace : ScanTrace K V) → IsScanning K.eq
         (hash_of K.hash_input S.build_hasher S.Hasher.write S.Hasher.finish s.store.hasher)
@@ -71,7 +71,7 @@ pub fn scans_keep<K: Hash + Eq, V, S: BuildHasher, A: Answers<K, V>>()
         s.mode s.store v call_trace }
     ensures beside { (refuse : Bool) (s : CoreState K V S A)
         → IsCore s.store s.callers s.mode → (es : List (Exchange (Stored K V)))
-        (call_traces : ℕ → CallTrace K V) → IsKept K.eq
+        (call_traces : ℕ → CallTrace K V) → IsConsistent K.eq
         (hash_of K.hash_input S.build_hasher S.Hasher.write S.Hasher.finish s.store.hasher)
         s.mode s.store s.callers es call_traces → (v : Scanning A) (call_trace : ScanTrace K V)
         → IsScanning K.eq
@@ -89,24 +89,24 @@ pub fn scans_keep<K: Hash + Eq, V, S: BuildHasher, A: Answers<K, V>>()
 /// count, with what the scanner and all callers have yet to add, is always the number of pairs.
 pub fn scans_move<K: Hash + Eq, V, S: BuildHasher, A>()
     ensures moves { (s : CoreState K V S A) → IsCore s.store s.callers s.mode
-        → (es : List (Exchange (Stored K V))) (call_traces : ℕ → CallTrace K V) → IsKept K.eq
+        → (es : List (Exchange (Stored K V))) (call_traces : ℕ → CallTrace K V) → IsConsistent K.eq
         (hash_of K.hash_input S.build_hasher S.Hasher.write S.Hasher.finish s.store.hasher)
         s.mode s.store s.callers es call_traces → (v : Scanning A) (call_trace : ScanTrace K V)
         → IsScanning K.eq
         (hash_of K.hash_input S.build_hasher S.Hasher.write S.Hasher.finish s.store.hasher)
         s.mode s.store v es call_trace → (caller : ℕ) (a : Answer) (store' : StoreState K V S)
-        (v' : Scanning A) → IsHeard K.eq
+        (v' : Scanning A) → IsScanAnswered K.eq
         (hash_of K.hash_input S.build_hasher S.Hasher.write S.Hasher.finish s.store.hasher) s
         caller es call_traces v call_trace a store' v' → IsCore store' s.callers s.mode
         → MovesScan K.eq s.store store' v.scanner.scan call_trace.loaded.shown }
     ensures counted { (s : CoreState K V S A) → IsCore s.store s.callers s.mode
-        → (es : List (Exchange (Stored K V))) (call_traces : ℕ → CallTrace K V) → IsKept K.eq
+        → (es : List (Exchange (Stored K V))) (call_traces : ℕ → CallTrace K V) → IsConsistent K.eq
         (hash_of K.hash_input S.build_hasher S.Hasher.write S.Hasher.finish s.store.hasher)
         s.mode s.store s.callers es call_traces → (v : Scanning A) (call_trace : ScanTrace K V)
         → IsScanning K.eq
         (hash_of K.hash_input S.build_hasher S.Hasher.write S.Hasher.finish s.store.hasher)
         s.mode s.store v es call_trace → (caller : ℕ) (a : Answer) (store' : StoreState K V S)
-        (v' : Scanning A) → IsHeard K.eq
+        (v' : Scanning A) → IsScanAnswered K.eq
         (hash_of K.hash_input S.build_hasher S.Hasher.write S.Hasher.finish s.store.hasher) s
         caller es call_traces v call_trace a store' v' → IsCore store' s.callers s.mode
         → IsCountedBeside K.eq s.store s.callers v.scanner.state
@@ -118,18 +118,18 @@ pub fn scans_move<K: Hash + Eq, V, S: BuildHasher, A>()
 /// step it until it replies.
 pub fn scans_end<K: Hash + Eq, V, S: BuildHasher, A: Answers<K, V>>()
     ensures { (refuse : Bool) (s : CoreState K V S A) → IsCore s.store s.callers s.mode
-        → (es : List (Exchange (Stored K V))) (call_traces : ℕ → CallTrace K V) → IsKept K.eq
+        → (es : List (Exchange (Stored K V))) (call_traces : ℕ → CallTrace K V) → IsConsistent K.eq
         (hash_of K.hash_input S.build_hasher S.Hasher.write S.Hasher.finish s.store.hasher)
         s.mode s.store s.callers es call_traces → (v : Scanning A) (call_trace : ScanTrace K V)
         → IsScanning K.eq
         (hash_of K.hash_input S.build_hasher S.Hasher.write S.Hasher.finish s.store.hasher)
-        s.mode s.store v es call_trace → IsStandingScanner v.scanner
+        s.mode s.store v es call_trace → IsValidScanner v.scanner
         → IsScannerRead (word_at s.store.words) v.scanner
         → (ask : ScanAsk) → ask_of v.scanner ≡ Some ask → (a : Answer)
         (store' : StoreState K V S) (v' : Scanning A)
         → PerformsScan K.eq (record { op = A.op_gives; yes = A.yes_gives })
         (hash_of K.hash_input S.build_hasher S.Hasher.write S.Hasher.finish) refuse ask s.store v a
-        store' v' → (caller : ℕ) → IsHeard K.eq
+        store' v' → (caller : ℕ) → IsScanAnswered K.eq
         (hash_of K.hash_input S.build_hasher S.Hasher.write S.Hasher.finish s.store.hasher) s
         caller es call_traces v call_trace a store' v'
         → IsScannerRead (word_at store'.words) (after v.scanner a)

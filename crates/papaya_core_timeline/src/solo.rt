@@ -31,7 +31,7 @@ pub fn one_call<K: Hash + Eq, V, S: BuildHasher, A, B>()
         s.store.hasher) s.store s.callers s.mode → RunsAlone K.eq
         (hash_of K.hash_input S.build_hasher S.Hasher.write S.Hasher.finish) s call reply s'
         → IsAnswered K.eq call (map_of K.eq s) reply (map_of K.eq s') }
-    ensures logs { (s s' : CoreState K V S A) (call : Call K V A) (reply : Reply)
+    ensures stores { (s s' : CoreState K V S A) (call : Call K V A) (reply : Reply)
         → IsLawfulCore K.eq (hash_of K.hash_input S.build_hasher S.Hasher.write S.Hasher.finish
         s.store.hasher) s.store s.callers s.mode → RunsAlone K.eq
         (hash_of K.hash_input S.build_hasher S.Hasher.write S.Hasher.finish) s call reply s'

@@ -6,7 +6,7 @@ use Rattle.papaya_words.specs.declared.refused.Refused.{Refused}
 use Rattle.papaya_words.specs.declared.resize_mode.ResizeMode.TheVariants.{Incremental}
 use Rattle.papaya_core_timeline.specs.Content.{content}
 use Rattle.papaya_core_timeline.specs.New.{IsNew}
-use Rattle.papaya_seq.specs.Entries.{Fills, IsCutAnew, IsPut}
+use Rattle.papaya_seq.specs.Entries.{Fills, IsCutNew, IsPut}
 use Rattle.papaya_seq.specs.Map.{MapState, core_of}
 use Rattle.papaya_seq.proofs.Filled.{cut, fills_more, fills_none, just, new_with_own}
 use Rattle.papaya_json.specs.Reads.{IsRead}
@@ -39,7 +39,7 @@ module _ {K V S A B : Type 0} (eq : K → K → Bool) (reads : A → B → Type 
       }
 
     pub filled_cut : (it : B) (refused : Refused) (s' : MapState K V S) → IsPut eq (shows it).0 (shows it).1 s (Err refused) s'
-        → IsCutAnew S eq shows filled.done it refused
+        → IsCutNew S eq shows filled.done it refused
     filled_cut it refused s' puts = record {
       new = filled.new;
       left = s';

@@ -3,7 +3,7 @@ use Rattle.std.specs.Prelude.{◌≡◌, Bool, ◌⊎◌, List, ◌∷◌, ◌++
 use Rattle.std.specs.List.{AllZip}
 use Rattle.papaya_words.specs.declared.refused.Refused.{Refused}
 use Rattle.papaya_words.specs.declared.refused.Refused.TheVariants.{Item, Memory}
-use Rattle.papaya_seq.specs.Entries.{HasJust, IsCutAnew}
+use Rattle.papaya_seq.specs.Entries.{HasJust, IsCutNew}
 use Rattle.papaya_seq.specs.Map.{MapState}
 
 -- Each item before some item was read, and `so` holds of what was read from these and of that item.
@@ -30,4 +30,4 @@ abbrev pub IsReadRefusal : {K V A B : Type 0} → (S : Type 0) → (K → K → 
     → (A → B → Type 0) → (A → Type 0) → (B → K × V) → Refused → List A → Type 0
 IsReadRefusal {B = B} S eq reads unread shows refused items = (refused ≡ Memory)
     ⊎ StopsAt reads items (λ done item. ((refused ≡ Item) × unread item)
-    ⊎ ((it : B) × reads item it × IsCutAnew S eq shows done it refused))
+    ⊎ ((it : B) × reads item it × IsCutNew S eq shows done it refused))

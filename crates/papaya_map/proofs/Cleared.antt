@@ -1,10 +1,10 @@
 -- If the closure of `retain` never returned `true`, no entry is left.
 use Rattle.std.proofs.Common.{◌≡◌, inl, inr, ⊎_elim, Bool, true, false, Ok, Err, Result, IfOk, List, [], ◌∷◌, sym, ap, ◌∙◌}
 use Rattle.papaya_words.specs.declared.refused.Refused.{Refused}
-use Rattle.papaya_call_law.specs.ScanTold.{IsLastAnswer}
+use Rattle.papaya_call_law.specs.ScanAnswers.{IsLastAnswer}
 use Rattle.papaya_map_book.specs.Logs.{Member, Stored}
 use Rattle.papaya_map_lookup.specs.History.{Change}
-use Rattle.papaya_map_change.proofs.Showings.{said_only}
+use Rattle.papaya_map_change.proofs.ClosureCalls.{said_only}
 use Rattle.papaya_map_scan.specs.Leaving.{HasKept, IsCleared}
 
 -- a last answer is one of the answers

@@ -7,7 +7,7 @@ use Rattle.papaya_words.specs.declared.refused.Refused.{Refused}
 use Rattle.papaya_map_book.specs.Logs.{Stored}
 use Rattle.papaya_map_change.specs.Changes.{IsChangeOf, IsPut}
 use Rattle.papaya_map_change.specs.RemovalAnswers.{IsRemoved}
-use Rattle.papaya_map_change.specs.Showings.{WasHeld}
+use Rattle.papaya_map_change.specs.ClosureCalls.{WasHeld}
 use Rattle.papaya_map_lookup.specs.Answers.{IsFoundBetween}
 use Rattle.papaya_map_lookup.specs.History.{Change}
 use Rattle.papaya_map.specs.Fixed.{Pinned}

@@ -31,7 +31,7 @@ use Rattle.std.proofs.raw_atomic.Walks.{proved_at, leaves}
 use Rattle.logbook.specs.Pages.{Book}
 use Rattle.logbook.specs.Kept.{Rules, seen_owns, fact as said}
 use Rattle.logbook.specs.declared.tokens.Rule.{Ghosts}
-use Rattle.papaya_map.proofs.Telling.{Good, Told, held, seen, told_out}
+use Rattle.papaya_map.proofs.Telling.{Good, Observed, held, seen, told_out}
 use Rattle.papaya_map.proofs.ToldWalks.{Walk}
 
 -- nothing is had of any parameter at exit
@@ -63,7 +63,7 @@ module _ (E A P : RattleType) (g : Ghosts P.Denot E.Denot A.Denot) (T : Ended) w
   Answer κs = type_at T.signature.result κs
 
   abbrev pub Tells : Lfts T.signature.lifetimes → RattleType
-  Tells κs = Told (Answer κs) E A P g
+  Tells κs = Observed (Answer κs) E A P g
 
   -- the callee's: as the call's, and it tells its answer
   abbrev pub asked : Ended

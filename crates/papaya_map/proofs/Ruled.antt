@@ -8,9 +8,9 @@ use Rattle.papaya_call.specs.declared.answers.Operation.TheVariants as operation
 use Rattle.papaya_map_book.specs.Logs.{Member, Stored}
 use Rattle.papaya_map_lookup.specs.History.{Change, key_of}
 use Rattle.papaya_map_change.specs.Changes.{IsChangeOf}
-use Rattle.papaya_map_change.specs.Showings.{HasNoNone, HasSaid, IsNoneOnce, IsSamePair, WasHeld, WasLast}
+use Rattle.papaya_map_change.specs.ClosureCalls.{HasNoNone, HasReturned, IsNoneOnce, IsSamePair, WasHeld, WasLast}
 use Rattle.papaya_map_change.specs.Writing.{IsMemoryCapacityOrLimit}
-use Rattle.papaya_map_change.proofs.Showings.{said_so, shown_each}
+use Rattle.papaya_map_change.proofs.ClosureCalls.{said_so, shown_each}
 use Rattle.papaya_map_compute.specs.Computing.{value_in}
 use Rattle.papaya_map_compute.specs.Deciding.{IsDecided, IsDecidedOf, Wishes}
 use Rattle.papaya_map_compute.specs.declared.deciding.Decided.{Decided}
@@ -48,12 +48,12 @@ module _ {K V F G : Type 0} (says : F → Option (Stored K V) → Wish V → F �
     (keeps : (f g : F) (p : Stored K V) (op : Wish V) → says f (Some p) op g → supply g ≡ supply f)
     (spends : (f g : F) (op : Wish V) (s : G) → supply f ≡ Some s → says f None op g → (supply g ≡ None)
     × ((v : V) × gives s v × (op ≡ operation.Insert v))) where
-  unasked : (f g : F) (heard : List (Option (Stored K V) × Wish V)) → HasSaid says f heard g → HasNoNone heard → supply g ≡ supply f
+  unasked : (f g : F) (heard : List (Option (Stored K V) × Wish V)) → HasReturned says f heard g → HasNoNone heard → supply g ≡ supply f
   unasked f g [] has none = ap supply has
   unasked f g ((None, op) ∷ before) has none = absurd none
   unasked f g ((Some p, op) ∷ before) has none = keeps has.0 g p op has.2 ∙ unasked f has.0 before has.1 none
 
-  asked_once : (f g : F) (s : G) → supply f ≡ Some s → (heard : List (Option (Stored K V) × Wish V)) → HasSaid says f heard g → IsNoneOnce heard
+  asked_once : (f g : F) (s : G) → supply f ≡ Some s → (heard : List (Option (Stored K V) × Wish V)) → HasReturned says f heard g → IsNoneOnce heard
       → (op : Wish V) → Member (None, op) heard → (supply g ≡ None) × ((v : V) × gives s v × (op ≡ operation.Insert v))
   asked_once f g s has_s [] has once op m = absurd m
   asked_once f g s has_s ((None, done) ∷ before) has once op (inl e) =

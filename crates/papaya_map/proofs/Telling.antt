@@ -25,7 +25,7 @@ use denote.Struct.Tuple.{Tuple, tuple_laws}
 use Rattle.std.specs.contracts.marker.PhantomData as marker
 use Rattle.logbook.specs.declared.tokens.Rule.{Ghosts}
 use Rattle.logbook.specs.Kept.{rules, seen_owns}
-use Rattle.papaya_map.specs.contracts.told.Told as told
+use Rattle.papaya_map.specs.contracts.observed.Observed as told
 use base.Fml.{Fml, Lft}
 
 abbrev pub Good : Ty → Val → Type 0
@@ -59,22 +59,22 @@ abbrev pub held : Val → Val
 held v = vstruct (vcons v (vcons (vstruct vnil) vnil))
 
 module _ (B E A P : RattleType) (g : Ghosts P.Denot E.Denot A.Denot) where
-  abbrev pub Told : RattleType
-  Told = told.the_row B E A P g
+  abbrev pub Observed : RattleType
+  Observed = told.the_row B E A P g
 
   abbrev pub Mark : RattleType
   Mark = marker.the_row (Tuple (E ∷ A ∷ P ∷ []))
 
-  abbrev pub seen : Told.Denot → Fml
+  abbrev pub seen : Observed.Denot → Fml
   seen d = seen_owns E.coded.code (rules g.holds g.shows g.keeps) d.book d.names d.log
 
   pub held_good : (v : Val) → Good (layout B) v → T (has_ty (layout B) v && true) × WT (held v)
   held_good v fits = (and_tt (has_ty (layout B) v) fits.0, (fits.1, (tt, tt)))
 
   module _ {M : Type 1} {𝓤 : Ura M} {𝓛 : Logic 𝓤} {K : Type 0} {Γ : List (Item 𝓤)} {G : Goal 𝓤 𝓛.H} where
-    pub told_out : K → Laws B → (d : Told.Denot) (vs : List Val)
+    pub told_out : K → Laws B → (d : Observed.Denot) (vs : List Val)
         → ((v : Val) → Good (layout B) v → vs ≡ held v ∷ [] → Seq K 𝓛 (‵ (B.own_val d.answer (v ∷ [])) ∷ ‵ (seen d) ∷ Γ) G)
-        → Seq K 𝓛 (‵ (Told.own_val d vs) ∷ Γ) G
+        → Seq K 𝓛 (‵ (Observed.own_val d vs) ∷ Γ) G
     told_out t L d vs k =
         fsplit t $ fpick t (λ vss. fsplit t $ feq_l t (λ e. fsplit t $ peeks t B (Is B) (shows 𝓛 B) d.answer vss.0 (λ i.
         let got = one (layout B) vss.0 (subst (λ (ρs : List Ty). Typed ρs vss.0) L.one ((L.lawful 𝓛).typed d.answer vss.0 i)) in
@@ -82,7 +82,7 @@ module _ (B E A P : RattleType) (g : Ghosts P.Denot E.Denot A.Denot) where
         d.marker vss.1.0 (λ j.
         drop t $ drop t $ k got.0 got.2 (e ∙ (λ n. vstruct (of_list (got.1 n ++ (j.1.0 n ++ []))) ∷ []))))))
 
-    pub told_in : K → (d : Told.Denot) (v : Val) → Step K 𝓛 (‵ (Told.own_val d (held v ∷ [])) ∷ Γ) G (‵ (seen d) ∷ ‵ (B.own_val d.answer (v ∷ [])) ∷ Γ) G
+    pub told_in : K → (d : Observed.Denot) (v : Val) → Step K 𝓛 (‵ (Observed.own_val d (held v ∷ [])) ∷ Γ) G (‵ (seen d) ∷ ‵ (B.own_val d.answer (v ∷ [])) ∷ Γ) G
     told_in t d v = step (λ s.
         nothing t $ use0 𝓛 (‵ (Mark.own_val d.marker (vstruct vnil ∷ [])))
         (makes_shadow 𝓛 (Mark.own_val d.marker (vstruct vnil ∷ [])) (λ uss. (tt, tt)) (tt, (refl, tt))) $ fjoin t $

@@ -8,7 +8,7 @@ use Rattle.papaya_words_keys.specs.declared.results.OccupiedError.{OccupiedError
 use Rattle.papaya_map_lookup.specs.History.{Change, Makes, key_of}
 use Rattle.papaya_words.specs.declared.refused.Refused.{Refused}
 use Rattle.papaya_map_change.specs.Changes.{IsChangeOf}
-use Rattle.papaya_map_change.specs.Showings.{WasHeld}
+use Rattle.papaya_map_change.specs.ClosureCalls.{WasHeld}
 
 -- The value that was passed in, which is returned because it was not stored, or because it was
 -- stored in the arena and lost the race.

@@ -15,8 +15,8 @@ ghost use Rattle.papaya_seq.specs.Entries.{AllCome, ComesNext};
 ghost use Rattle.papaya_seq.specs.Map.{deref_pair};
 
 use crate::map::HashMap;
+use crate::observed::Observed;
 use crate::pass::Pass;
-use crate::told::Told;
 use papaya_words::refused::Refused;
 use papaya_words::resize_mode::ResizeMode;
 use std::alloc::Global;
@@ -50,7 +50,7 @@ impl<K: Hash + Eq + Drop, V: Drop, S: BuildHasher> HashMap<K, V, S> {
     {
         let mut pass = self.begun(Some(self.number()));
         let answer = self.extend_as(rt, iter, &mut pass);
-        let Told {
+        let Observed {
             answer: _,
             marker: _,
         } = pass.tell(());
@@ -112,7 +112,7 @@ impl<K: Hash + Eq + Copy + Drop, V: Copy + Drop, S: BuildHasher> HashMap<K, V, S
     {
         let mut pass = self.begun(Some(self.number()));
         let answer = self.extend_ref_as(rt, iter, &mut pass);
-        let Told {
+        let Observed {
             answer: _,
             marker: _,
         } = pass.tell(());
@@ -369,7 +369,7 @@ impl<K: Hash + Eq + Clone + Drop, V: Clone + Drop, S: BuildHasher + Clone + Drop
         ensures err { IfErr result (λ refused. IsPlainRefusal self.old.begun.limit refused
             × (self.new ≡ self.old)) }
     {
-        let mut fresh = self.anew(rt)?;
+        let mut fresh = self.new_like(rt)?;
         self.copy_into(rt, &mut fresh)?;
         *self = fresh;
         Ok(())

@@ -7,8 +7,8 @@ ghost use Rattle.std.specs.Int.{IsPowerOfTwo};
 ghost use Rattle.papaya_map_book.specs.Books.{IsIn};
 ghost use Rattle.papaya_map_book.specs.Logs.{pair_named};
 ghost use Rattle.papaya_map_book.specs.Windows.{IsLawful};
-ghost use Rattle.papaya_map_change.specs.Showings.{Operates};
-ghost use Rattle.papaya_map_change.specs.Window.Ends.{Ends, TellsWhy};
+ghost use Rattle.papaya_map_change.specs.ClosureCalls.{Operates};
+ghost use Rattle.papaya_map_change.specs.Window.Ends.{Ends, HasCause};
 ghost use Rattle.papaya_map_compute.specs.FastPath.{ComesTo, IsOnItsWay};
 ghost use Rattle.papaya_map_compute.specs.ComputeAnswers.{IsComputeBy, changes};
 ghost use Rattle.papaya_map_lookup.specs.Drivers.{past};
@@ -22,7 +22,7 @@ use papaya_map_book::window::Window;
 use papaya_map_change::driver::Means;
 use papaya_map_change::fast_path::ProbeHit;
 use papaya_map_change::removal::entry;
-use papaya_map_compute::fast_path::{Attempt, Start, fill, look, machine_of, renew};
+use papaya_map_compute::fast_path::{Attempt, Start, fill, machine_of, renew, search_root};
 use papaya_map_compute::slow_path::ComputeStep as Next;
 use papaya_map_lookup::lookup::hash;
 use papaya_words::refused::Refused;
@@ -85,8 +85,8 @@ fn compute_fast<
 {
     let book = window.book;
     let hash = hash(&book.parts.hasher, &key);
-    let Some(spot) = look(window, &key, hash) else {
-        return Attempt::On(Start::Anew(key));
+    let Some(spot) = search_root(window, &key, hash) else {
+        return Attempt::On(Start::Beginning(key));
     };
     let table = spot.table;
     match spot.turn {
@@ -99,7 +99,7 @@ fn compute_fast<
             let again = f(Some(old));
             renew(means, window, key, hash, table, live, old, again)
         }
-        _ => Attempt::On(Start::Anew(key)),
+        _ => Attempt::On(Start::Beginning(key)),
     }
 }
 
@@ -126,7 +126,7 @@ fn compute_slow<
     requires can { (since : _) × (key : K) × (first : F) × IsOnItsWay since window.old key
         (Operates F.FnMut) first f.old start }
     ensures ends { Ends (changes result) window.old window.new }
-    ensures tells { TellsWhy means.now.initial window.new given.new.done
+    ensures tells { HasCause means.now.initial window.new given.new.done
         (λ cause. result ≡ Err cause) }
     ensures computed { (since : _) (key : K) (first : F) → IsOnItsWay since window.old key
         (Operates F.FnMut) first f.old start → IsComputeBy K.eq key (past since)
@@ -137,9 +137,9 @@ fn compute_slow<
     for _ in means.rt.forever() {
         match computing.turn(means, window) {
             Next::Answered(answer) => computing.advance(means, answer, window),
-            Next::Shows(shown) => {
+            Next::CallsClosure(shown) => {
                 let operation = operate(book, &shown, f);
-                let answer = computing.hear(shown, operation);
+                let answer = computing.record_result(shown, operation);
                 computing.advance(means, answer, window);
             }
             Next::Replied => {
@@ -175,7 +175,7 @@ pub fn compute<
     requires callable { F.IsAlwaysCallable f }
     requires initial { IsPowerOfTwo initial }
     ensures ends { Ends (changes result) window.old window.new }
-    ensures tells { TellsWhy initial window.new given.new.done (λ cause. result ≡ Err cause) }
+    ensures tells { HasCause initial window.new given.new.done (λ cause. result ≡ Err cause) }
     ensures computed { IsComputeBy K.eq key (past window.old) (past window.new) (Operates F.FnMut) f
         result }
 {

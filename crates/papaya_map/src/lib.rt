@@ -16,7 +16,7 @@
 //!   caller (`get_as` and its like), and the session's calls of that name call them.
 //! - [`collecting`] has the calls that take many entries or copy a map, and [`builder`] the builder
 //!   of a map.
-//! - [`told`] has what a call returns beside its result: the evidence of the history that the
+//! - [`observed`] has what a call returns beside its result: the evidence of the history that the
 //!   result is of.
 //!
 //! Each call runs its machine by a driver: `papaya_map_lookup` has that of lookups,
@@ -28,7 +28,7 @@ pub mod builder;
 pub mod collecting;
 mod keeping;
 pub mod map;
+pub mod observed;
 pub mod pass;
 mod printing;
 pub mod session;
-pub mod told;

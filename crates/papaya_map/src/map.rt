@@ -14,11 +14,11 @@ mod guards;
 mod inserting;
 mod lookups;
 pub mod making;
+mod observed;
 mod removals;
 mod resizing;
 mod scans;
 mod sizes;
-mod told;
 mod updating;
 
 pub use crate::pass::Pass;

@@ -10,7 +10,7 @@ ghost use Rattle.papaya_map_book.specs.Windows.{IsLawful};
 ghost use Rattle.papaya_map_lookup.specs.Drivers.{own, past};
 ghost use Rattle.papaya_map_lookup.specs.History.{IsLegalHistory, Past, changes_by, history_of, key_of};
 
-use crate::told::{Told, tell};
+use crate::observed::{Observed, tell};
 use papaya_map_book::book::Book;
 use papaya_map_book::book::kept::KeptRoot;
 use papaya_map_book::rule::entry::{Event, Named, Step};
@@ -79,9 +79,9 @@ impl<K: Hash + Eq, V, S: BuildHasher> Pass<K, V, S> {
 
     /// Returns a result, with evidence of the history that the pass has observed, and with the
     /// changes made by it. A call that creates its own pass shows by this which history its result
-    /// is of, and which changes it made: see [`Told`].
+    /// is of, and which changes it made: see [`Observed`].
     #[inline(always)]
-    pub fn tell<B>(&self, answer: B) -> Told<B, Event<K, V, S>, Named<K, V>, Law<K, V, S>>
+    pub fn tell<B>(&self, answer: B) -> Observed<B, Event<K, V, S>, Named<K, V>, Law<K, V, S>>
         ensures answer { result.answer ≡ answer }
         ensures book { result.book ≡ self.now.book }
         ensures history { history_of result.log ≡ self.now.history }

@@ -13,8 +13,8 @@ mod scans;
 mod updating;
 
 use crate::map::{HashMap, HashMapRef};
+use crate::observed::{Observed, Saying};
 use crate::pass::Pass;
-use crate::told::{Saying, Told};
 use papaya_map_scan::walk::Iter;
 use papaya_words::refused::Refused;
 use papaya_words_keys::guard::Guard;
@@ -120,7 +120,7 @@ impl<'a, K: Hash + Eq, V, S: BuildHasher> Session<'a, K, V, S> {
     pub fn legal(&self)
         ensures { IsLegalHistory K.eq key_of self.now.history }
     {
-        let Told {
+        let Observed {
             answer: _,
             marker: _,
         } = self.pass.tell(());
@@ -128,7 +128,7 @@ impl<'a, K: Hash + Eq, V, S: BuildHasher> Session<'a, K, V, S> {
 
     /// Returns a result together with evidence of the history that the session has observed and of
     /// the changes that it made. A call that creates its own session uses this to state for which
-    /// history its result is correct, and which changes it made: see [`Told`].
+    /// history its result is correct, and which changes it made: see [`Observed`].
     #[inline(always)]
     pub fn tell<B>(&self, answer: B) -> Saying<B, K, V, S>
         ensures answer { result.answer ≡ answer }

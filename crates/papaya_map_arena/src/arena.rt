@@ -76,9 +76,9 @@ impl<T> Model for Arena<T> {
 
     ghost coded = { shelves_coded };
 
-    ghost view = { λ log. record { tag = []; buckets = log.rows.items } };
+    ghost view = { λ arena. record { tag = []; buckets = arena.rows.items } };
 
-    ghost invariant = { λ log. AreRows log.first_bits log.lanes log.rows.items };
+    ghost invariant = { λ arena. AreRows arena.first_bits arena.lanes arena.rows.items };
 }
 
 /// Returns how many bits an index in a part of the first row has, for this capacity.
@@ -174,7 +174,7 @@ impl<T: Drop> Arena<T> {
     /// Creates an empty arena. Its first row will have `capacity` slots, rounded up to a power of
     /// two and at least 32.
     pub fn new(alloc: Global, capacity: usize) -> Result<Arena<T>, AllocError>
-        ensures { IfOk result (λ log. log.tag ≡ []) }
+        ensures { IfOk result (λ arena. arena.tag ≡ []) }
     {
         let first_bits = first_bits(capacity);
         let lanes = Lanes::new(alloc)?;

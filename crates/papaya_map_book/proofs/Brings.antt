@@ -16,7 +16,7 @@ use Rattle.papaya_words_law.specs.Code.{Coding}
 use Rattle.papaya_words_law.specs.Exchange.{Setting, State, after, at_put, start}
 use Rattle.papaya_words_law.specs.Grows.{AllSized, Entry, IsLawfulPlan, Plan, chunks_in, exchanges, places_in, setting_in, size_in}
 use Rattle.papaya_words.specs.declared.resize_mode.ResizeMode.{ResizeMode}
-use Rattle.papaya_call_law.specs.Told.{IsWritten, word_of}
+use Rattle.papaya_call_law.specs.TrueAnswers.{IsWritten, word_of}
 use Rattle.papaya_words_law.proofs.Logs.{log_grows, lawful_in}
 use Rattle.papaya_map_book.specs.declared.rule.entry.Begun.{Begun}
 use Rattle.papaya_map_book.specs.declared.rule.entry.Named.{Named}
@@ -33,7 +33,7 @@ use Rattle.papaya_map_book.specs.Logs.{seals_of, setting_of, setting_with, slots
 use Rattle.papaya_map_book.specs.Logs.{table_in, word_names}
 use Rattle.papaya_map_book.specs.Makers.{Brings, CanBring, IsMade, key_of, table_of}
 use Rattle.papaya_map_book.specs.Rows.{row_len}
-use Rattle.papaya_map_book.specs.Rule.{IsBlank, IsKept, IsLawfulLog, IsOfMap, IsPlaced, flag, seal_at, word_in}
+use Rattle.papaya_map_book.specs.Rule.{IsBlank, AreCodes, IsLawfulLog, IsOfMap, IsPlaced, flag, seal_at, word_in}
 use Rattle.papaya_map_book.specs.Offer.{Answered, LeavesRow, Moved}
 use Rattle.papaya_map_book.specs.Sheets.{Sheet}
 use Rattle.papaya_map_book.proofs.Cells.{cell_other, cell_same, home_still, same_or_not}
@@ -98,7 +98,7 @@ made_since sheet v log pre m =
 
 module _ {K V S : Type 0} (eq : K → K → Bool) (hash : S → K → ℕ)
     (plans : (mode : ResizeMode) (most : Option ℕ) (s : S) → IsLawfulPlan (plan_of {V = V} eq (hash s) mode most))
-    (cs : List Cell) (log : List (Event K V S)) (h : IsKept eq hash cs log) (e : Step K V) (w : Where Sheet) (with_it : comes e ≡ names.Table w)
+    (cs : List Cell) (log : List (Event K V S)) (h : AreCodes eq hash cs log) (e : Step K V) (w : Where Sheet) (with_it : comes e ≡ names.Table w)
     (at : At) (k new : ℕ) (key : key_at (steps_of log) at ≡ Some k) (some : new ≢ 0)
     (may : Allows (setting_with eq (hash h.begun.hasher) h.begun.mode h.begun.limit (names.Table w) log) (state_of log) (exchange_of e))
     (written : IsWritten (setting_of eq (hash h.begun.hasher) h.begun.mode h.begun.limit log) (coding_of (hash h.begun.hasher)) (state_of log) at new
@@ -273,7 +273,7 @@ module _ {K V S : Type 0} (eq : K → K → Bool) (hash : S → K → ℕ)
       (made.owned a j n.key))
       (same_or_not j w.value.seal (j == w.value.seal) refl)
 
-  pub kept_brought : IsKept eq hash cs' log'
+  pub kept_brought : AreCodes eq hash cs' log'
   kept_brought =
       let long : length cs' ≡ length cs = length-set (slice_set cs k (new, true)) w.value.seal (0, true) ∙ length-set cs k (new, true) in
       let many = h.many in record {
@@ -336,9 +336,9 @@ module _ {K V S : Type 0} (eq : K → K → Bool) (hash : S → K → ℕ)
     (with_it : brought ask ≡ names.Table w) (some : new ≢ 0) (name : Book) (named : name_in v ≡ Some name)
     (placed : IsPlaced b (Some name) (names.Table w)) (made : IsMade w.value v)
     (can : CanBring eq hash b (place_of ask) (kind_of ask) old new (made_of ask) w v) where
-  brings_goes : (cs : List Cell) (log : List (Event K V S)) (h : IsKept eq hash cs log) → IsPrefix v log → h.begun ≡ b → w.value.seal < length cs
+  brings_goes : (cs : List Cell) (log : List (Event K V S)) (h : AreCodes eq hash cs log) → IsPrefix v log → h.begun ≡ b → w.value.seal < length cs
       → (cell cs w.value.seal).1 ≡ false → (t : Bool) → ((cell cs k).0 == old) ≡ t
-      → Goes (IsKept eq hash) shows (Moved ask) k (v, (nib may_write w.value.seal 0, None)) (λ n. either (n == old) new n)
+      → Goes (AreCodes eq hash) shows (Moved ask) k (v, (nib may_write w.value.seal 0, None)) (λ n. either (n == old) new n)
       (Brings eq hash (step k old new ask) (v, (nib may_write w.value.seal 0, None))) cs log
   brings_goes cs log h pre same within away true is =
       let at = place_of ask in
@@ -396,7 +396,7 @@ module _ {K V S : Type 0} (eq : K → K → Bool) (hash : S → K → ℕ)
         [],
         Some names_it,
         tt,
-        rw is (subst (λ (z : List Cell × List (Event K V S)). IsKept eq hash z.0 z.1) (λ i. (sym (same_cells cs k home) i, sym nil i)) h),
+        rw is (subst (λ (z : List Cell × List (Event K V S)). AreCodes eq hash z.0 z.1) (λ i. (sym (same_cells cs k home) i, sym nil i)) h),
         inr (names_it, refl, refl, (inl nil, subst (λ (l : List (Event K V S)). Answered l names_it) (sym nil) told, row_still ask log leaves)),
         (
           record {
@@ -413,7 +413,7 @@ module _ {K V S : Type 0} (eq : K → K → Bool) (hash : S → K → ℕ)
         ),
       )
 
-  pub brings_moves : Moves (IsKept eq hash) shows (Moved ask) k (v, (nib may_write w.value.seal 0, None)) (λ n. either (n == old) new n)
+  pub brings_moves : Moves (AreCodes eq hash) shows (Moved ask) k (v, (nib may_write w.value.seal 0, None)) (λ n. either (n == old) new n)
       (Brings eq hash (step k old new ask) (v, (nib may_write w.value.seal 0, None)))
   brings_moves cs log h pre away =
       let key' = key_since v log (place_of ask) k pre key in

@@ -10,7 +10,7 @@ use Rattle.papaya_call.specs.declared.ask.At.TheVariants.{Root, Next, Aborted, D
 use Rattle.papaya_words_law.specs.Code.{Coding, code}
 use Rattle.papaya_words_law.specs.Exchange.{Empty, Setting, State}
 use Rattle.papaya_words_law.specs.Grows.{Plan, planned}
-use Rattle.papaya_call_law.specs.Told.{word_of}
+use Rattle.papaya_call_law.specs.TrueAnswers.{word_of}
 use Rattle.papaya_map_book.specs.Sheets.{Sheet}
 use Rattle.papaya_map_book.specs.declared.rule.entry.Named.{Named}
 use Rattle.papaya_map_book.specs.declared.rule.entry.Named.TheVariants as names
@@ -18,7 +18,7 @@ use Rattle.papaya_map_book.specs.declared.rule.entry.Step.{Step}
 use Rattle.papaya_map_book.specs.declared.rule.entry.Event.{Event}
 use Rattle.papaya_map_book.specs.Logs.{comes, in_table, key_at, number_of, or_else, owner, seals_of, steps_of, table_if, table_in}
 use Rattle.papaya_map_book.specs.Makers.{key_of, table_of}
-use Rattle.papaya_map_book.specs.Rule.{IsBlank, IsKept, IsOfMap, seal_at}
+use Rattle.papaya_map_book.specs.Rule.{IsBlank, AreCodes, IsOfMap, seal_at}
 use Rattle.papaya_map_book.proofs.Logs.{get_left, owner_later, table_append, table_later}
 use Rattle.papaya_map_book.proofs.Makers.{map_key, sealed_or_map}
 
@@ -165,7 +165,7 @@ seal_key es (Done t d) seal x = x
 seal_key es (Slot t i) seal x = x
 
 -- No word of a table that has come is one that was dealt for a table whose seal is away.
-pub no_shared : {K V S : Type 0} (eq : K → K → Bool) (hash : S → K → ℕ) (cs : List Cell) (log : List (Event K V S)) (h : IsKept eq hash cs log)
+pub no_shared : {K V S : Type 0} (eq : K → K → Bool) (hash : S → K → ℕ) (cs : List Cell) (log : List (Event K V S)) (h : AreCodes eq hash cs log)
     (seal : ℕ) → (cell cs seal).1 ≡ false → (at : At) (j : ℕ) → key_at (steps_of log) at ≡ Some j → 3 ≤ j → owner j log ≡ Some seal → ⊥
 no_shared eq hash cs log h seal away at j key past own =
     let of_map : IsOfMap at → ⊥ = λ r. let z = (map_key (steps_of log) at j r key).1 in absurd (omega arith) in

@@ -12,7 +12,7 @@ use Rattle.papaya_words_law.specs.Allows.{Allows}
 use Rattle.papaya_words_law.specs.Exchange.{Setting, after}
 use Rattle.papaya_words_law.specs.Grows.{IsLawfulPlan}
 use Rattle.papaya_words.specs.declared.resize_mode.ResizeMode.{ResizeMode}
-use Rattle.papaya_call_law.specs.Told.{IsWritten, word_of}
+use Rattle.papaya_call_law.specs.TrueAnswers.{IsWritten, word_of}
 use Rattle.papaya_map_book.specs.declared.rule.entry.Begun.{Begun}
 use Rattle.papaya_map_book.specs.declared.rule.entry.Named.{Named}
 use Rattle.papaya_map_book.specs.declared.rule.entry.Step.{Step}
@@ -22,7 +22,7 @@ use Rattle.papaya_map_book.specs.Logs.{Stored, brought, coding_of, comes, exchan
 use Rattle.papaya_map_book.specs.Logs.{kind_of, made_of, name_in, place_of, plan_of, seals_of}
 use Rattle.papaya_map_book.specs.Logs.{setting_of, state_of, steps_of, word_names}
 use Rattle.papaya_map_book.specs.Rows.{row_len}
-use Rattle.papaya_map_book.specs.Rule.{IsKept, IsLawfulLog, IsPlaced, flag, seal_at, word_in}
+use Rattle.papaya_map_book.specs.Rule.{AreCodes, IsLawfulLog, IsPlaced, flag, seal_at, word_in}
 use Rattle.papaya_map_book.specs.Offer.{Answered, LeavesRow, MovesRow, Moved}
 use Rattle.papaya_map_book.specs.Plays.{CanExchange, MayStep, Tries}
 use Rattle.papaya_map_book.proofs.Cells.{cell_other, cell_same, home_still, same_or_not}
@@ -43,7 +43,7 @@ found_old n old e = grind (arith, nat_tests)
 
 module _ {K V S : Type 0} (eq : K → K → Bool) (hash : S → K → ℕ)
     (plans : (mode : ResizeMode) (most : Option ℕ) (s : S) → IsLawfulPlan (plan_of {V = V} eq (hash s) mode most)) where
-  module _ (cs : List Cell) (log : List (Event K V S)) (h : IsKept eq hash cs log) (e : Step K V) (quiet : IsQuiet (comes e)) (at : At) (k new : ℕ)
+  module _ (cs : List Cell) (log : List (Event K V S)) (h : AreCodes eq hash cs log) (e : Step K V) (quiet : IsQuiet (comes e)) (at : At) (k new : ℕ)
       (key : key_at (steps_of log) at ≡ Some k)
       (may : Allows (setting_of eq (hash h.begun.hasher) h.begun.mode h.begun.limit log) (state_of log) (exchange_of e))
       (written : IsWritten (setting_of eq (hash h.begun.hasher) h.begun.mode h.begun.limit log) (coding_of (hash h.begun.hasher)) (state_of log) at
@@ -84,7 +84,7 @@ module _ {K V S : Type 0} (eq : K → K → Bool) (hash : S → K → ℕ)
     ]
 
     -- the book after the exchange
-    pub kept_more : IsKept eq hash cs' log'
+    pub kept_more : AreCodes eq hash cs' log'
     kept_more =
         let long : length cs' ≡ length cs = length-set cs k (new, true) in
         let seals = same_seals eq hash plans h.begun log h.lawful e quiet at k new key may written placed in
@@ -121,9 +121,9 @@ module _ {K V S : Type 0} (eq : K → K → Bool) (hash : S → K → ℕ)
       (key : key_at (steps_of v) (place_of ask) ≡ Some k) (began : IsPrefix (Begin b ∷ []) v)
       (quiet : IsQuiet (brought ask)) (name : Book) (named : name_in v ≡ Some name) (placed : IsPlaced b (Some name) (brought ask))
       (can : CanExchange eq hash b (place_of ask) (kind_of ask) old new (made_of ask) (brought ask) v) where
-    tries_goes : (cs : List Cell) (log : List (Event K V S)) (h : IsKept eq hash cs log) → IsPrefix v log → h.begun ≡ b → (t : Bool)
+    tries_goes : (cs : List Cell) (log : List (Event K V S)) (h : AreCodes eq hash cs log) → IsPrefix v log → h.begun ≡ b → (t : Bool)
         → ((cell cs k).0 == old) ≡ t
-        → Goes (IsKept eq hash) shows (Moved ask) k (v, (no_nib, None)) (λ n. either (n == old) new n)
+        → Goes (AreCodes eq hash) shows (Moved ask) k (v, (no_nib, None)) (λ n. either (n == old) new n)
         (Tries eq hash (step k old new ask) (v, (no_nib, None))) cs log
     tries_goes cs log h pre same true is =
         let at = place_of ask in
@@ -143,7 +143,7 @@ module _ {K V S : Type 0} (eq : K → K → Bool) (hash : S → K → ℕ)
         let placed' : IsPlaced h.begun (name_in log) (comes e) = subst (λ (z : Begun K V S × Option Book × Named K V). IsPlaced z.0 z.1 z.2)
         (λ i. (sym same i, sym named' i, sym m.meant.with_it i)) placed in
         let told : Answered log names = word_answer (setting_of eq (hash h.begun.hasher) h.begun.mode h.begun.limit log) log h.lawful.allowed at in
-        let more : IsKept eq hash (slice_set cs k (new, true)) (log ++ Stepped e ∷ []) = kept_more cs log h e quiet' at k new key' may m.written placed' in (
+        let more : AreCodes eq hash (slice_set cs k (new, true)) (log ++ Stepped e ∷ []) = kept_more cs log h e quiet' at k new key' may m.written placed' in (
           keeps,
           Stepped e ∷ [],
           Some names,
@@ -173,7 +173,7 @@ module _ {K V S : Type 0} (eq : K → K → Bool) (hash : S → K → ℕ)
           [],
           Some names,
           tt,
-          rw is (subst (λ (z : List Cell × List (Event K V S)). IsKept eq hash z.0 z.1) (λ i. (sym (same_cells cs k home) i, sym nil i)) h),
+          rw is (subst (λ (z : List Cell × List (Event K V S)). AreCodes eq hash z.0 z.1) (λ i. (sym (same_cells cs k home) i, sym nil i)) h),
           inr (names, refl, refl, (inl nil, subst (λ (l : List (Event K V S)). Answered l names) (sym nil) told, row_still ask log leaves)),
           record {
             before = log;
@@ -187,7 +187,7 @@ module _ {K V S : Type 0} (eq : K → K → Bool) (hash : S → K → ℕ)
           },
         )
 
-    pub tries_moves : Moves (IsKept eq hash) shows (Moved ask) k (v, (no_nib, None)) (λ n. either (n == old) new n)
+    pub tries_moves : Moves (AreCodes eq hash) shows (Moved ask) k (v, (no_nib, None)) (λ n. either (n == old) new n)
         (Tries eq hash (step k old new ask) (v, (no_nib, None)))
     tries_moves cs log h pre away =
         let key' = key_since v log (place_of ask) k pre key in

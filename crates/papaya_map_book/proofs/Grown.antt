@@ -11,7 +11,7 @@ use Rattle.papaya_words_law.specs.Code.{Coding, code}
 use Rattle.papaya_words_law.specs.Exchange.{Setting, State, after, start}
 use Rattle.papaya_words_law.specs.Grows.{AllSized, Entry, IsLawfulPlan, Plan, brings, exchanges, setting_in}
 use Rattle.papaya_words.specs.declared.resize_mode.ResizeMode.{ResizeMode}
-use Rattle.papaya_call_law.specs.Told.{IsWritten, word_of}
+use Rattle.papaya_call_law.specs.TrueAnswers.{IsWritten, word_of}
 use Rattle.papaya_words_law.proofs.Codes.{code_empty}
 use Rattle.papaya_words_law.proofs.Logs.{log_grows, lawful_in}
 use Rattle.papaya_map_book.specs.declared.rule.entry.Begun.{Begun}

@@ -26,7 +26,7 @@ use Rattle.papaya_map_book.specs.Logs.{name_in, name_of, or_else, owner, plan_of
 use Rattle.papaya_map_book.specs.Logs.{steps_of, table_in}
 use Rattle.papaya_map_book.specs.Makers.{AreDealt, Calls, Deals}
 use Rattle.papaya_map_book.specs.Rows.{row_len}
-use Rattle.papaya_map_book.specs.Rule.{IsBlank, IsKept, IsLawfulLog, IsOfMap, IsPlaced, IsSealOf, flag, seal_at, word_in}
+use Rattle.papaya_map_book.specs.Rule.{IsBlank, AreCodes, IsLawfulLog, IsOfMap, IsPlaced, IsSealOf, flag, seal_at, word_in}
 use Rattle.papaya_map_book.specs.Offer.{Moved}
 use Rattle.papaya_map_book.proofs.Cells.{cell_left, cell_other, cell_past, cell_same, home_still}
 use Rattle.papaya_map_book.proofs.Loads.{same_cells, shows}
@@ -96,7 +96,7 @@ module _ {K V S : Type 0} (eq : K → K → Bool) (hash : S → K → ℕ) where
         apart = subst (λ (es : List (Step K V)). (at at' : At) (k : ℕ) → key_at es at ≡ Some k → key_at es at' ≡ Some k → at ≡ at') same l.apart;
       }
 
-  module _ (cs cs' : List Cell) (log : List (Event K V S)) (h : IsKept eq hash cs log) (e : Event K V S) (no_step : step_of e ≡ [])
+  module _ (cs cs' : List Cell) (log : List (Event K V S)) (h : AreCodes eq hash cs log) (e : Event K V S) (no_step : step_of e ≡ [])
       (nothing : brought e ≡ names.Nothing) where
     abbrev log' : List (Event K V S)
     log' = log ++ e ∷ []
@@ -110,7 +110,7 @@ module _ {K V S : Type 0} (eq : K → K → Bool) (hash : S → K → ℕ) where
     same_word : (at : At) → word_in eq hash h.begun log' at ≡ word_in eq hash h.begun log at
     same_word at =
         let plan = plan_of {V = V} eq (hash h.begun.hasher) h.begun.mode h.begun.limit in
-        ap (λ (es : List (Step K V)). Rattle.papaya_call_law.specs.Told.word_of (setting_in plan (map entry_of es))
+        ap (λ (es : List (Step K V)). Rattle.papaya_call_law.specs.TrueAnswers.word_of (setting_in plan (map entry_of es))
         (Rattle.papaya_map_book.specs.Logs.coding_of (hash h.begun.hasher)) (Rattle.papaya_words_law.specs.Exchange.run (exchanges (map entry_of es)) start)
         at) same_steps
 
@@ -133,7 +133,7 @@ module _ {K V S : Type 0} (eq : K → K → Bool) (hash : S → K → ℕ) where
         → ((k : ℕ) (at : At) → key_at (steps_of log) at ≡ Some k → cell cs' k ≡ cell cs k)
         → ((k : ℕ) → k < 3 + row_len → (cell cs' k).1 ≡ true)
         → ((k : ℕ) → 3 ≤ k → (cell cs' k).1 ≡ true → (cell cs' k ≡ cell cs k) ⊎ ((cell cs' k).0 ≡ 0))
-        → IsKept eq hash cs' log'
+        → AreCodes eq hash cs' log'
     kept_still long maker room same homes fresh = record {
       begun = h.begun;
       lawful = lawful_still h.begun log e no_step nothing h.lawful;
@@ -153,11 +153,11 @@ module _ {K V S : Type 0} (eq : K → K → Bool) (hash : S → K → ℕ) where
     }
 
   -- the makers' word is no word of a table, and the root's is another
-  not_maker : (cs : List Cell) (log : List (Event K V S)) (h : IsKept eq hash cs log) (at : At) (k : ℕ) → key_at (steps_of log) at ≡ Some k → k ≢ 1
+  not_maker : (cs : List Cell) (log : List (Event K V S)) (h : AreCodes eq hash cs log) (at : At) (k : ℕ) → key_at (steps_of log) at ≡ Some k → k ≢ 1
   not_maker cs log h at k x i =
       ⊎_elim (λ r. (map_key (steps_of log) at k r x).0 i) (λ t. absurd (omega arith)) (h.counted at k x).1
 
-  module _ (cs : List Cell) (log : List (Event K V S)) (h : IsKept eq hash cs log) where
+  module _ (cs : List Cell) (log : List (Event K V S)) (h : AreCodes eq hash cs log) where
     at_least_three : 3 ≤ length cs
     at_least_three = let m = h.many in omega arith
 
@@ -171,7 +171,7 @@ module _ {K V S : Type 0} (eq : K → K → Bool) (hash : S → K → ℕ) where
 
     -- a seal is added, and words are dealt for it
     pub kept_dealt : (seal count new : ℕ) → new ≡ flag (name_in log) + (dealt log + count) → dealt log + count ≤ row_len
-        → IsKept eq hash (slice_set cs 1 (new, true) ++ (0, false) ∷ []) (log ++ Dealt seal count ∷ [])
+        → AreCodes eq hash (slice_set cs 1 (new, true) ++ (0, false) ∷ []) (log ++ Dealt seal count ∷ [])
     kept_dealt seal count new is room =
         let made = slice_set cs 1 (new, true) in let cs' = made ++ (0, false) ∷ [] in let log' = log ++ Dealt seal count ∷ [] in
         let within : 1 < length cs = let l = at_least_three in omega arith in
@@ -203,7 +203,7 @@ module _ {K V S : Type 0} (eq : K → K → Bool) (hash : S → K → ℕ) where
     }
 
     -- the book is told its name
-    pub kept_called : (name : Book) → (cell cs 1).0 ≡ 0 → IsKept eq hash (slice_set cs 1 (1, true)) (log ++ Called name ∷ [])
+    pub kept_called : (name : Book) → (cell cs 1).0 ≡ 0 → AreCodes eq hash (slice_set cs 1 (1, true)) (log ++ Called name ∷ [])
         × (name_in (log ++ Called name ∷ []) ≡ Some name) × (dealt (log ++ Called name ∷ []) ≡ 0)
     kept_called name none =
         let cs' = slice_set cs 1 (1, true) in let log' = log ++ Called name ∷ [] in
@@ -224,12 +224,12 @@ module _ {K V S : Type 0} (eq : K → K → Bool) (hash : S → K → ℕ) where
           undealt,
         )
 
-  maker_home : (cs : List Cell) (log : List (Event K V S)) → IsKept eq hash cs log → (1 < length cs) × ((cell cs 1).1 ≡ true)
+  maker_home : (cs : List Cell) (log : List (Event K V S)) → AreCodes eq hash cs log → (1 < length cs) × ((cell cs 1).1 ≡ true)
   maker_home cs log h = (let l = at_least_three cs log h in omega arith, ap (λ (c : Cell). c.1) h.maker)
 
   -- the book as it is where the makers' word is another
-  left_so : (cs : List Cell) (log : List (Event K V S)) → IsKept eq hash cs log → IsKept eq hash (slice_set cs 1 ((cell cs 1).0, true)) (log ++ [])
-  left_so cs log h = subst (λ (z : List Cell × List (Event K V S)). IsKept eq hash z.0 z.1)
+  left_so : (cs : List Cell) (log : List (Event K V S)) → AreCodes eq hash cs log → AreCodes eq hash (slice_set cs 1 ((cell cs 1).0, true)) (log ++ [])
+  left_so cs log h = subst (λ (z : List Cell × List (Event K V S)). AreCodes eq hash z.0 z.1)
       (λ i. (sym (same_cells cs 1 (ap (λ (c : Cell). c.1) h.maker)) i, sym (append-nil log) i)) h
 
   -- what is asked for where words are drawn, and how the makers' word goes on
@@ -237,8 +237,8 @@ module _ {K V S : Type 0} (eq : K → K → Bool) (hash : S → K → ℕ) where
     abbrev ask : Event K V S
     ask = Draw name (old + 2) count
 
-    deals_goes : (cs : List Cell) (log : List (Event K V S)) → IsKept eq hash cs log → IsPrefix v log → (t : Bool) → ((cell cs 1).0 == old) ≡ t
-        → Goes (IsKept eq hash) shows (Moved ask) 1 (v, (no_nib, None)) (λ n. either (n == old) (old + count) n)
+    deals_goes : (cs : List Cell) (log : List (Event K V S)) → AreCodes eq hash cs log → IsPrefix v log → (t : Bool) → ((cell cs 1).0 == old) ≡ t
+        → Goes (AreCodes eq hash) shows (Moved ask) 1 (v, (no_nib, None)) (λ n. either (n == old) (old + count) n)
         (Deals (step 1 old (old + count) ask) (v, (no_nib, None))) cs log
     deals_goes cs log h pre true is =
         let seal = length cs in
@@ -267,13 +267,13 @@ module _ {K V S : Type 0} (eq : K → K → Bool) (hash : S → K → ℕ) where
     deals_goes cs log h pre false is =
         (keeps, [], None, tt, rw is (left_so cs log h), inl (refl, append-nil log), rw is tt)
 
-    pub deals_moves : Moves (IsKept eq hash) shows (Moved ask) 1 (v, (no_nib, None)) (λ n. either (n == old) (old + count) n)
+    pub deals_moves : Moves (AreCodes eq hash) shows (Moved ask) 1 (v, (no_nib, None)) (λ n. either (n == old) (old + count) n)
         (Deals (step 1 old (old + count) ask) (v, (no_nib, None)))
     deals_moves cs log h pre away = let m = maker_home cs log h in (m.0, m.1, deals_goes cs log h pre ((cell cs 1).0 == old) refl)
 
-  calls_goes : (v : List (Event K V S)) (name : Book) (cs : List Cell) (log : List (Event K V S)) → IsKept eq hash cs log → (t : Bool)
+  calls_goes : (v : List (Event K V S)) (name : Book) (cs : List Cell) (log : List (Event K V S)) → AreCodes eq hash cs log → (t : Bool)
       → ((cell cs 1).0 == 0) ≡ t
-      → Goes (IsKept eq hash) shows (Moved (Called name)) 1 (v, (no_nib, None)) (λ n. either (n == 0) 1 n)
+      → Goes (AreCodes eq hash) shows (Moved (Called name)) 1 (v, (no_nib, None)) (λ n. either (n == 0) 1 n)
       (Calls (step 1 0 1 (Called name)) (v, (no_nib, None))) cs log
   calls_goes v name cs log h true is =
       let none : (cell cs 1).0 ≡ 0 = grind (arith, nat_tests) in let called = kept_called cs log h name none in (
@@ -289,5 +289,5 @@ module _ {K V S : Type 0} (eq : K → K → Bool) (hash : S → K → ℕ) where
       (keeps, [], None, tt, rw is (left_so cs log h), inl (refl, append-nil log), rw is tt)
 
   pub calls_moves : (v : List (Event K V S)) (name : Book)
-      → Moves (IsKept eq hash) shows (Moved (Called name)) 1 (v, (no_nib, None)) (λ n. either (n == 0) 1 n) (Calls (step 1 0 1 (Called name)) (v, (no_nib, None)))
+      → Moves (AreCodes eq hash) shows (Moved (Called name)) 1 (v, (no_nib, None)) (λ n. either (n == 0) 1 n) (Calls (step 1 0 1 (Called name)) (v, (no_nib, None)))
   calls_moves v name cs log h pre away = let m = maker_home cs log h in (m.0, m.1, calls_goes v name cs log h ((cell cs 1).0 == 0) refl)

@@ -10,7 +10,7 @@ use Rattle.papaya_map_book.specs.declared.rule.entry.Begun.{Begun}
 use Rattle.papaya_map_book.specs.declared.rule.entry.Event.TheVariants.{Begin}
 use Rattle.papaya_map_book.specs.Logs.{key_at}
 use Rattle.papaya_map_book.specs.Rows.{row_len}
-use Rattle.papaya_map_book.specs.Rule.{IsKept, IsLawfulLog, IsOfMap, IsPlaced, word_in}
+use Rattle.papaya_map_book.specs.Rule.{AreCodes, IsLawfulLog, IsOfMap, IsPlaced, word_in}
 use Rattle.papaya_map_book.specs.Tokens.{stands}
 use base.Shift.{Keyless}
 use denote.RattleType.{RattleType}
@@ -71,7 +71,7 @@ module _ {K V S : Type 0} (eq : K → K → Bool) (hash : S → K → ℕ) (b : 
       ∙ (first_home n 2 (omega arith) ∙ ap (λ (a : At). (word_in eq hash b (Begin b ∷ []) a, true)) (sym r.0))
 
   -- a book that is opened with the words of the map and a row keeps the rule
-  pub opens_kept : (n : ℕ) → n ≡ 3 + row_len → IsKept eq hash (replicate n (0, true)) (Begin b ∷ [])
+  pub opens_kept : (n : ℕ) → n ≡ 3 + row_len → AreCodes eq hash (replicate n (0, true)) (Begin b ∷ [])
   opens_kept n is = let long = sym (length-replicate n (0, true)) in record {
     begun = b;
     lawful = first_lawful;

@@ -29,7 +29,7 @@ module _ {K V S H : Type 0} (book : Book K V S H) where
   IsIn = rule.IsPlaced (begun_of book.parts) (Some book.begun.book)
 
   -- The pair is stored in the arena with this key and this value, and its number fits in a word.
-  pub record IsLoggedAs (key : K) (value : V) (q : Stored K V) : Type 0 where
+  pub record IsStoredAs (key : K) (value : V) (q : Stored K V) : Type 0 where
     pub placed : IsIn (names.Pair q)
     pub key_is : q.value.key.value ≡ key
     pub value_is : q.value.value ≡ value

@@ -10,7 +10,7 @@ use Rattle.papaya_words_law.specs.Allows.{Allows}
 use Rattle.papaya_words_law.specs.Code.{Coding}
 use Rattle.papaya_words_law.specs.Exchange.{Exchange, Open, Claim, Replace, Bury, Take, Live, State, after}
 use Rattle.papaya_call_law.specs.Copier.{IsCopyAsked}
-use Rattle.papaya_call_law.specs.Told.{IsOwnWord, IsWritten, LoadedPairs}
+use Rattle.papaya_call_law.specs.TrueAnswers.{IsOwnWord, IsWritten, LoadedPairs}
 use Rattle.papaya_map_book.specs.declared.rule.entry.Named.{Named}
 use Rattle.papaya_map_book.specs.declared.rule.entry.Begun.{Begun}
 use Rattle.papaya_map_book.specs.declared.rule.entry.Step.{Step}

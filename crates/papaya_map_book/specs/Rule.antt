@@ -7,7 +7,7 @@ use Rattle.papaya_call.specs.declared.ask.At.TheVariants.{Root, Next, Aborted, D
 use Rattle.papaya_words_law.specs.Exchange.{Empty, State, start}
 use Rattle.papaya_words_law.specs.Allows.{AllAllowed}
 use Rattle.papaya_words_law.specs.Grows.{AllSized}
-use Rattle.papaya_call_law.specs.Told.{word_of}
+use Rattle.papaya_call_law.specs.TrueAnswers.{word_of}
 use Rattle.papaya_map_book.specs.declared.rule.entry.Named.{Named}
 use Rattle.papaya_map_book.specs.declared.rule.entry.Named.TheVariants as names
 use Rattle.papaya_map_book.specs.declared.rule.entry.Begun.{Begun}
@@ -83,7 +83,7 @@ module _ {K V S : Type 0} where
         (coding_of (hash b.hasher)) (state_of log) at
 
     -- The words in the book are the codes of what the exchanges leave.
-    pub record IsKept (cells : List Cell) (log : List (Event K V S)) : Type 0 where
+    pub record AreCodes (cells : List Cell) (log : List (Event K V S)) : Type 0 where
       pub begun : Begun K V S
       pub lawful : IsLawfulLog begun log
       -- The words of the map and the row are home.

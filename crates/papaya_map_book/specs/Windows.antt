@@ -45,8 +45,8 @@ module _ {K V S H : Type 0} {d : keyed.Ghosts S K H} where
   abbrev pub IsIn : Window K V S H d → Named K V → Type 0
   IsIn w = books.IsIn w.book.now
 
-  abbrev pub IsLoggedAs : Window K V S H d → K → V → Stored K V → Type 0
-  IsLoggedAs w = books.IsLoggedAs w.book.now
+  abbrev pub IsStoredAs : Window K V S H d → K → V → Stored K V → Type 0
+  IsStoredAs w = books.IsStoredAs w.book.now
 
   abbrev pub IsTable : Window K V S H d → ℕ → Sheet → Type 0
   IsTable w = calls.IsTable w.sight.log

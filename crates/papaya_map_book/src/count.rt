@@ -58,7 +58,7 @@ impl Count {
     /// # Errors
     ///
     /// Fails with `Refused::Memory` if an allocation fails.
-    pub fn anew(&self, alloc: Global) -> Result<Count, Refused>
+    pub fn new_like(&self, alloc: Global) -> Result<Count, Refused>
         ensures ok { IfOk result (λ count. count ≡ self.now) }
         ensures err { IfErr result (λ refused. refused ≡ Refused.Memory) }
     {

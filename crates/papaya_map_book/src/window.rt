@@ -319,7 +319,7 @@ impl<'a, K: Hash + Eq, V, S: BuildHasher> Window<'a, K, V, S> {
 
     /// Stores a table of `Empty` slots in the arena, to which a table of this many chunks is
     /// copied, and returns it with the pen of its seal. Its slots are those written ahead, and
-    /// others. Fails as [`Book::log_table`] does.
+    /// others. Fails as [`Book::push_table`] does.
     pub fn make_table<R: Wait>(
         &mut self,
         rt: &R,
@@ -346,7 +346,7 @@ impl<'a, K: Hash + Eq, V, S: BuildHasher> Window<'a, K, V, S> {
         else {
             return Err(Refused::Memory);
         };
-        let table = self.book.log_table(rt, table, given)?;
+        let table = self.book.push_table(rt, table, given)?;
         Ok((table, seal))
     }
 

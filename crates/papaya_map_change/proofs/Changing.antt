@@ -29,14 +29,14 @@ use Rattle.papaya_call.specs.declared.chain.machine.Phase.{Phase}
 use Rattle.papaya_call.specs.declared.chain.machine.Phase.TheVariants as phases
 use Rattle.papaya_call.specs.ChainMachine.{after, ask_of, kind_of_ask, started}
 use Rattle.papaya_call_law.specs.Goes.{link_in}
-use Rattle.papaya_call_law.specs.ChainTold.{LoadedPairs}
+use Rattle.papaya_call_law.specs.ChainAnswers.{LoadedPairs}
 use Rattle.papaya_call_law.proofs.Names.{call_asks}
 use Rattle.papaya_words.specs.declared.resize_mode.ResizeMode.{ResizeMode}
 use Rattle.papaya_words.specs.declared.resize_mode.ResizeMode.TheVariants.{Incremental, Blocking}
 use Rattle.papaya_call_law.specs.Copier.{HasWords}
 use Rattle.papaya_call_law.specs.Relies.{IsModeOf, change_after, change_in}
-use Rattle.papaya_call_law.specs.Told.{IsOneOf, IsTold, or_last, told_of, word_of}
-use Rattle.papaya_call_law.specs.Told as told_calls
+use Rattle.papaya_call_law.specs.TrueAnswers.{IsOneOf, IsTrueOf, or_last, told_of, word_of}
+use Rattle.papaya_call_law.specs.TrueAnswers as told_calls
 use Rattle.papaya_call_law.proofs.Followed.{counts_after, table_named}
 use Rattle.papaya_call_law.proofs.ReliesHints.{machine_may_hint}
 use Rattle.papaya_call_law.proofs.ReliesLearnPairs.{wanted_relies}
@@ -282,7 +282,7 @@ module _ {K V S H : Type 0} (eq : K → K → Bool) (input : K → List (List �
     own = call_asks m ask asks
 
     abbrev pub Tells : (last' : Option (Stored K V)) → List (Stored K V) → Type 0
-    Tells last' made' = IsTold (Wide log) Coded k (state_of before) (kind_of_ask m) (call_loaded last made) ask answer (exchanges_of more.0)
+    Tells last' made' = IsTrueOf (Wide log) Coded k (state_of before) (kind_of_ask m) (call_loaded last made) ask answer (exchanges_of more.0)
         (call_loaded last' made')
 
     module _ (last' : Option (Stored K V)) (made' : List (Stored K V)) (tells : Tells last' made') where
@@ -336,7 +336,7 @@ module _ {K V S H : Type 0} (eq : K → K → Bool) (input : K → List (List �
     -- An answer that is true of the log's words, with which nothing is exchanged and nothing was changed before.
     pub record IsQuiet (ask : Ask) (answer : Answer) (last' : Option (Stored K V)) (made' : List (Stored K V)) (fresh' : Option (Where Sheet × Pen)) :
         Type 0 where
-      pub told : IsTold (Wide log') Coded k (state_of log') (kind_of_ask m) (call_loaded last made) ask answer [] (call_loaded last' made')
+      pub told : IsTrueOf (Wide log') Coded k (state_of log') (kind_of_ask m) (call_loaded last made) ask answer [] (call_loaded last' made')
       pub same : change_after (kind_of_ask m) ask answer (change_in m.call.state) ≡ change_in m.call.state
       pub busy : IsCounting ask → ⊥
       pub brings : (n : ℕ) → IsBringing (ask_of (after m (answers.Call answer))) n → IsFresh b name log' n fresh'

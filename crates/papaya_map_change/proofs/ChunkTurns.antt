@@ -18,7 +18,7 @@ use Rattle.papaya_call.specs.declared.copy.step.Step.{Step}
 use Rattle.papaya_call.specs.declared.copy.step.Step.TheVariants.{Advancing, Aiming, AtChunk, AtRoot, Settling, Sizing}
 use Rattle.papaya_call.specs.declared.copy.step.Stepped.TheVariants.{Further, Last, On as Step_on}
 use Rattle.papaya_call.specs.Copying.{at_root, leads, over}
-use Rattle.papaya_call.specs.Step.{IsStandingChunk, IsStandingCursor, aimed, chunk_at, chunk_read, next_cursor}
+use Rattle.papaya_call.specs.Step.{IsValidChunk, IsValidCursor, aimed, chunk_at, chunk_read, next_cursor}
 use Rattle.papaya_call.specs.ChainMachine.{copying_after}
 use Rattle.papaya_call.specs.declared.chain.ask.Answer.{Answer}
 use Rattle.papaya_call.specs.declared.chain.ask.Answer.TheVariants.{Call}
@@ -26,7 +26,7 @@ use Rattle.papaya_map_book.specs.declared.rule.entry.Begun.{Begun}
 use Rattle.papaya_map_book.specs.declared.rule.entry.Event.{Event}
 use Rattle.papaya_map_change.specs.declared.copier.Copier.{Copier}
 use Rattle.papaya_map_change.specs.Copier.{AnswersExchange, AnswersLoad}
-use Rattle.papaya_map_change.specs.Settling.{IsTurn, Stop}
+use Rattle.papaya_map_change.specs.Settling.{IsMoveStep, Stop}
 
 -- a root leads on to the table after it, where not all is copied
 root_on : (aim : Aim) (mode : ResizeMode) (root : ℕ) → ((met : ℕ) → aim ≡ aims.All met → ⊥) → (root == 0) ≡ false
@@ -45,7 +45,7 @@ module _ {K V S H : Type 0} (eq : K → K → Bool) (hash : S → K → ℕ) (b 
   after_step step = record { copying = Stepping aim step; log = log'; loaded = h' }
 
   abbrev Turns : Step → Step → Type 0
-  Turns step step' = IsTurn eq hash b name mode (before_step step) (after_step step')
+  Turns step step' = IsMoveStep eq hash b name mode (before_step step) (after_step step')
 
   -- the root was loaded
   pub roots : (root : ℕ) → AnswersLoad eq hash b name Root log h log' h' (Call (Word root)) → ((met : ℕ) → aim ≡ aims.All met → ⊥)
@@ -55,7 +55,7 @@ module _ {K V S H : Type 0} (eq : K → K → Bool) (hash : S → K → ℕ) (b 
     answer = Call (Word root);
     answers = loads;
     on = λ initial number. root_on aim mode root none (ne_eqb root 0 some);
-    standing = tt;
+    valid = tt;
   }
 
   -- and the table after it, to which it is copied
@@ -67,25 +67,25 @@ module _ {K V S H : Type 0} (eq : K → K → Bool) (hash : S → K → ℕ) (b 
     answers = loads;
     on = λ initial number. ap (λ (z : ResizeMode). leads aim mode (aimed from from z to)) is
         ∙ ap (λ (z : Bool). leads aim mode (if z then Last from else Step_on (Sizing from to))) (ne_eqb to 0 some);
-    standing = tt;
+    valid = tt;
   }
 
   -- the chunk's word says that the chunk is not copied
   pub takes : (cursor : Cursor) (done : ℕ) → AnswersLoad eq hash b name (Done cursor.to cursor.at) log h log' h' (Call (Word done)) → done ≡ 0
-      → cursor.copied ≡ false → IsStandingChunk (chunk_at cursor) → Turns (AtChunk cursor) (Settling (chunk_at cursor) Looking)
-  takes cursor done loads is fresh standing = record {
+      → cursor.copied ≡ false → IsValidChunk (chunk_at cursor) → Turns (AtChunk cursor) (Settling (chunk_at cursor) Looking)
+  takes cursor done loads is fresh valid = record {
     since = since;
     answer = Call (Word done);
     answers = loads;
     on = λ initial number. ap (λ (z : ℕ). leads aim mode (chunk_read cursor z)) is
         ∙ ap (λ (z : Bool). leads aim mode (if z then Further (chunk_at cursor) else Step_on (Settling (chunk_at cursor) Looking))) fresh;
-    standing = (standing, tt);
+    valid = (valid, tt);
   }
 
   -- the chunk's word says so now, and another chunk's word is next
   module _ (cursor next : Cursor) (answer : Answer)
       (closes : AnswersExchange eq hash b name (Done cursor.to cursor.at) (Some Advance) 0 1 log h log' h' answer)
-      (on : next_cursor (record cursor { copied = true }) ≡ AtChunk next) (standing : IsStandingCursor next) where
+      (on : next_cursor (record cursor { copied = true }) ≡ AtChunk next) (valid : IsValidCursor next) where
     either : (initial number : ℕ) (z : Bool) → copying_after (Stepping aim (Advancing cursor)) mode initial number
         (if z then Call Exchanged else Call (Found closes.found)) ≡ leads aim mode (Step_on (next_cursor (record cursor { copied = true })))
     either initial number true = refl
@@ -98,5 +98,5 @@ module _ {K V S H : Type 0} (eq : K → K → Bool) (hash : S → K → ℕ) (b 
       answers = closes;
       on = λ initial number. ap (λ (z : Answer). copying_after (Stepping aim (Advancing cursor)) mode initial number z) closes.is
           ∙ (either initial number (closes.found == 0) ∙ ap (λ (z : Step). leads aim mode (Step_on z)) on);
-      standing = standing;
+      valid = valid;
     }

@@ -25,7 +25,7 @@ use Rattle.papaya_words_law.specs.Exchange.{Exchange, Setting, Word, Live, Bury,
 use Rattle.papaya_words_law.specs.Further.{same_with}
 use Rattle.papaya_words_law.specs.Invariant.{named}
 use Rattle.papaya_call_law.specs.Relies.{change_of_kind}
-use Rattle.papaya_call_law.specs.Told.{IsAsked, IsOneOf, IsTold, LoadedPairs, or_last, told_of, word_of}
+use Rattle.papaya_call_law.specs.TrueAnswers.{IsAsked, IsOneOf, IsTrueOf, LoadedPairs, or_last, told_of, word_of}
 use Rattle.papaya_words_law.proofs.Codes.{code_pair}
 use Rattle.papaya_words_law.proofs.Moments.{allowed_rest}
 use Rattle.papaya_map_book.specs.Sheets.{Sheet}
@@ -251,7 +251,7 @@ module _ {K V S H : Type 0} (eq : K → K → Bool) (input : K → List (List �
         let asked : IsAsked (G log) C k kind (Slot t x) new (state_of before) (loaded last made) e =
         asked_by_made (G log) C k (λ p. refl) (λ p q same. ap (λ z. Some z) same) (loaded_of put') (loaded last made)
         (λ q one. own q (one_made put' q one)) kind (Slot t x) new (state_of before) e (λ claim q one. claims claim q (one_made put' q one)) plainly in
-        let told : IsTold (G log) C k (state_of before) kind (loaded last made) (Ask_exchange (Slot t x) old new) Exchanged (e ∷ [])
+        let told : IsTrueOf (G log) C k (state_of before) kind (loaded last made) (Ask_exchange (Slot t x) old new) Exchanged (e ∷ [])
         (loaded last made) = rw here (refl, (e, asked, refl), refl) in
         let since = prefix_trans v before log s.tried.since more in
         answered eq input build write finish classes respects b matches query lawful k name begun v before log s.tried.lawful s.tried.now
@@ -275,7 +275,7 @@ module _ {K V S H : Type 0} (eq : K → K → Bool) (input : K → List (List �
         let loaded_is : loaded (or_last pair last) made ≡ told_of (state_of log) (Slot t x) (loaded last made) =
         ap (λ (z : Option (Stored K V)). loaded (or_last z last) made)
         (sym s.names ∙ ap (λ (z : List (Event K V S)). named ((state_of z).slot t x)) (sym same)) in
-        let told : IsTold (G log) C k (state_of log) (kind_of_ask m) (loaded last made) (Ask_exchange (Slot t x) old new) (Found_instead found) []
+        let told : IsTrueOf (G log) C k (state_of log) (kind_of_ask m) (loaded last made) (Ask_exchange (Slot t x) old new) (Found_instead found) []
         (loaded (or_last pair last) made) = rw differs (ap Found_instead (sym here), refl, loaded_is) in
         quiet eq input build write finish classes respects b matches query lawful k name begun v log pre s.tried.now m table last kept made taken put
         fresh r (Ask_exchange (Slot t x) old new) asks (Found_instead found) (or_last pair last) made table fresh

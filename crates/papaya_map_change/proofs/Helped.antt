@@ -24,7 +24,7 @@ use Rattle.papaya_call_law.proofs.Names.{call_asks}
 use Rattle.papaya_call_law.proofs.Replies.{anew}
 use Rattle.papaya_call_law.specs.ChainRelies.{left_by}
 use Rattle.papaya_call_law.specs.Relies.{change_in}
-use Rattle.papaya_call_law.specs.Says.{HasValue, IsAnswered, Said, ShowsIn, ShowsPairs, StandsOn, said_in, said_to_choose, said_to_fill}
+use Rattle.papaya_call_law.specs.Says.{HasValue, IsAnswered, ClosureResult, NamesPairIn, NamesPairs, ActsOn, result_in, result_to_choose, result_to_fill}
 use Rattle.papaya_call_law.proofs.ReliesReplyRefused.{machine_reason}
 use Rattle.papaya_map_book.specs.declared.rule.own.CapacityCause.{CapacityCause}
 use Rattle.papaya_map_book.specs.Limits.{HasNoRoom}
@@ -34,7 +34,7 @@ use Rattle.papaya_map_book.specs.Windows.{Does}
 use Rattle.papaya_map_book.proofs.Lengths.{room_since}
 use Rattle.papaya_map_change.specs.declared.driver.Driver.{Driver}
 use Rattle.papaya_map_change.specs.Doing.{has_changed}
-use Rattle.papaya_map_change.specs.Helping.{HasBegunAnew, HasGoneOn, HasHelped, WasRefused}
+use Rattle.papaya_map_change.specs.Helping.{HasRestarted, HasGoneOn, HasHelped, WasRefused}
 use Rattle.papaya_map_change.specs.Writing.{IsMemoryCapacityOrLimit, IsMemoryOrCapacity}
 use Rattle.papaya_map_change.proofs.Doing.{left_unchanged}
 
@@ -48,17 +48,17 @@ pub record IsKept (m m' : Machine) (tables : List ℕ) (given : List CapacityCau
   pub made : m'.call.made ≡ m.call.made
   pub initial : m'.call.initial ≡ m.call.initial
   pub changed : has_changed m' ≡ has_changed m
-  pub shows : ShowsPairs m.call → ShowsPairs m'.call
+  pub shows : NamesPairs m.call → NamesPairs m'.call
   pub values : HasValue m.call → HasValue m'.call
-  pub stands : (said : Said) → StandsOn m'.call said → StandsOn m.call said
+  pub stands : (said : ClosureResult) → ActsOn m'.call said → ActsOn m.call said
   pub ends : (cause : Cause) → ask_of m' ≡ Call (Done (Refused cause)) → (m' ≡ m) ⊎ IsCopyEnd m'.call.initial tables given cause
 
 -- a call stands on what it remembers, where it says nothing new
-pub stands_before : (call call' : Call_machine) → call'.remembered ≡ call.remembered → said_in call'.task call'.state ≡ None → (said : Said)
-    → StandsOn call' said → StandsOn call said
+pub stands_before : (call call' : Call_machine) → call'.remembered ≡ call.remembered → result_in call'.task call'.state ≡ None → (said : ClosureResult)
+    → ActsOn call' said → ActsOn call said
 stands_before call call' same silent said (inl e) = absurd (cc (silent, e))
-stands_before call call' same silent said (inr (inl e)) = inr (inl (ap (λ (h : Remembered). said_to_fill h.fill) (sym same) ∙ e))
-stands_before call call' same silent said (inr (inr e)) = inr (inr (ap (λ (h : Remembered). said_to_choose h.choice) (sym same) ∙ e))
+stands_before call call' same silent said (inr (inl e)) = inr (inl (ap (λ (h : Remembered). result_to_fill h.fill) (sym same) ∙ e))
+stands_before call call' same silent said (inr (inr e)) = inr (inr (ap (λ (h : Remembered). result_to_choose h.choice) (sym same) ∙ e))
 
 -- a call that is set aside has the value of the pair that it remembers
 unanswered : (s : State) (t : ℕ) → left_by s ≡ Some t → IsAnswered s → ⊥
@@ -71,13 +71,13 @@ pub values_left : (call : Call_machine) (t : ℕ) → left_by call.state ≡ Som
 values_left call t left s has old new is = ⊎_elim (λ valued. inl valued) (λ waits. absurd (unanswered call.state t left waits)) (has old new is)
 
 -- what a call says that ended so
-absent_silent : (task : Task) → said_in task (Ended Rattle.papaya_call.specs.declared.call.Reply.TheVariants.Absent) ≡ None
+absent_silent : (task : Task) → result_in task (Ended Rattle.papaya_call.specs.declared.call.Reply.TheVariants.Absent) ≡ None
 absent_silent Get = refl
 absent_silent (Insert replace) = refl
 absent_silent RemoveIf = refl
 absent_silent Compute = refl
 
-refused_silent : (task : Task) (refused : Cause) → said_in task (Ended (Refused refused)) ≡ None
+refused_silent : (task : Task) (refused : Cause) → result_in task (Ended (Refused refused)) ≡ None
 refused_silent Get refused = refl
 refused_silent (Insert replace) refused = refl
 refused_silent RemoveIf refused = refl
@@ -87,7 +87,7 @@ module _ (m m' : Machine) (tables : List ℕ) (given : List CapacityCause) (t : 
     (is : m'.call ≡ call) where
   -- a call that was set aside, where it is this one now
   kept_by : call.task ≡ m.call.task → call.made ≡ m.call.made → call.initial ≡ m.call.initial → call.remembered ≡ m.call.remembered
-      → change_in call.state ≡ None → ShowsPairs call → (HasValue m.call → HasValue call) → said_in call.task call.state ≡ None
+      → change_in call.state ≡ None → NamesPairs call → (HasValue m.call → HasValue call) → result_in call.task call.state ≡ None
       → ((cause : Cause) → calls.ask_of call ≡ Done (Refused cause) → IsCopyEnd m.call.initial tables given cause) → IsKept m m' tables given
   kept_by task made initial remembered none shows values silent ends =
       let same_initial : m'.call.initial ≡ m.call.initial = ap (λ (z : Call_machine). z.initial) is ∙ initial in record {
@@ -95,9 +95,9 @@ module _ (m m' : Machine) (tables : List ℕ) (given : List CapacityCause) (t : 
         made = ap (λ (z : Call_machine). z.made) is ∙ made;
         initial = same_initial;
         changed = ap (λ (z : Call_machine). is_some (change_in z.state)) is ∙ (ap is_some none ∙ sym (left_unchanged m.call.state t left));
-        shows = λ _. subst ShowsPairs (sym is) shows;
+        shows = λ _. subst NamesPairs (sym is) shows;
         values = λ has. subst HasValue (sym is) (values has);
-        stands = λ said stands. stands_before m.call call remembered silent said (subst (λ z. StandsOn z said) is stands);
+        stands = λ said stands. stands_before m.call call remembered silent said (subst (λ z. ActsOn z said) is stands);
         ends = λ cause e. inr (subst (λ n. IsCopyEnd n tables given cause) (sym same_initial)
             (ends cause (ap (λ (z : Call_machine). calls.ask_of z) (sym is) ∙ (call_asks m' (Done (Refused cause)) e).1)));
       }
@@ -116,14 +116,14 @@ module _ (m m' : Machine) (tables : List ℕ) (given : List CapacityCause) where
   kept_on h = kept_by m m' tables given h.from h.left (record m.call { state = Searching (Sizing h.table) }) h.call refl refl refl refl refl tt
       (values_left m.call h.from h.left (Searching (Sizing h.table))) refl (λ cause e. absurd (cc e))
 
-  kept_anew : HasBegunAnew m m' → IsKept m m' tables given
+  kept_anew : HasRestarted m m' → IsKept m m' tables given
   kept_anew h =
       let call : Call_machine = calls.after (record m.call { state = AtRoot }) (Word_read h.root) in
       kept_by m m' tables given h.from h.left call h.call refl refl refl refl
       (anew (λ s. change_in s ≡ None) refl refl refl (λ _. refl) m.call.task m.call.remembered.fill h.root)
-      (anew (ShowsIn m.call.remembered.choice) tt tt tt (λ _. tt) m.call.task m.call.remembered.fill h.root)
+      (anew (NamesPairIn m.call.remembered.choice) tt tt tt (λ _. tt) m.call.task m.call.remembered.fill h.root)
       (values_left m.call h.from h.left call.state)
-      (anew (λ s. said_in m.call.task s ≡ None) (absent_silent m.call.task) refl refl (λ _. refl) m.call.task m.call.remembered.fill h.root)
+      (anew (λ s. result_in m.call.task s ≡ None) (absent_silent m.call.task) refl refl (λ _. refl) m.call.task m.call.remembered.fill h.root)
       (λ cause e. absurd (anew_unrefused m.call h.root cause e))
 
   kept_refused : WasRefused m m' tables given → IsKept m m' tables given
@@ -139,9 +139,9 @@ module _ (m m' : Machine) (tables : List ℕ) (given : List CapacityCause) where
     made = ap (λ (z : Machine). z.call.made) same;
     initial = ap (λ (z : Machine). z.call.initial) same;
     changed = ap has_changed same;
-    shows = λ shows. subst (λ (z : Machine). ShowsPairs z.call) (sym same) shows;
+    shows = λ shows. subst (λ (z : Machine). NamesPairs z.call) (sym same) shows;
     values = λ has. subst (λ (z : Machine). HasValue z.call) (sym same) has;
-    stands = λ said stands. subst (λ (z : Machine). StandsOn z.call said) same stands;
+    stands = λ said stands. subst (λ (z : Machine). ActsOn z.call said) same stands;
     ends = λ cause e. inl same;
   }
   helped_keeps (inr (inl h)) = kept_on h

@@ -25,16 +25,16 @@ use Rattle.papaya_call.specs.declared.chain.ask.Answer.{Answer}
 use Rattle.papaya_call.specs.declared.chain.ask.Answer.TheVariants as answers
 use Rattle.papaya_call.specs.declared.chain.ask.Ask.{Ask}
 use Rattle.papaya_call.specs.declared.chain.ask.Ask.TheVariants as asks
-use Rattle.papaya_call.specs.ChainMachine.{IsStanding, after, ask_of, follows_of, kind_of_ask}
+use Rattle.papaya_call.specs.ChainMachine.{IsValid, after, ask_of, follows_of, kind_of_ask}
 use Rattle.papaya_call_law.specs.Goes.{link_in}
-use Rattle.papaya_call_law.specs.ChainTold.{IsCopyTold}
+use Rattle.papaya_call_law.specs.ChainAnswers.{IsTrueOfCopy}
 use Rattle.papaya_call_law.proofs.LinkMade.{IsMadeLink, is_made, link_tried, machine_linking, machine_links, made_is}
 use Rattle.papaya_call_law.proofs.LinkStates.{In}
 use Rattle.papaya_words_law.specs.Class.{IsOn}
 use Rattle.papaya_words_law.specs.Exchange.{Exchange, run, start}
 use Rattle.papaya_words_law.specs.Hints.{IsHint}
 use Rattle.papaya_call_law.specs.Copier.{HasWords}
-use Rattle.papaya_call_law.specs.Told.{or_last}
+use Rattle.papaya_call_law.specs.TrueAnswers.{or_last}
 use Rattle.papaya_map_book.specs.declared.rule.entry.Begun.{Begun}
 use Rattle.papaya_map_book.specs.declared.rule.entry.Event.{Event}
 use Rattle.papaya_map_book.specs.declared.rule.own.CapacityCause.TheVariants.{Sum}
@@ -194,7 +194,7 @@ module _ {K V S H : Type 0} (eq : K → K → Bool) (input : K → List (List �
     (classes : IsEquivalence eq) (respects : (x y : K) → eq x y ≡ true → input x ≡ input y)
     (b : Begun K V S) (name : Book) (matches : K → Bool) (fed : ℕ) (form : IsForm eq (hash_of input build write finish) b matches fed) (k : Option K)
     (begun : List (Event K V S)) (made : List (Stored K V)) (v : List (Event K V S)) (c : Driver K V S H)
-    (r : IsDriven eq (hash_of input build write finish) b name matches fed k begun v made c) (standing : IsStanding c.machine) where
+    (r : IsDriven eq (hash_of input build write finish) b name matches fed k begun v made c) (valid : IsValid c.machine) where
   abbrev hashes : S → K → ℕ
   hashes = hash_of input build write finish
 
@@ -210,7 +210,7 @@ module _ {K V S H : Type 0} (eq : K → K → Bool) (input : K → List (List �
 
   -- what was true of the words before an exchange, or of all
   abbrev Tells : List (Event K V S) → (before log : List (Event K V S)) → IsPrefix before log → CopyAsk → Answer → (last kept : Option (Stored K V)) → Type 0
-  Tells setting before log pre ask answer last kept = IsCopyTold (Gs setting) Cs (state_of before) (kind_of_ask c.machine) (follows_of c.machine)
+  Tells setting before log pre ask answer last kept = IsTrueOfCopy (Gs setting) Cs (state_of before) (kind_of_ask c.machine) (follows_of c.machine)
       (loaded_with c.copier.last c.copier.kept made) ask answer (exchanges_of pre.0) (loaded_with last kept made)
 
   -- where a size was told, a table of so many slots has come
@@ -230,9 +230,9 @@ module _ {K V S H : Type 0} (eq : K → K → Bool) (input : K → List (List �
           (subst (λ (o : Option (Stored K V)). IsSetAside eq hashes b name matches fed k begun log (after c.machine answer) c'.copier.last c'.copier.kept made
           c.taken o c'.copier.fresh) (sym put)
           (copied eq input build write finish classes respects b name matches fed form k begun v c.machine c.table c.copier.last c.copier.kept made c.taken c.put
-          c.copier.fresh r standing ask asked before since l₀ log l pre answer words c'.copier.last c'.copier.kept c'.copier.fresh c'.copier.given.done by told placed placed' hand size));
+          c.copier.fresh r valid ask asked before since l₀ log l pre answer words c'.copier.last c'.copier.kept c'.copier.fresh c'.copier.given.done by told placed placed' hand size));
       leads = leads eq input build write finish classes respects b name matches fed form k begun v c.machine c.table c.copier.last c.copier.kept made c.taken c.put
-          c.copier.fresh r standing ask asked before since l₀ log l pre answer words c'.copier.last c'.copier.kept c'.copier.fresh c'.copier.given.done by told;
+          c.copier.fresh r valid ask asked before since l₀ log l pre answer words c'.copier.last c'.copier.kept c'.copier.fresh c'.copier.given.done by told;
     }
 
   -- the table at hand is as before where none was made or linked
@@ -242,7 +242,7 @@ module _ {K V S H : Type 0} (eq : K → K → Bool) (input : K → List (List �
   kept_hand ask asked log pre answer none c' same =
       subst (λ (o : Option (Where Sheet × Pen)). In (IsMadeLink (IsReadyAs b name log o)) (link_in (after c.machine answer).phase)) (sym same)
       (same_hand eq input build write finish classes respects b name matches fed form k begun v c.machine c.table c.copier.last c.copier.kept made c.taken c.put
-      c.copier.fresh r standing ask asked log pre answer none)
+      c.copier.fresh r valid ask asked log pre answer none)
 
   -- an answer with which nothing is exchanged
   module _ (ask : CopyAsk) (asked : ask_of c.machine ≡ asks.Copy ask) (log : List (Event K V S)) (l : IsLawfulLog eq hashes b log)
@@ -358,7 +358,7 @@ module _ {K V S H : Type 0} (eq : K → K → Bool) (input : K → List (List �
         c' tt (inr (n, past, refl), (refl, ap (λ (d : Driver K V S H). loaded_with d.copier.last d.copier.kept made) rest))
         (ap (λ (d : Driver K V S H). d.taken) rest) (ap (λ (d : Driver K V S H). d.put) rest) placed_last placed_kept
         (new_hand eq input build write finish classes respects b name matches fed form k begun v c.machine c.table c.copier.last c.copier.kept made c.taken c.put
-        c.copier.fresh r standing (copies.MakeTable slots limit chunks) asked log slots limit chunks refl c'.copier.fresh n fresh) (λ many least e. absurd (cc e))
+        c.copier.fresh r valid (copies.MakeTable slots limit chunks) asked log slots limit chunks refl c'.copier.fresh n fresh) (λ many least e. absurd (cc e))
 
     -- or it was refused
     pub unmade : (refused : Refused) → (refused ≡ Memory) ⊎ ((refused ≡ Capacity) × IsFull c'.copier.given.done) → c'.copier.fresh ≡ c.copier.fresh

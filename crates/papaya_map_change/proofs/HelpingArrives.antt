@@ -37,7 +37,7 @@ use Rattle.papaya_map_book.proofs.Lengths.{room_since, tables_since}
 use Rattle.papaya_map_book.proofs.Loaded.{table_since}
 use Rattle.papaya_map_book.proofs.Logs.{prefix_trans}
 use Rattle.papaya_map_change.specs.Changing.{IsCalling, IsForm, loaded_with}
-use Rattle.papaya_map_change.specs.Helping.{HasBegunAnew, HasGoneOn, HasHelped, IsAside, IsEntering, IsLed, IsSetAside, WasRefused}
+use Rattle.papaya_map_change.specs.Helping.{HasRestarted, HasGoneOn, HasHelped, IsAside, IsEntering, HasResumed, IsSetAside, WasRefused}
 use Rattle.papaya_map_change.proofs.HelpingRelies.{fresh_later}
 use Rattle.papaya_map_change.proofs.HelpingPlaces.{chain_came}
 use Rattle.papaya_map_change.proofs.Sized.{counting_since}
@@ -74,7 +74,7 @@ module _ {K V S H : Type 0} (eq : K → K → Bool) (input : K → List (List �
   -- before this the call was set aside
   module _ (v : List (Event K V S)) (was : Machine) (table : Option (Bor Sheet)) (last₀ kept₀ taken₀ put₀ : Option (Stored K V))
       (fresh₀ : Option (Where Sheet × Pen)) (r : IsCalling eq hash b name matches fed k begun v was table last₀ kept₀ made taken₀ put₀ fresh₀)
-      (tables : List ℕ) (given : List CapacityCause) (leads : IsAside was m ⊎ IsLed was m tables given) (pre : IsPrefix v log)
+      (tables : List ℕ) (given : List CapacityCause) (leads : IsAside was m ⊎ HasResumed was m tables given) (pre : IsPrefix v log)
       (log' : List (Event K V S)) (pre' : IsPrefix log log') (l' : IsLawfulLog eq hash b log') (table' : Option (Bor Sheet))
       (held : (n : ℕ) → IsEntering m n → MatchOption table' ⊥ (λ z. IsTable log' n z.now)) (still : ((n : ℕ) → IsEntering m n → ⊥) → table' ≡ table) where
     -- the table that it holds then
@@ -113,16 +113,16 @@ module _ {K V S H : Type 0} (eq : K → K → Bool) (input : K → List (List �
     waits : IsAside was m → Lands
     waits aside = record { number = r.number; at_table = λ calling. absurd (aside.busy calling); holds = same_held (λ n is. aside.busy is.0) }
 
-    led_to : m.phase ≡ Calling → HasGoneOn was m ⊎ HasBegunAnew was m ⊎ WasRefused was m tables given → Lands
-    led_to calling (inl on) = enters calling on.table (ap (λ (d : Call_machine). d.state) on.call)
-    led_to calling (inr (inl anew_at)) =
+    next_state : m.phase ≡ Calling → HasGoneOn was m ⊎ HasRestarted was m ⊎ WasRefused was m tables given → Lands
+    next_state calling (inl on) = enters calling on.table (ap (λ (d : Call_machine). d.state) on.call)
+    next_state calling (inr (inl anew_at)) =
         anew (λ stage. m.call.state ≡ stage → Lands)
         (needs_none (Ended Absent) (λ n f. cc f) tt) (needs_none Making (λ n f. cc f) tt) (needs_none (Offering NoRoot) (λ n f. cc f) tt) (enters calling)
         was.call.task was.call.remembered.fill anew_at.root (ap (λ (d : Call_machine). d.state) anew_at.call)
-    led_to calling (inr (inr ends)) = needs_none (Ended (Reply_refused ends.refused)) (λ n f. cc f) tt (ap (λ (d : Call_machine). d.state) ends.call)
+    next_state calling (inr (inr ends)) = needs_none (Ended (Reply_refused ends.refused)) (λ n f. cc f) tt (ap (λ (d : Call_machine). d.state) ends.call)
 
     lands : Lands
-    lands = ⊎_elim waits (λ (led : IsLed was m tables given). led_to led.calling led.where_to) leads
+    lands = ⊎_elim waits (λ (led : HasResumed was m tables given). next_state led.calling led.where_to) leads
 
     -- it is under way again
     pub arrived : IsCalling eq hash b name matches fed k begun log' m table' last kept made taken put fresh
@@ -149,17 +149,17 @@ module _ {K V S H : Type 0} (eq : K → K → Bool) (input : K → List (List �
 
 -- where answers for a copy have led a call
 abbrev pub HasReached : Machine → Machine → (tables : List ℕ) → List CapacityCause → Type 0
-HasReached m m' tables given = (m' ≡ m) ⊎ IsAside m m' ⊎ IsLed m m' tables given
+HasReached m m' tables given = (m' ≡ m) ⊎ IsAside m m' ⊎ HasResumed m m' tables given
 
 module _ (first m m' : Machine) (tables : List ℕ) (given : List CapacityCause) (same : m.call ≡ first.call) where
   -- one step after others that left the call as it was
   aside_further : IsAside m m' → IsAside first m'
   aside_further a = record { from = a.from; left = ap (λ (d : Call_machine). left_by d.state) (sym same) ∙ a.left; call = a.call ∙ same; busy = a.busy }
 
-  led_further : IsLed m m' tables given → IsLed first m' tables given
+  led_further : HasResumed m m' tables given → HasResumed first m' tables given
   led_further led = record { calling = led.calling; where_to = by_end led.where_to }
     where
-      by_end : HasGoneOn m m' ⊎ HasBegunAnew m m' ⊎ WasRefused m m' tables given → HasGoneOn first m' ⊎ HasBegunAnew first m' ⊎ WasRefused first m' tables given
+      by_end : HasGoneOn m m' ⊎ HasRestarted m m' ⊎ WasRefused m m' tables given → HasGoneOn first m' ⊎ HasRestarted first m' ⊎ WasRefused first m' tables given
       by_end (inl on) = inl (record {
         from = on.from;
         left = ap (λ (d : Call_machine). left_by d.state) (sym same)
@@ -183,13 +183,13 @@ module _ (first m m' : Machine) (tables : List ℕ) (given : List CapacityCause)
         cause = subst (λ (d : Call_machine). (ends.refused ≡ Memory) ⊎ ((ends.refused ≡ Capacity) × HasNoRoom d.initial tables given)) same ends.cause;
       }))
 
-  further : IsAside m m' ⊎ IsLed m m' tables given → HasReached first m' tables given
+  further : IsAside m m' ⊎ HasResumed m m' tables given → HasReached first m' tables given
   further (inl aside) = inr (inl (aside_further aside))
   further (inr led) = inr (inr (led_further led))
 
 -- after each answer, to a machine whose call is where it was
 pub reached_past : (first m mid m' : Machine) (tables tables' : List ℕ) (given given' : List CapacityCause) → HasReached first m tables given
-    → (m.phase ≡ Calling → ⊥) → mid.call ≡ m.call → IsAside mid m' ⊎ IsLed mid m' tables' given' → HasReached first m' tables' given'
+    → (m.phase ≡ Calling → ⊥) → mid.call ≡ m.call → IsAside mid m' ⊎ HasResumed mid m' tables' given' → HasReached first m' tables' given'
 reached_past first m mid m' tables tables' given given' (inl same) busy call leads = further first mid m' tables' given'
     (call ∙ ap (λ (d : Machine). d.call) same) leads
 reached_past first m mid m' tables tables' given given' (inr (inl aside)) busy call leads = further first mid m' tables' given' (call ∙ aside.call) leads
@@ -206,7 +206,7 @@ module _ (m m' : Machine) (tables tables' : List ℕ) (given : List CapacityCaus
     cause = ⊎_elim (λ memory. inl memory) (λ full. inr (full.0, room_since m.call.initial tables tables' given pre full.1)) ends.cause;
   }
 
-  led_since : HasGoneOn m m' ⊎ HasBegunAnew m m' ⊎ WasRefused m m' tables given → HasGoneOn m m' ⊎ HasBegunAnew m m' ⊎ WasRefused m m' tables' given
+  led_since : HasGoneOn m m' ⊎ HasRestarted m m' ⊎ WasRefused m m' tables given → HasGoneOn m m' ⊎ HasRestarted m m' ⊎ WasRefused m m' tables' given
   led_since (inl on) = inl on
   led_since (inr (inl begun)) = inr (inl begun)
   led_since (inr (inr ends)) = inr (inr (refused_since ends))

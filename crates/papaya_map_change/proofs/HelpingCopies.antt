@@ -17,12 +17,12 @@ use Rattle.papaya_call.specs.Link.{IsFitCopyAsk}
 use Rattle.papaya_call.specs.declared.chain.ask.Answer.{Answer}
 use Rattle.papaya_call.specs.declared.chain.ask.Answer.TheVariants as answers
 use Rattle.papaya_call.specs.declared.chain.ask.Ask.TheVariants as asks
-use Rattle.papaya_call.specs.ChainMachine.{IsStanding, after, ask_of, follows_of, kind_of_ask}
+use Rattle.papaya_call.specs.ChainMachine.{IsValid, after, ask_of, follows_of, kind_of_ask}
 use Rattle.papaya_call_law.specs.Goes.{link_in}
 use Rattle.papaya_call_law.proofs.LinkMade.{IsMadeLink}
 use Rattle.papaya_call_law.proofs.LinkStates.{In}
 use Rattle.papaya_call_law.specs.Copier.{AreThere, IsThere}
-use Rattle.papaya_call_law.specs.Told.{or_last}
+use Rattle.papaya_call_law.specs.TrueAnswers.{or_last}
 use Rattle.papaya_map_book.specs.declared.rule.entry.Begun.{Begun}
 use Rattle.papaya_map_book.specs.declared.rule.entry.Event.{Event}
 use Rattle.papaya_map_book.specs.Hashes.{hash_of}
@@ -131,7 +131,7 @@ module _ {K V S H : Type 0} (eq : K → K → Bool) (input : K → List (List �
   can_answer (copies.MakeTable slots limit chunks) asked
       fit = (λ some. follows_came eq input build write finish classes respects b name matches fed form k begun made v c r slots limit chunks asked, fit)
 
-  module _ (standing : IsStanding c.machine) (log : List (Event K V S)) (pre : IsPrefix v log) (h : Copier K V S H) where
+  module _ (valid : IsValid c.machine) (log : List (Event K V S)) (pre : IsPrefix v log) (h : Copier K V S H) where
     -- the call that took back what its copier holds
     abbrev c' : Driver K V S H
     c' = with_copier c h
@@ -150,12 +150,12 @@ module _ {K V S H : Type 0} (eq : K → K → Bool) (input : K → List (List �
       not_made told (inr (word, is)) n e = let f : Found_instead word ≡ Made_number n = sym is ∙ e in cc f
 
       stays : (told : Call_answer) → (told ≡ Exchanged) ⊎ ((word : ℕ) × (told ≡ Found_instead word)) → h.fresh ≡ c.copier.fresh → Hand told
-      stays told is same = hand_kept eq input build write finish classes respects b name matches fed form k begun made v c r standing at old new asked
+      stays told is same = hand_kept eq input build write finish classes respects b name matches fed form k begun made v c r valid at old new asked
           found log pair t c' told (not_made told is) pre same
 
       hand : (place : At) → at ≡ place → IsHandLeft place c.copier.fresh h.fresh → (told : Call_answer) → (told ≡ Exchanged)
           ⊎ ((word : ℕ) × (told ≡ Found_instead word)) → Hand told
-      hand (Next i) e left told is = hand_tried eq input build write finish classes respects b name matches fed form k begun made v c r standing i old
+      hand (Next i) e left told is = hand_tried eq input build write finish classes respects b name matches fed form k begun made v c r valid i old
           new (asked ∙ ap (λ (a : At). asks.Copy (copies.Exchange a old new)) e) log h.fresh told is
       hand Root e left told is = stays told is left
       hand (Aborted i) e left told is = stays told is left
@@ -166,9 +166,9 @@ module _ {K V S H : Type 0} (eq : K → K → Bool) (input : K → List (List �
       ended : (z : Bool) → (found == old) ≡ z → h.kept ≡ c.copier.kept
           → MatchBool z (h.last ≡ marked_or (kind_of_ask c.machine) pair c.copier.last) (h.last ≡ or_last pair c.copier.last) → IsHandLeft at c.copier.fresh h.fresh
           → Leaves log (if z then answers.Call Exchanged else answers.Call (Found_instead found))
-      ended true is kept last left = exchanged eq input build write finish classes respects b name matches fed form k begun made v c r standing at old
+      ended true is kept last left = exchanged eq input build write finish classes respects b name matches fed form k begun made v c r valid at old
           new asked found log pair t c' is refl refl kept last (hand at refl left Exchanged (inl refl))
-      ended false is kept last left = beaten eq input build write finish classes respects b name matches fed form k begun made v c r standing at old
+      ended false is kept last left = beaten eq input build write finish classes respects b name matches fed form k begun made v c r valid at old
           new asked found log pair t c' is refl refl kept last (hand at refl left (Found_instead found) (inr (found, refl)))
 
     tried_on : (at : At) (old new : ℕ) → ask_of c.machine ≡ asks.Copy (copies.Exchange at old new) → (answer : Answer)
@@ -180,37 +180,37 @@ module _ {K V S H : Type 0} (eq : K → K → Bool) (input : K → List (List �
     pub copied : (ask : CopyAsk) → ask_of c.machine ≡ asks.Copy ask → (answer : Answer)
         → AnswersTo eq hash b name ask (kind_of_ask c.machine) (follows_of c.machine) v c.copier log h answer → Leaves log answer
     copied (copies.Load at) asked answer a = subst (Leaves log) (sym a.is)
-        (as_loaded eq input build write finish classes respects b name matches fed form k begun made v c r standing at asked log pre a.word c'
+        (as_loaded eq input build write finish classes respects b name matches fed form k begun made v c r valid at asked log pre a.word c'
         (ap (with_copier c) a.rest) a.as_loaded)
     copied (copies.Exchange at old new) asked answer a = tried_on at old new asked answer a
     copied (copies.LoadHint t x) asked answer a = subst (Leaves log) (sym a.is)
-        (hinted eq input build write finish classes respects b name matches fed form k begun made v c r standing t x asked log pre a.hint a.hinted c'
+        (hinted eq input build write finish classes respects b name matches fed form k begun made v c r valid t x asked log pre a.hint a.hinted c'
         (ap (with_copier c) a.rest))
     copied (copies.WriteHint t x n) asked answer a = subst (Leaves log) (sym a.is)
-        (noted eq input build write finish classes respects b name matches fed form k begun made v c r standing t x n asked log a.lawful pre c'
+        (noted eq input build write finish classes respects b name matches fed form k begun made v c r valid t x n asked log a.lawful pre c'
         (ap (with_copier c) a.rest))
     copied (copies.SizeOf t) asked answer a = subst (Leaves log) (sym a.is)
-        (sized eq input build write finish classes respects b name matches fed form k begun made v c r standing t asked log a.size_of.lawful pre
+        (sized eq input build write finish classes respects b name matches fed form k begun made v c r valid t asked log a.size_of.lawful pre
         a.size_of.sheet a.size_of.table a.size.0 a.size.1 a.size_of.len a.size_of.limit c' (ap (with_copier c) a.rest))
     copied (copies.HashOf n) asked answer a = subst (Leaves log) (sym a.is)
         (subst (λ (l : List (Event K V S)). Leaves l (answers.Hash a.word)) (sym a.still)
-        (hashed eq input build write finish classes respects b name matches fed form k begun made v c r standing n asked a.word a.carries.hash_is c'
+        (hashed eq input build write finish classes respects b name matches fed form k begun made v c r valid n asked a.word a.carries.hash_is c'
         (ap (with_copier c) a.rest) a.carries.kept))
     copied (copies.SamePair i n) asked answer a = subst (Leaves log) (sym a.is)
         (subst (λ (l : List (Event K V S)). Leaves l (answers.Call (Yes a.same))) (sym a.still)
-        (compared eq input build write finish classes respects b name matches fed form k begun made v c r standing i n asked a.same a.same_is c'
+        (compared eq input build write finish classes respects b name matches fed form k begun made v c r valid i n asked a.same a.same_is c'
         (ap (with_copier c) a.rest)))
     copied copies.Count asked answer a = subst (Leaves log) (sym a.is)
         (subst (λ (l : List (Event K V S)). Leaves l (answers.Count a.sum)) (sym a.still)
-        (counted eq input build write finish classes respects b name matches fed form k begun made v c r standing asked a.sum c'
+        (counted eq input build write finish classes respects b name matches fed form k begun made v c r valid asked a.sum c'
         (ap (with_copier c) a.rest) a.given_is))
     copied (copies.MakeTable slots limit chunks) asked answer a =
         ⊎_elim
         (λ (y : (number : ℕ) × (answer ≡ answers.Call (Made_number number)) × HasMade eq hash b name number (follows_of c.machine) chunks log h).
-        subst (Leaves log) (sym y.1) (tabled eq input build write finish classes respects b name matches fed form k begun made v c r standing slots
+        subst (Leaves log) (sym y.1) (tabled eq input build write finish classes respects b name matches fed form k begun made v c r valid slots
         limit chunks asked log a.lawful pre c' (ap (with_copier c) a.rest) y.0 y.2.past (y.2.fresh, y.2.words)))
         (λ (n : (refused : Refused) × (answer ≡ answers.Call (Was_refused refused))
         × ((refused ≡ Memory) ⊎ ((refused ≡ Capacity) × IsFull h.given.done)) × (h.fresh ≡ c.copier.fresh)).
-        subst (Leaves log) (sym n.1) (unmade eq input build write finish classes respects b name matches fed form k begun made v c r standing slots
+        subst (Leaves log) (sym n.1) (unmade eq input build write finish classes respects b name matches fed form k begun made v c r valid slots
         limit chunks asked log a.lawful pre c' (ap (with_copier c) a.rest) n.0 n.2 n.3))
         a.makes

@@ -22,7 +22,7 @@ use Rattle.papaya_call.specs.declared.chain.ask.Ask.TheVariants as asks
 use Rattle.papaya_call.specs.declared.chain.machine.Machine.{Machine}
 use Rattle.papaya_call.specs.ChainMachine.{ask_of, follows_of, kind_of_ask}
 use Rattle.papaya_call_law.specs.Goes.{link_in}
-use Rattle.papaya_call_law.specs.ChainTold.{IsCopyTold}
+use Rattle.papaya_call_law.specs.ChainAnswers.{IsTrueOfCopy}
 use Rattle.papaya_call_law.proofs.LinkMade.{machine_linking, machine_links}
 use Rattle.papaya_call_law.proofs.Names.{copies_may}
 use Rattle.papaya_words_law.specs.Allows.{Allows}
@@ -34,7 +34,7 @@ use Rattle.papaya_words_law.specs.Invariant.{named}
 use Rattle.papaya_words_law.proofs.Alike.{alike_back, allows_alike}
 use Rattle.papaya_words_law.proofs.Further.{key_alike}
 use Rattle.papaya_call_law.specs.Copier.{HasWords, IsCopyAsked, last_after, told_last}
-use Rattle.papaya_call_law.specs.Told.{IsWritten, or_last, word_of}
+use Rattle.papaya_call_law.specs.TrueAnswers.{IsWritten, or_last, word_of}
 use Rattle.papaya_call_law.proofs.FurtherWords.{key_word}
 use Rattle.papaya_map_book.specs.declared.rule.entry.Begun.{Begun}
 use Rattle.papaya_map_book.specs.declared.rule.entry.Event.{Event}
@@ -366,7 +366,7 @@ module _ {K V S H : Type 0} (eq : K → K → Bool) (input : K → List (List �
 
       -- the log goes on from what was there before
       pub grown : (found == old) ≡ true → (pre : IsPrefix t.before log)
-          × IsCopyTold (G log) C (state_of t.before) (kind_of_ask m) (follows_of m) (loaded_with last kept made) (Ask_exchange at old new)
+          × IsTrueOfCopy (G log) C (state_of t.before) (kind_of_ask m) (follows_of m) (loaded_with last kept made) (Ask_exchange at old new)
           (answers.Call Exchanged) (exchanges_of pre.0) (loaded_with (marked_or (kind_of_ask m) pair last) kept made)
       grown is =
           let done = subst After is t.after in
@@ -404,7 +404,7 @@ module _ {K V S H : Type 0} (eq : K → K → Bool) (input : K → List (List �
           eq_le (words_of (steps_of log) n step.0 came ∙ many))
 
       pub lost : (found == old) ≡ false → (pre : IsPrefix t.before log)
-          × IsCopyTold (G log) C (state_of t.before) (kind_of_ask m) (follows_of m) (loaded_with last kept made) (Ask_exchange at old new)
+          × IsTrueOfCopy (G log) C (state_of t.before) (kind_of_ask m) (follows_of m) (loaded_with last kept made) (Ask_exchange at old new)
           (answers.Call (Found_instead found)) (exchanges_of pre.0) (loaded_with (or_last pair last) kept made)
       lost is =
           let same = subst After is t.after in

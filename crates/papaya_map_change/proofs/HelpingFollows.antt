@@ -23,7 +23,7 @@ use Rattle.papaya_call.specs.declared.chain.machine.Phase.TheVariants.{Calling, 
 use Rattle.papaya_call.specs.ChainMachine.{ask_of, asks_in, follows_in, follows_of}
 use Rattle.papaya_call_law.specs.Goes.{link_in}
 use Rattle.papaya_call_law.specs.ChainRelies.{Relies, ReliesPhase}
-use Rattle.papaya_call_law.specs.ChainTold.{LoadedPairs}
+use Rattle.papaya_call_law.specs.ChainAnswers.{LoadedPairs}
 use Rattle.papaya_words_law.specs.Class.{IsOn}
 use Rattle.papaya_words_law.specs.Code.{Coding}
 use Rattle.papaya_words_law.specs.Exchange.{Exchange, Setting, State, run, start}

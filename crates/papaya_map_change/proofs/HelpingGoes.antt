@@ -20,7 +20,7 @@ use Rattle.papaya_map_book.specs.Limits.{tables_of}
 use Rattle.papaya_map_book.specs.Rule.{IsLawfulLog}
 use Rattle.papaya_map_book.proofs.Lengths.{tables_since}
 use Rattle.papaya_map_change.specs.declared.driver.Driver.{Driver}
-use Rattle.papaya_map_change.specs.Changing.{CanGoOn, GoesOn, IsDriven}
+use Rattle.papaya_map_change.specs.Changing.{CanGoOn, Continues, IsDriven}
 use Rattle.papaya_map_change.specs.Helping.{Copies, HasCopied, IsEntering}
 use Rattle.papaya_map_change.proofs.HelpingArrives.{HasReached, arrived, entering_came, reached_past, reached_since}
 use Rattle.papaya_map_change.proofs.HelpingLeads.{busy}
@@ -28,7 +28,7 @@ use Rattle.papaya_map_change.proofs.HelpingLeads.{busy}
 module _ {K V S H : Type 0} (eq : K → K → Bool) (input : K → List (List ℕ)) (build : S → H) (write : H → List ℕ → H) (finish : H → ℕ)
     (classes : IsEquivalence eq) (respects : (x y : K) → eq x y ≡ true → input x ≡ input y)
     (b : Begun K V S) (name : Book) (v₀ v : List (Event K V S)) (c₀ c : Driver K V S H)
-    (goes : GoesOn eq (hash_of input build write finish) b name v₀ c₀ v c) (can : CanGoOn eq (hash_of input build write finish) b name v₀ c₀) where
+    (goes : Continues eq (hash_of input build write finish) b name v₀ c₀ v c) (can : CanGoOn eq (hash_of input build write finish) b name v₀ c₀) where
   abbrev hash : S → K → ℕ
   hash = hash_of input build write finish
 
@@ -79,11 +79,11 @@ module _ {K V S H : Type 0} (eq : K → K → Bool) (input : K → List (List �
       -- and holds that table
       pub goes_further : (log' : List (Event K V S)) → IsPrefix v log → IsPrefix log log' → IsLawfulLog eq hash b log' → c₁.table ≡ c.table
           → ((n : ℕ) → IsEntering m n → MatchOption c₂.table ⊥ (λ z. IsTable log' n z.now)) → (((n : ℕ) → IsEntering m n → ⊥) → c₂.table ≡ c₁.table)
-          → GoesOn eq hash b name v₀ c₀ log' c₂
+          → Continues eq hash b name v₀ c₀ log' c₂
       goes_further log' pre pre' l' table_is held still =
           let held' : (n : ℕ) → IsEntering (after c.machine answer) n → MatchOption c₂.table ⊥ (λ z. IsTable log' n z.now) = λ n e. held n (from n e) in
           let still' : ((n : ℕ) → IsEntering (after c.machine answer) n → ⊥) → c₂.table ≡ c.table = λ none. still (λ n e. none n (to n e)) ∙ table_is in
-          subst (λ (z : Driver K V S H). GoesOn eq hash b name v₀ c₀ log' z)
+          subst (λ (z : Driver K V S H). Continues eq hash b name v₀ c₀ log' z)
           (sym (is ∙ ap (λ (z : Machine). record c₁ { machine = z; table = c₂.table }) goes_to))
           (λ matches fed form k begun made r.
           let now = goes matches fed form k begun made r in let moved = copies matches fed form k begun made now in

@@ -16,14 +16,14 @@ use Rattle.papaya_call.specs.declared.copy.link.Linked.{Linked}
 use Rattle.papaya_call.specs.declared.copy.link.Linked.TheVariants as linked
 use Rattle.papaya_call.specs.declared.copy.settle.Settle.TheVariants as settles
 use Rattle.papaya_call.specs.declared.copy.step.Step.TheVariants as steps
-use Rattle.papaya_call.specs.Link.{IsStandingLink}
+use Rattle.papaya_call.specs.Link.{IsValidLink}
 use Rattle.papaya_call.specs.declared.chain.ask.Ask.TheVariants as asks
 use Rattle.papaya_call.specs.declared.chain.ask.Answer.{Answer}
 use Rattle.papaya_call.specs.declared.chain.ask.Answer.TheVariants as answers
 use Rattle.papaya_call.specs.declared.chain.machine.Machine.{Machine}
 use Rattle.papaya_call.specs.declared.chain.machine.Phase.{Phase}
 use Rattle.papaya_call.specs.declared.chain.machine.Phase.TheVariants.{Calling, Linking, Copying as Copying_root}
-use Rattle.papaya_call.specs.ChainMachine.{IsStanding, IsStandingPhase, after, after_copied, after_in}
+use Rattle.papaya_call.specs.ChainMachine.{IsValid, IsValidPhase, after, after_copied, after_in}
 use Rattle.papaya_call.specs.ChainMachine.{after_linked, aim_for, ask_of, asks_in, copying_after}
 use Rattle.papaya_call.specs.ChainMachine.{follows_in, follows_of, goes_on, kind_in, kind_of_ask}
 use Rattle.papaya_call.specs.ChainMachine.{link_after, onward, refuses}
@@ -35,7 +35,7 @@ use Rattle.papaya_words_law.proofs.OneMap.{keeping}
 use Rattle.papaya_call_law.specs.Copier.{HasWords, ReliesCopied, ReliesCopying, aim_of}
 use Rattle.papaya_call_law.specs.Goes.{WasNotMade, WouldBeTooLong, link_in}
 use Rattle.papaya_call_law.specs.ChainRelies.{Relies, ReliesPhase, left_by}
-use Rattle.papaya_call_law.specs.ChainTold.{IsTold, LoadedPairs}
+use Rattle.papaya_call_law.specs.ChainAnswers.{IsTrueOf, LoadedPairs}
 use Rattle.papaya_call_law.proofs.CopyTold.{copying_learns}
 use Rattle.papaya_call_law.proofs.Order.{in_order}
 use Rattle.papaya_call_law.proofs.Outcomes.{not_chunk}
@@ -43,7 +43,7 @@ use Rattle.papaya_call_law.proofs.Refusals.{chain_refused}
 use Rattle.papaya_map_book.specs.declared.rule.own.CapacityCause.{CapacityCause}
 use Rattle.papaya_map_book.specs.Limits.{HasNoRoom}
 use Rattle.papaya_map_change.specs.Changing.{IsCountingOf, IsSizedBy}
-use Rattle.papaya_map_change.specs.Helping.{IsAside, IsGivenBy, IsLed}
+use Rattle.papaya_map_change.specs.Helping.{IsAside, IsGivenBy, HasResumed}
 
 -- a machine that asks for a copy does not ask for its call
 not_calling : (m : Machine) (phase : Phase) (ask : CopyAsk) → phase ≡ Calling → asks_in m.call phase ≡ asks.Copy ask → ⊥
@@ -55,10 +55,10 @@ pub busy : (m : Machine) (ask : CopyAsk) → ask_of m ≡ asks.Copy ask → m.ph
 busy m ask e is = not_calling m m.phase ask is e
 
 module _ {K P : Type 0} (g : Setting K P) (c : Coding K P) (hashed : IsHashed g c) (begun since : List (Exchange P))
-    (may : AllAllowed g start (begun ++ since)) (k : K) (m : Machine) (loaded : LoadedPairs P) (r : Relies g c begun since k m loaded) (standing : IsStanding m)
+    (may : AllAllowed g start (begun ++ since)) (k : K) (m : Machine) (loaded : LoadedPairs P) (r : Relies g c begun since k m loaded) (valid : IsValid m)
     (ask : CopyAsk) (asked : ask_of m ≡ asks.Copy ask) (answer : Answer) (words : answer ≡ answers.Call Exchanged → HasWords g (link_in m.phase))
     (es : List (Exchange P)) (loaded' : LoadedPairs P)
-    (told : IsTold g c k (run (begun ++ since) start) (kind_of_ask m) (follows_of m) loaded (ask_of m) answer es loaded') (tables : List ℕ)
+    (told : IsTrueOf g c k (run (begun ++ since) start) (kind_of_ask m) (follows_of m) loaded (ask_of m) answer es loaded') (tables : List ℕ)
     (counts : IsCountingOf tables m) (given : List CapacityCause) (by : IsGivenBy answer given) where
   -- the state after all exchanges
   abbrev now : State P
@@ -104,7 +104,7 @@ module _ {K P : Type 0} (g : Setting K P) (c : Coding K P) (hashed : IsHashed g 
 
   -- it stays set aside, or goes on
   abbrev Left : Machine → Type 0
-  Left m' = IsAside m m' ⊎ IsLed m m' tables given
+  Left m' = IsAside m m' ⊎ HasResumed m m' tables given
 
   stays : (phase : Phase) → (phase ≡ Calling → ⊥) → (helped : Bool) → Left (record m { helped = helped; phase = phase })
   stays phase aside helped = inl (record { from = left_from.0; left = left_from.1; call = refl; busy = aside })
@@ -112,7 +112,7 @@ module _ {K P : Type 0} (g : Setting K P) (c : Coding K P) (hashed : IsHashed g 
   enters_on : (n : ℕ) → Left (Rattle.papaya_call.specs.ChainMachine.enters m n)
   enters_on n = inr (record { calling = refl; where_to = inl (record { from = left_from.0; left = left_from.1; table = n; call = refl }) })
 
-  begins_on : (root : ℕ) → Left (Rattle.papaya_call.specs.ChainMachine.begins_anew m root)
+  begins_on : (root : ℕ) → Left (Rattle.papaya_call.specs.ChainMachine.restarted m root)
   begins_on root = inr (record { calling = refl; where_to = inr (inl (record { from = left_from.0; left = left_from.1; root = root; call = refl })) })
 
   refused_on : (refused : Refused) → after m answer ≡ refuses m refused → Left (refuses m refused)
@@ -155,7 +155,7 @@ module _ {K P : Type 0} (g : Setting K P) (c : Coding K P) (hashed : IsHashed g 
   copies copying (inr at) = at.relies
 
   left_for : (phase : Phase) → m.phase ≡ phase → ReliesPhase g c begun since k m loaded phase
-      → IsTold g c k now (kind_in m.call phase) (follows_in phase) loaded (asks_in m.call phase) answer es loaded' → Left (after_in m answer phase)
+      → IsTrueOf g c k now (kind_in m.call phase) (follows_in phase) loaded (asks_in m.call phase) answer es loaded' → Left (after_in m answer phase)
   left_for Calling e at h = absurd (busy m ask asked e)
   left_for (Linking link) e at h = linked_left (link_after link m.call.mode m.call.initial answer) (ap (after_in m answer) e)
   left_for (Copying_root copying) e at h =

@@ -21,9 +21,9 @@ use Rattle.papaya_call.specs.declared.chain.ask.Ask.TheVariants as asks
 use Rattle.papaya_call.specs.declared.chain.machine.Machine.{Machine}
 use Rattle.papaya_call.specs.declared.chain.machine.Phase.{Phase}
 use Rattle.papaya_call.specs.declared.chain.machine.Phase.TheVariants.{Calling, Linking, Copying as Copying_root}
-use Rattle.papaya_call.specs.ChainMachine.{IsStanding, after, ask_of, asks_in, follows_of, kind_of_ask}
+use Rattle.papaya_call.specs.ChainMachine.{IsValid, after, ask_of, asks_in, follows_of, kind_of_ask}
 use Rattle.papaya_call_law.specs.Goes.{change_by, link_in}
-use Rattle.papaya_call_law.specs.ChainTold.{IsCopyTold, IsTold}
+use Rattle.papaya_call_law.specs.ChainAnswers.{IsTrueOfCopy, IsTrueOf}
 use Rattle.papaya_call_law.proofs.LinkMade.{IsMadeLink, is_made, machine_linking, machine_links, machine_made, made_is}
 use Rattle.papaya_call_law.proofs.LinkStates.{In}
 use Rattle.papaya_call_law.proofs.Order.{in_order}
@@ -43,7 +43,7 @@ use Rattle.papaya_map_book.proofs.Brings.{made_since}
 use Rattle.papaya_map_book.proofs.Lengths.{tables_since}
 use Rattle.papaya_map_book.proofs.Logs.{prefix_trans}
 use Rattle.papaya_map_change.specs.Changing.{HasChunks, IsReadyAs, IsBringing, IsCalling, IsCountingOf, IsForm, IsFresh, loaded_with}
-use Rattle.papaya_map_change.specs.Helping.{IsAside, IsGivenBy, IsLed, IsSetAside}
+use Rattle.papaya_map_change.specs.Helping.{IsAside, IsGivenBy, HasResumed, IsSetAside}
 use Rattle.papaya_map_change.proofs.HelpingLeads.{leaves, left_from}
 use Rattle.papaya_map_change.proofs.MakingAsks.{making_asks}
 use Rattle.papaya_map_change.proofs.HelpingPlaces.{relying}
@@ -80,7 +80,7 @@ opening call (Copying_root copying) old new e = absurd cc
 
 module _ (m m' : Machine) (tables : List ℕ) (given : List CapacityCause) where
   -- none that went on asks so
-  led_opens : IsLed m m' tables given → (old new : ℕ) → call_machine.ask_of m'.call ≡ Call_exchange Root old new → ⊥
+  led_opens : HasResumed m m' tables given → (old new : ℕ) → call_machine.ask_of m'.call ≡ Call_exchange Root old new → ⊥
   led_opens led old new e = elim led.where_to [
     | inl on ↦ (let f : SizeOf on.table ≡ Call_exchange Root old new = sym (ap call_machine.ask_of on.call) ∙ e in cc f)
     | inr (inl begun) ↦ anew (λ stage. call_machine.asks m.call.made m.call.hash stage ≡ Call_exchange Root old new → ⊥) (λ f. cc f) (λ f. cc f)
@@ -89,12 +89,12 @@ module _ (m m' : Machine) (tables : List ℕ) (given : List CapacityCause) where
   ]
 
   -- so a table comes only where one is about to be linked
-  brings_after : (Made : ℕ → Type 0) (Full : ℕ → Type 0) → IsAside m m' ⊎ IsLed m m' tables given
+  brings_after : (Made : ℕ → Type 0) (Full : ℕ → Type 0) → IsAside m m' ⊎ HasResumed m m' tables given
       → In (IsMadeLink (λ n chunks. Made n × Full chunks)) (link_in m'.phase) → (n : ℕ) → IsBringing (ask_of m') n → Made n
   brings_after Made Full leads made n h =
       bringing (ask_of m') n (Made n) h
       (λ old new e. let both = opening m'.call m'.phase old new e in
-      absurd (⊎_elim (λ (aside : IsAside m m'). aside.busy both.0) (λ (led : IsLed m m' tables given). led_opens led old new both.1) leads))
+      absurd (⊎_elim (λ (aside : IsAside m m'). aside.busy both.0) (λ (led : HasResumed m m' tables given). led_opens led old new both.1) leads))
       (λ t old new e same. let about = machine_links m' t old new e in
       subst Made same (is_made (λ i chunks. Made i × Full chunks) (link_in m'.phase) made t new about.0 about.1).0)
 
@@ -104,7 +104,7 @@ module _ {K V S H : Type 0} (eq : K → K → Bool) (input : K → List (List �
     (begun v : List (Event K V S)) (m : Machine) (table : Option (Bor Sheet)) (last kept : Option (Stored K V)) (made : List (Stored K V))
     (taken put : Option (Stored K V)) (fresh : Option (Where Sheet × Pen))
     (r : IsCalling eq (hash_of input build write finish) b name matches fed k begun v m table last kept made taken put fresh)
-    (standing : IsStanding m) (ask : CopyAsk) (asked : ask_of m ≡ asks.Copy ask) where
+    (valid : IsValid m) (ask : CopyAsk) (asked : ask_of m ≡ asks.Copy ask) where
   abbrev hash : S → K → ℕ
   hash = hash_of input build write finish
 
@@ -150,7 +150,7 @@ module _ {K V S H : Type 0} (eq : K → K → Bool) (input : K → List (List �
       (l : IsLawfulLog eq hash b log) (pre : IsPrefix before log) (answer : Answer)
       (words : answer ≡ answers.Call Exchanged → HasWords (G log) (link_in m.phase)) (last' kept' : Option (Stored K V))
       (fresh' : Option (Where Sheet × Pen)) (given : List CapacityCause) (by : IsGivenBy answer given)
-      (told : IsCopyTold (G log) C (state_of before) (kind_of_ask m) (follows_of m) (loaded_with last kept made) ask answer (exchanges_of pre.0)
+      (told : IsTrueOfCopy (G log) C (state_of before) (kind_of_ask m) (follows_of m) (loaded_with last kept made) ask answer (exchanges_of pre.0)
       (loaded_with last' kept' made)) where
     abbrev mid : ChainRelying eq input build write finish classes respects b matches fed form k (exchanges_of begun) before m (loaded_with last kept made)
     mid = relying_later eq input build write finish classes respects b matches fed form k (exchanges_of begun) v r.lawful m
@@ -158,12 +158,12 @@ module _ {K V S H : Type 0} (eq : K → K → Bool) (input : K → List (List �
         taken put fresh r) before l₀ since
 
     -- of the words
-    told_so : IsTold (G log) C k (state_of before) (kind_of_ask m) (follows_of m) (loaded_with last kept made) (ask_of m) answer (exchanges_of pre.0)
+    told_so : IsTrueOf (G log) C k (state_of before) (kind_of_ask m) (follows_of m) (loaded_with last kept made) (ask_of m) answer (exchanges_of pre.0)
         (loaded_with last' kept' made)
-    told_so = subst (λ (a : Ask). IsTold (G log) C k (state_of before) (kind_of_ask m) (follows_of m) (loaded_with last kept made) a answer
+    told_so = subst (λ (a : Ask). IsTrueOf (G log) C k (state_of before) (kind_of_ask m) (follows_of m) (loaded_with last kept made) a answer
         (exchanges_of pre.0) (loaded_with last' kept' made)) (sym asked) told
 
-    told_there : IsTold (G log) C k (run (exchanges_of begun ++ mid.since) start) (kind_of_ask m) (follows_of m) (loaded_with last kept made)
+    told_there : IsTrueOf (G log) C k (run (exchanges_of begun ++ mid.since) start) (kind_of_ask m) (follows_of m) (loaded_with last kept made)
         (ask_of m) answer (exchanges_of pre.0) (loaded_with last' kept' made)
     told_there = told_then eq input build write finish classes respects b matches fed form k (exchanges_of begun) before l₀ m
         (loaded_with last kept made) mid log l pre answer (exchanges_of pre.0) (loaded_with last' kept' made) told_so
@@ -178,11 +178,11 @@ module _ {K V S H : Type 0} (eq : K → K → Bool) (input : K → List (List �
     counting = counting_since (tables_of v) (tables_of log) (tables_since v log (prefix_trans v before log since pre)) m r.counts
 
     -- it stays set aside, or goes on
-    pub leads : IsAside m (after m answer) ⊎ IsLed m (after m answer) (tables_of log) given
+    pub leads : IsAside m (after m answer) ⊎ HasResumed m (after m answer) (tables_of log) given
     leads =
         leaves (G log) C (hashed_in eq input build write finish classes respects b matches fed form k (exchanges_of begun) log l) (exchanges_of begun) mid.since
         (may_first eq input build write finish classes respects b matches fed form k (exchanges_of begun) before l₀ m (loaded_with last kept made) mid
-        log l pre) k m (loaded_with last kept made) rested standing ask asked answer words (exchanges_of pre.0) (loaded_with last' kept' made)
+        log l pre) k m (loaded_with last kept made) rested valid ask asked answer words (exchanges_of pre.0) (loaded_with last' kept' made)
         told_there (tables_of log) counting given by
 
     -- it had changed nothing, and has not
@@ -191,7 +191,7 @@ module _ {K V S H : Type 0} (eq : K → K → Bool) (input : K → List (List �
         let left = left_from (G log) C (hashed_in eq input build write finish classes respects b matches fed form k (exchanges_of begun) log l)
         (exchanges_of begun) mid.since
         (may_first eq input build write finish classes respects b matches fed form k (exchanges_of begun) before l₀ m (loaded_with last kept made) mid
-        log l pre) k m (loaded_with last kept made) rested standing ask asked answer words (exchanges_of pre.0) (loaded_with last' kept' made)
+        log l pre) k m (loaded_with last kept made) rested valid ask asked answer words (exchanges_of pre.0) (loaded_with last' kept' made)
         told_there (tables_of log) counting given by in
         chain_changes (G log) C k (run (exchanges_of begun ++ mid.since) start) m (loaded_with last kept made) answer (exchanges_of pre.0)
         (loaded_with last' kept' made)

@@ -26,7 +26,7 @@ use Rattle.papaya_call.specs.declared.chain.ask.Answer.TheVariants as answers
 use Rattle.papaya_call.specs.declared.chain.ask.Ask.TheVariants.{Call}
 use Rattle.papaya_call.specs.declared.chain.machine.Machine.{Machine}
 use Rattle.papaya_call.specs.declared.chain.machine.Phase.TheVariants.{Calling}
-use Rattle.papaya_call.specs.ChainMachine.{IsStanding, after, after_in, ask_of, kind_of_ask, started}
+use Rattle.papaya_call.specs.ChainMachine.{IsValid, after, after_in, ask_of, kind_of_ask, started}
 use Rattle.papaya_call_law.proofs.Names.{call_asks}
 use Rattle.papaya_call_law.proofs.Replies.{chain_task}
 use Rattle.papaya_call_law.specs.Followed.{MayAsk}
@@ -36,7 +36,7 @@ use Rattle.papaya_words_law.specs.Code.{Coding}
 use Rattle.papaya_words_law.specs.Exchange.{Setting}
 use Rattle.papaya_call_law.specs.Relies.{IsAtLimit, ReliesStage}
 use Rattle.papaya_call_law.specs.Says.{MakesPair}
-use Rattle.papaya_call_law.specs.Told.{IsOneOf, LoadedPairs}
+use Rattle.papaya_call_law.specs.TrueAnswers.{IsOneOf, LoadedPairs}
 use Rattle.papaya_call_law.proofs.Followed.{asked_of_task}
 use Rattle.papaya_map_book.specs.declared.rule.entry.Begun.{Begun}
 use Rattle.papaya_map_book.specs.declared.rule.entry.Event.{Event}
@@ -52,7 +52,7 @@ use Rattle.papaya_map_book.specs.declared.book.pairs.ValuePart.TheVariants as va
 use Rattle.papaya_map_lookup.specs.Lookups.{coding_for, setting_for}
 use Rattle.papaya_map_book.specs.Rule.{IsLawfulLog}
 use Rattle.papaya_map_book.specs.Limits.{HasNoRoom, IsSpent, tables_of}
-use Rattle.papaya_map_change.specs.Writing.{CanPut, HasKeyAt, IsMemoryCapacityOrLimit, IsUnsaid, IsWritingOn, MayStand, TellsTaken, held_value}
+use Rattle.papaya_map_change.specs.Writing.{CanPut, HasKeyAt, IsMemoryCapacityOrLimit, IsWithoutResult, IsWritingOn, MayOverwrite, IsTakenCount, held_value}
 use Rattle.papaya_map_lookup.proofs.AskedPairs.{IsServed, asked_served}
 use Rattle.papaya_map_lookup.proofs.KeptKeys.{key_at_stays, met_key}
 use Rattle.papaya_map_change.proofs.StepsOfOwn.{own_kind, own_order}
@@ -80,11 +80,11 @@ module _ {K V S H : Type 0} (eq : K → K → Bool) (input : K → List (List �
     IsUnpairing answer = (n : ℕ) → answer ≡ Made_number n → MakesPair (calls.ask_of m.call) → ⊥
 
     -- what holds of what an answer says, or of a limit that is spent, holds of why it is refused
-    refused : (holds : Cause → Type 0) (answer : Answer) → IsStanding m → m.phase ≡ Calling → IsOpen
+    refused : (holds : Cause → Type 0) (answer : Answer) → IsValid m → m.phase ≡ Calling → IsOpen
         → ((cause : Cause) → answer ≡ Was_refused cause → holds cause) → (IsAtLimit m.call answer → holds Limit) → (cause : Cause)
         → ask_of (after m (answers.Call answer)) ≡ Call (Done (Refused cause)) → holds cause
-    refused holds answer standing calling open_still told spent = refused_for m calling answer holds
-        (λ e. subst IsComputer r.task_is (shows_none m standing e)) open_still told spent
+    refused holds answer valid calling open_still told spent = refused_for m calling answer holds
+        (λ e. subst IsComputer r.task_is (shows_none m valid e)) open_still told spent
 
     -- the pair that was made of a key that was met serves in its slot still
     of_later : (made' : List (Stored K V)) → ((q : Stored K V) → IsOneOf r.made q → IsOneOf made' q) → (log' : List (Event K V S))
@@ -100,10 +100,10 @@ module _ {K V S H : Type 0} (eq : K → K → Bool) (input : K → List (List �
 
     -- it goes on, where it makes no pair, and puts in no other value
     kept : (log' : List (Event K V S)) → IsPrefix log log' → (w : Writer K V S H) (answer : Answer) → w.call.machine ≡ m
-        → ((v : V) → held_value w.value ≡ Some v → v ≡ value) → ((q : Stored K V) → w.call.put ≡ Some q → q.value.value ≡ value) → IsStanding m
-        → m.phase ≡ Calling → IsOpen → IsUnpairing answer → TellsTaken log' (calls.ask_of m.call) answer → IsUnsaid w.call.copier.given.done answer
+        → ((v : V) → held_value w.value ≡ Some v → v ≡ value) → ((q : Stored K V) → w.call.put ≡ Some q → q.value.value ≡ value) → IsValid m
+        → m.phase ≡ Calling → IsOpen → IsUnpairing answer → IsTakenCount log' (calls.ask_of m.call) answer → IsWithoutResult w.call.copier.given.done answer
         → IsWritingOn eq hash b name key r.made begun log' w answer → IsInsertingOn eq hash b name key value begun log' (record x { writer = w }) (Some answer)
-    kept log' pre w answer machine left put standing calling open_still unpairing tells unsaid on =
+    kept log' pre w answer machine left put valid calling open_still unpairing tells unsaid on =
         let given = w.call.copier.given.done in
         let next : Machine = after w.call.machine (answers.Call answer) in
         let same : next ≡ after m (answers.Call answer) = ap (λ (z : Machine). after z (answers.Call answer)) machine in
@@ -119,11 +119,11 @@ module _ {K V S H : Type 0} (eq : K → K → Bool) (input : K → List (List �
             own_is = subst (λ o. HasOwn key value r.made o x.own) own_same (own_later r.made (λ q one. one));
             of_is = subst (λ o. HasOf value r.made log' o x.of) of_same (of_later r.made (λ q one. one) log' l' pre);
             put_is = put;
-            refuses = λ cause e. refused IsMemoryCapacityOrLimit answer standing calling open_still
+            refuses = λ cause e. refused IsMemoryCapacityOrLimit answer valid calling open_still
                 (λ c h. inl (unsaid_cause given answer unsaid c h)) (λ over. inr refl) cause (ap ask_of (sym same) ∙ e);
-            crowded = λ e. refused (λ cause. cause ≡ Capacity → HasNoRoom next.call.initial (tables_of log') given) answer standing calling open_still
+            crowded = λ e. refused (λ cause. cause ≡ Capacity → HasNoRoom next.call.initial (tables_of log') given) answer valid calling open_still
                 (unsaid_room next.call.initial (tables_of log') given answer unsaid) (λ over f. absurd (cc f)) Capacity (ap ask_of (sym same) ∙ e) refl;
-            spent = λ e. refused (λ cause. cause ≡ Limit → IsSpent b.limit log') answer standing calling open_still
+            spent = λ e. refused (λ cause. cause ≡ Limit → IsSpent b.limit log') answer valid calling open_still
                 (unsaid_limit (IsSpent b.limit log') given answer unsaid)
                 (λ over f. limit_spent eq hash b log' l' m.call answer r.writing.calling.relies.call.made.limit tells over) Limit (ap ask_of (sym same) ∙ e) refl;
           },
@@ -132,31 +132,31 @@ module _ {K V S H : Type 0} (eq : K → K → Bool) (input : K → List (List �
 
     -- so it does after an answer that leaves its value and what it put in
     pub goes_on : (log' : List (Event K V S)) → IsPrefix log log' → (w : Writer K V S H) (answer : Answer) → w.call.machine ≡ m
-        → w.value ≡ x.writer.value → w.call.put ≡ x.writer.call.put → IsStanding m → m.phase ≡ Calling → IsOpen → IsUnpairing answer
-        → TellsTaken log' (calls.ask_of m.call) answer → IsUnsaid w.call.copier.given.done answer
+        → w.value ≡ x.writer.value → w.call.put ≡ x.writer.call.put → IsValid m → m.phase ≡ Calling → IsOpen → IsUnpairing answer
+        → IsTakenCount log' (calls.ask_of m.call) answer → IsWithoutResult w.call.copier.given.done answer
         → IsWritingOn eq hash b name key r.made begun log' w answer → IsInsertingOn eq hash b name key value begun log' (record x { writer = w }) (Some answer)
-    goes_on log' pre w answer machine left put standing calling open_still unpairing tells unsaid on = kept log' pre w answer machine
-        (λ v e. r.value_is v (ap held_value (sym left) ∙ e)) (λ q e. r.put_is q (sym put ∙ e)) standing calling open_still unpairing tells unsaid on
+    goes_on log' pre w answer machine left put valid calling open_still unpairing tells unsaid on = kept log' pre w answer machine
+        (λ v e. r.value_is v (ap held_value (sym left) ∙ e)) (λ q e. r.put_is q (sym put ∙ e)) valid calling open_still unpairing tells unsaid on
 
     -- the pair was not logged
     pub pair_unmade : (w : Writer K V S H) (answer : Answer) → w.call.machine ≡ m → held_value w.value ≡ held_value x.writer.value
-        → w.call.put ≡ x.writer.call.put → IsStanding m → m.phase ≡ Calling → IsOpen → IsUnpairing answer → TellsTaken log (calls.ask_of m.call) answer
-        → IsUnsaid w.call.copier.given.done answer
+        → w.call.put ≡ x.writer.call.put → IsValid m → m.phase ≡ Calling → IsOpen → IsUnpairing answer → IsTakenCount log (calls.ask_of m.call) answer
+        → IsWithoutResult w.call.copier.given.done answer
         → IsWritingOn eq hash b name key r.made begun log w answer → IsInsertingOn eq hash b name key value begun log (record x { writer = w }) (Some answer)
-    pair_unmade w answer machine left put standing calling open_still unpairing tells unsaid on =
-        kept log ([], append-nil log) w answer machine (λ v e. r.value_is v (sym left ∙ e)) (λ q e. r.put_is q (sym put ∙ e)) standing calling
+    pair_unmade w answer machine left put valid calling open_still unpairing tells unsaid on =
+        kept log ([], append-nil log) w answer machine (λ v e. r.value_is v (sym left ∙ e)) (λ q e. r.put_is q (sym put ∙ e)) valid calling
         open_still unpairing tells unsaid on
 
     -- a pair of its value was tried to be put in
     pub pair_tried : (log' : List (Event K V S)) → IsPrefix log log' → (w : Writer K V S H) (answer : Answer) (q : Stored K V) → q.value.value ≡ value
-        → w.call.machine ≡ m → w.value ≡ x.writer.value → (w.call.put ≡ x.writer.call.put) ⊎ (w.call.put ≡ Some q) → IsStanding m → m.phase ≡ Calling
-        → IsOpen → IsUnpairing answer → TellsTaken log' (calls.ask_of m.call) answer → IsUnsaid w.call.copier.given.done answer
+        → w.call.machine ≡ m → w.value ≡ x.writer.value → (w.call.put ≡ x.writer.call.put) ⊎ (w.call.put ≡ Some q) → IsValid m → m.phase ≡ Calling
+        → IsOpen → IsUnpairing answer → IsTakenCount log' (calls.ask_of m.call) answer → IsWithoutResult w.call.copier.given.done answer
         → IsWritingOn eq hash b name key r.made begun log' w answer → IsInsertingOn eq hash b name key value begun log' (record x { writer = w }) (Some answer)
-    pair_tried log' pre w answer q value_is machine left put standing calling open_still unpairing tells unsaid on =
+    pair_tried log' pre w answer q value_is machine left put valid calling open_still unpairing tells unsaid on =
         kept log' pre w answer machine (λ v e. r.value_is v (ap held_value (sym left) ∙ e))
         (λ p e. ⊎_elim (λ same. r.put_is p (sym same ∙ e))
         (λ is. let both : Some q ≡ Some p = sym is ∙ e in let one : q ≡ p = cc both in ap (λ (z : Stored K V). z.value.value) (sym one) ∙ value_is)
-        put) standing calling open_still unpairing tells unsaid on
+        put) valid calling open_still unpairing tells unsaid on
 
     abbrev loaded : LoadedPairs (Stored K V)
     loaded = record { last = x.writer.call.copier.last; made = r.made }
@@ -178,7 +178,7 @@ module _ {K V S H : Type 0} (eq : K → K → Bool) (input : K → List (List �
     -- the pair was logged
     module _ (w : Writer K V S H) (q : Stored K V) (n : ℕ) (number : n ≡ q.index) (machine : w.call.machine ≡ m)
         (had : held_value x.writer.value ≡ Some q.value.value) (left : held_value w.value ≡ held_value x.writer.value)
-        (put : w.call.put ≡ x.writer.call.put) (standing : IsStanding m) (calling : m.phase ≡ Calling)
+        (put : w.call.put ≡ x.writer.call.put) (valid : IsValid m) (calling : m.phase ≡ Calling)
         (makes : MakesPair (calls.ask_of m.call)) (on : IsWritingOn eq hash b name key (q ∷ r.made) begun log w (Made_number q.index)) where
       abbrev made_now : List (Stored K V)
       made_now = q ∷ r.made
@@ -217,12 +217,12 @@ module _ {K V S H : Type 0} (eq : K → K → Bool) (input : K → List (List �
               own_is = own_is;
               of_is = of_is;
               put_is = λ p e. r.put_is p (sym put ∙ e);
-              refuses = λ cause e. refused IsMemoryCapacityOrLimit (Made_number n) standing calling open_still (none IsMemoryCapacityOrLimit)
+              refuses = λ cause e. refused IsMemoryCapacityOrLimit (Made_number n) valid calling open_still (none IsMemoryCapacityOrLimit)
                   (λ over. inr refl) cause (ap ask_of (sym same) ∙ e);
               crowded = λ e. refused (λ cause. cause ≡ Capacity → HasNoRoom next.call.initial (tables_of log) w.call.copier.given.done) (Made_number n)
-                  standing calling open_still (none (λ cause. cause ≡ Capacity → HasNoRoom next.call.initial (tables_of log) w.call.copier.given.done))
+                  valid calling open_still (none (λ cause. cause ≡ Capacity → HasNoRoom next.call.initial (tables_of log) w.call.copier.given.done))
                   (λ over f. absurd (cc f)) Capacity (ap ask_of (sym same) ∙ e) refl;
-              spent = λ e. refused (λ cause. IsSpent b.limit log) (Made_number n) standing calling open_still (none (λ cause. IsSpent b.limit log))
+              spent = λ e. refused (λ cause. IsSpent b.limit log) (Made_number n) valid calling open_still (none (λ cause. IsSpent b.limit log))
                   (λ over. absurd (⊎_elim (λ s. cc s) (λ s. cc s) over.5)) Limit (ap ask_of (sym same) ∙ e);
             },
             going.1,
@@ -312,7 +312,7 @@ module _ {K V S H : Type 0} (eq : K → K → Bool) (hash : S → K → ℕ) (b 
 
 module _ {K V S H : Type 0} (eq : K → K → Bool) (hash : S → K → ℕ) (b : Begun K V S) (name : Book) (key : K) (value : V)
     (begun log : List (Event K V S)) (x : Insertion K V S H) where
-  module _ (r : IsInserting eq hash b name key value begun log x) (standing : IsStanding x.writer.call.machine) (t i old new : ℕ)
+  module _ (r : IsInserting eq hash b name key value begun log x) (valid : IsValid x.writer.call.machine) (t i old new : ℕ)
       (asks : ask_of x.writer.call.machine ≡ Call (Ask_exchange (Slot t i) old new)) where
     abbrev m' : Machine
     m' = x.writer.call.machine
@@ -325,7 +325,7 @@ module _ {K V S H : Type 0} (eq : K → K → Bool) (hash : S → K → ℕ) (b 
     own_put =
         ⊎_elim (λ h. h.1) (λ h. absurd h.0)
         (subst (λ (a : Ask). MayAsk (Insert true) (calls.kind_of_ask m'.call) a) own.1
-        (subst (λ (z : Task). MayAsk z (calls.kind_of_ask m'.call) (calls.ask_of m'.call)) r.task_is (asked_of_task m'.call standing.call)))
+        (subst (λ (z : Task). MayAsk z (calls.kind_of_ask m'.call) (calls.ask_of m'.call)) r.task_is (asked_of_task m'.call valid.call)))
 
     pub put_kind : IsPutting (kind_of_ask m')
     put_kind = subst IsPutting (sym (own_kind m' own.0)) own_put
@@ -333,13 +333,13 @@ module _ {K V S H : Type 0} (eq : K → K → Bool) (hash : S → K → ℕ) (b 
     -- it may stand there, has the number that is written, and is one of those that were made
     pub record Puts (q : Stored K V) : Type 0 where
       pub one : IsOneOf r.made q
-      pub stands : MayStand log key t i old q
+      pub stands : MayOverwrite log key t i old q
       pub number : pair_of new ≡ q.index
       pub value_is : q.value.value ≡ value
 
     -- the machine knows which serves there
     served : IsServed m'.call.made t i old (pair_of new)
-    served = asked_served m'.call standing.call.state (subst IsWriter (sym r.task_is) tt) t i old new own.1
+    served = asked_served m'.call valid.call.state (subst IsWriter (sym r.task_is) tt) t i old new own.1
 
     -- where the slot is empty it is the one of its own key
     pub puts_own : (old == 0) ≡ true → (q : Stored K V) × (x.own ≡ Some q) × Puts q

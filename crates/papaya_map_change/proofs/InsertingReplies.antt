@@ -12,7 +12,7 @@ use Rattle.papaya_call.specs.declared.call.Task.TheVariants.{Insert}
 use Rattle.papaya_call.specs.declared.chain.ask.Ask.TheVariants.{Call}
 use Rattle.papaya_call.specs.ChainMachine.{ask_of}
 use Rattle.papaya_call_law.proofs.Names.{call_asks}
-use Rattle.papaya_call_law.specs.Told.{LoadedPairs}
+use Rattle.papaya_call_law.specs.TrueAnswers.{LoadedPairs}
 use Rattle.papaya_call_law.specs.Relies.{IsReply, change_in, change_of_reply}
 use Rattle.papaya_call_law.proofs.ReliesHeld.{machine_replies}
 use Rattle.papaya_map_book.specs.declared.rule.entry.Begun.{Begun}

@@ -26,9 +26,9 @@ pub mod Trading
 pub mod Logged
 pub mod Onward
 -- searches that go over places at once
-pub mod LookingOn
+pub mod ProbingOn
 -- what closures are shown
-pub mod Showings
+pub mod ClosureCalls
 -- removals
 pub mod Removing
 pub mod RemovingReplies

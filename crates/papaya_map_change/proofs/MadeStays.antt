@@ -41,7 +41,7 @@ use Rattle.papaya_words_law.specs.Code.{Coding}
 use Rattle.papaya_words_law.specs.Exchange.{Exchange, Setting}
 use Rattle.papaya_call_law.specs.Relies.{ReliesStage}
 use Rattle.papaya_call_law.specs.Says.{MakesPair}
-use Rattle.papaya_call_law.specs.Told.{LoadedPairs}
+use Rattle.papaya_call_law.specs.TrueAnswers.{LoadedPairs}
 use Rattle.papaya_call_law.proofs.Makings.{makes_pair, pair_made}
 use Rattle.papaya_map_change.proofs.StepsOfOwn.{own_settings}
 

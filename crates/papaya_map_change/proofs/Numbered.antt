@@ -7,9 +7,9 @@ use Rattle.boxcar.specs.Table.{Where}
 use Rattle.papaya_call.specs.declared.chain.machine.Machine.{Machine}
 use Rattle.papaya_call.specs.declared.chain.machine.Phase.{Phase}
 use Rattle.papaya_call.specs.declared.chain.machine.Phase.TheVariants.{Calling, Linking, Copying as Copying_root}
-use Rattle.papaya_call.specs.ChainMachine.{IsStanding}
+use Rattle.papaya_call.specs.ChainMachine.{IsValid}
 use Rattle.papaya_call_law.specs.ChainRelies.{Relies, ReliesPhase, left_by}
-use Rattle.papaya_call_law.specs.ChainTold.{LoadedPairs}
+use Rattle.papaya_call_law.specs.ChainAnswers.{LoadedPairs}
 use Rattle.papaya_words_law.specs.Code.{Coding}
 use Rattle.papaya_words_law.specs.Exchange.{Exchange, Setting}
 use Rattle.papaya_map_book.specs.declared.rule.entry.Begun.{Begun}
@@ -18,14 +18,14 @@ use Rattle.papaya_map_book.specs.Logs.{Stored, exchanges_of}
 use Rattle.papaya_map_book.specs.Sheets.{Sheet}
 use Rattle.papaya_map_change.specs.declared.driver.Driver.{Driver}
 use Rattle.papaya_map_lookup.specs.Lookups.{coding_for, setting_for}
-use Rattle.papaya_map_change.specs.Changing.{CanGoOn, GoesOn, IsCalling, loaded_with}
+use Rattle.papaya_map_change.specs.Changing.{CanGoOn, Continues, IsCalling, loaded_with}
 use Rattle.papaya_map_change.specs.Helping.{IsAside}
 
 -- the machine, with another number
 abbrev pub with_number : Machine → ℕ → Machine
 with_number m n = record m { number = n }
 
-pub stands_numbered : (m : Machine) (n : ℕ) → IsStanding m → IsStanding (with_number m n)
+pub stands_numbered : (m : Machine) (n : ℕ) → IsValid m → IsValid (with_number m n)
 stands_numbered m n s = record { call = s.call; chunked = s.chunked; initial = s.initial; phase = s.phase }
 
 module _ {K P : Type 0} (g : Setting K P) (c : Coding K P) (begun since : List (Exchange P)) (k : K) (m : Machine) (loaded : LoadedPairs P) (n : ℕ) where
@@ -74,7 +74,7 @@ module _ {K V S : Type 0} (eq : K → K → Bool) (hash : S → K → ℕ) (b : 
 
   module _ {H : Type 0} (log : List (Event K V S)) (c : Driver K V S H) (n : ℕ) where
     -- so it goes on with any
-    pub goes_numbered : GoesOn eq hash b name log c log (record c { machine = with_number c.machine n })
+    pub goes_numbered : Continues eq hash b name log c log (record c { machine = with_number c.machine n })
     goes_numbered = λ matches fed form k begun made r. calling_numbered matches fed k begun log c.machine c.table c.copier.last c.copier.kept made c.taken c.put c.copier.fresh r n
 
     -- and is set aside as before

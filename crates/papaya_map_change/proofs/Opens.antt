@@ -18,7 +18,7 @@ use Rattle.papaya_call.specs.declared.chain.machine.Machine.{Machine}
 use Rattle.papaya_call.specs.ChainMachine.{after, ask_of, kind_of_ask}
 use Rattle.papaya_words_law.specs.Exchange.{Exchange, Open}
 use Rattle.papaya_call_law.specs.Relies.{change_of_kind}
-use Rattle.papaya_call_law.specs.Told.{IsAsked, IsTold, LoadedPairs, word_of}
+use Rattle.papaya_call_law.specs.TrueAnswers.{IsAsked, IsTrueOf, LoadedPairs, word_of}
 use Rattle.papaya_map_book.specs.Sheets.{Sheet}
 use Rattle.papaya_map_book.specs.declared.rule.entry.Begun.{Begun}
 use Rattle.papaya_map_book.specs.declared.rule.entry.Event.{Event}
@@ -81,7 +81,7 @@ module _ {K V S H : Type 0} (eq : K → K → Bool) (input : K → List (List �
         let asked : IsAsked G C k (kind_of_ask m) Root n (state_of before) loaded
         e = subst (λ (z : Option StepKind). IsAsked G C k z Root n (state_of before) loaded e) (sym kind)
         (asked_by_call (Some kinds.Open) tt Root n (state_of before) None e done.1.asked) in
-        let told : IsTold G C k (state_of before) (kind_of_ask m) loaded (Ask_exchange Root 0 n) Exchanged (e ∷ []) loaded = rw here
+        let told : IsTrueOf G C k (state_of before) (kind_of_ask m) loaded (Ask_exchange Root 0 n) Exchanged (e ∷ []) loaded = rw here
         (refl, (e, asked, refl), refl) in
         let since = prefix_trans v before log t.since more in
         answered eq input build write finish classes respects b matches query lawful k name begun v before log t.lawful t.now t.since more m table
@@ -99,7 +99,7 @@ module _ {K V S H : Type 0} (eq : K → K → Bool) (input : K → List (List �
         let here : word_of G C (state_of log) Root ≡ found = word_wide eq input build write finish classes respects b matches query lawful k
         (exchanges_of begun) log log Root ∙ (ap (λ (z : List (Event K V S)). (state_of z).root) same ∙ t.is) in
         let differs : (word_of G C (state_of log) Root == 0) ≡ false = ap (λ (i : ℕ). i == 0) here ∙ is in
-        let told : IsTold G C k (state_of log) (kind_of_ask m) loaded (Ask_exchange Root 0 n) (Found_instead found) [] loaded = rw differs
+        let told : IsTrueOf G C k (state_of log) (kind_of_ask m) loaded (Ask_exchange Root 0 n) (Found_instead found) [] loaded = rw differs
         (ap Found_instead (sym here), refl, refl) in
         quiet eq input build write finish classes respects b matches query lawful k name begun v log pre t.now m table last kept made taken put fresh
         r (Ask_exchange Root 0 n) asks (Found_instead found) last made (Some lent) fresh'

@@ -13,7 +13,7 @@ use Rattle.papaya_map_book.specs.Logs.{Stored}
 use Rattle.papaya_map_book.specs.PairParts.{IsKeyPartIn, IsValuePartIn, key_in}
 use Rattle.papaya_map_book.specs.Parts.{begun_of}
 use Rattle.papaya_map_lookup.specs.History.{key_of}
-use Rattle.papaya_map_change.specs.Writing.{HasKey, IsKeyPlaced, IsUnlogged, IsValuePlaced}
+use Rattle.papaya_map_change.specs.Writing.{HasKey, IsKeyPlaced, IsNotStored, IsValuePlaced}
 
 module _ {K V S H : Type 0} (book : Book K V S H) (name : Name) where
   -- what a pair is made of that lies in the logs may be logged
@@ -32,7 +32,7 @@ own_key b name key None h q is = absurd h
 own_key b name key (Some part) h q is = is part refl ∙ h.0
 
 -- where no pair was logged, none was made
-pub unlogged_unmade : {X : Type 0} (answer : Answer) → IsUnlogged answer → (n : ℕ) → answer ≡ Made n → X → ⊥
+pub unlogged_unmade : {X : Type 0} (answer : Answer) → IsNotStored answer → (n : ℕ) → answer ≡ Made n → X → ⊥
 unlogged_unmade answer unlogged n e x = ⊎_elim
     (λ refused. ⊎_elim (λ memory. let f = sym memory ∙ e in cc f) (λ full. let f = sym full ∙ e in cc f) refused)
     (λ none. let f = sym none ∙ e in cc f) unlogged

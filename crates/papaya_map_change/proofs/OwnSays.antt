@@ -9,9 +9,9 @@ use Rattle.papaya_call.specs.Machine as calls
 use Rattle.papaya_call.specs.declared.chain.ask.Answer.TheVariants as answers
 use Rattle.papaya_call.specs.declared.chain.machine.Machine.{Machine}
 use Rattle.papaya_call.specs.declared.chain.machine.Phase.TheVariants.{Calling}
-use Rattle.papaya_call.specs.ChainMachine.{IsStanding, after, after_in}
+use Rattle.papaya_call.specs.ChainMachine.{IsValid, after, after_in}
 use Rattle.papaya_call_law.proofs.Replies.{chain_shows}
-use Rattle.papaya_call_law.specs.Says.{HasValue, IsSaidBy, Said, ShowsPairs, StandsOn}
+use Rattle.papaya_call_law.specs.Says.{HasValue, IsResultBy, ClosureResult, NamesPairs, ActsOn}
 use Rattle.papaya_call_law.proofs.SaysSaid.{machine_said}
 use Rattle.papaya_call_law.proofs.SaysValues.{machine_values}
 use Rattle.papaya_call_law.proofs.Silent.{IsSilent, stood_before}
@@ -20,7 +20,7 @@ use Rattle.papaya_map_change.proofs.StepsOfOwn.{own_order, own_went}
 
 module _ (m : Machine) (calling : m.phase ≡ Calling) where
   -- one that showed pairs that are there shows such pairs
-  pub own_shows : (answer : Answer) → ShowsPairs m.call → ShowsPairs (after m (answers.Call answer)).call
+  pub own_shows : (answer : Answer) → NamesPairs m.call → NamesPairs (after m (answers.Call answer)).call
   own_shows answer shows = chain_shows m (answers.Call answer) (own_order m calling answer) shows
 
   -- one that has the value of the pair that it remembers has it still
@@ -32,19 +32,19 @@ module _ (m : Machine) (calling : m.phase ≡ Calling) where
   ]
 
   -- what it stands on, it stood on before
-  pub own_stood : (answer : Answer) → IsSilent (calls.ask_of m.call) → IsStanding m → ShowsPairs m.call → (said : Said)
-      → StandsOn (after m (answers.Call answer)).call said → StandsOn m.call said
-  own_stood answer silent standing shows said stands = elim (own_went m calling answer) [
-    | inl h ↦ stood_before m.call answer silent standing.call shows said (subst (λ (z : Call_machine). StandsOn z said) h.0 stands)
-    | inr (inl h) ↦ subst (λ (z : Call_machine). StandsOn z said) h.2 stands
+  pub own_stood : (answer : Answer) → IsSilent (calls.ask_of m.call) → IsValid m → NamesPairs m.call → (said : ClosureResult)
+      → ActsOn (after m (answers.Call answer)).call said → ActsOn m.call said
+  own_stood answer silent valid shows said stands = elim (own_went m calling answer) [
+    | inl h ↦ stood_before m.call answer silent valid.call shows said (subst (λ (z : Call_machine). ActsOn z said) h.0 stands)
+    | inr (inl h) ↦ subst (λ (z : Call_machine). ActsOn z said) h.2 stands
     | inr (inr h) ↦ stands_before m.call (record m.call { state = Searching (Sizing h.1) }) refl refl said
-        (subst (λ (z : Call_machine). StandsOn z said) h.5 stands)
+        (subst (λ (z : Call_machine). ActsOn z said) h.5 stands)
   ]
 
   -- where its closure agreed, or not, it stands on that or on what it stood on
-  pub own_said : (agreed : Bool) → IsStanding m → ShowsPairs m.call → (said : Said) → StandsOn (after m (answers.Call (Yes agreed))).call said
-      → StandsOn m.call said ⊎ IsSaidBy m.call (Yes agreed) said
-  own_said agreed standing shows said stands =
+  pub own_said : (agreed : Bool) → IsValid m → NamesPairs m.call → (said : ClosureResult) → ActsOn (after m (answers.Call (Yes agreed))).call said
+      → ActsOn m.call said ⊎ IsResultBy m.call (Yes agreed) said
+  own_said agreed valid shows said stands =
       let same : (after m (answers.Call (Yes agreed))).call ≡ calls.after m.call (Yes agreed) = ap
       (λ p. (after_in m (answers.Call (Yes agreed)) p).call) calling in
-      machine_said m.call (Yes agreed) said standing.call shows (subst (λ (z : Call_machine). StandsOn z said) same stands)
+      machine_said m.call (Yes agreed) said valid.call shows (subst (λ (z : Call_machine). ActsOn z said) same stands)

@@ -26,7 +26,7 @@ use Rattle.papaya_call.specs.declared.chain.ask.Answer.TheVariants as answers
 use Rattle.papaya_call.specs.declared.chain.ask.Ask.TheVariants.{Call}
 use Rattle.papaya_call.specs.declared.chain.machine.Machine.{Machine}
 use Rattle.papaya_call.specs.declared.chain.machine.Phase.TheVariants.{Calling}
-use Rattle.papaya_call.specs.ChainMachine.{IsStanding, after, ask_of}
+use Rattle.papaya_call.specs.ChainMachine.{IsValid, after, ask_of}
 use Rattle.papaya_call_law.proofs.Names.{call_asks}
 use Rattle.papaya_call_law.specs.Followed.{MayAsk}
 use Rattle.papaya_call_law.specs.Relies.{IsAtLimit, IsNumberAsk}
@@ -34,12 +34,12 @@ use Rattle.papaya_call_law.proofs.Followed.{asked_of_task}
 use Rattle.papaya_call_law.proofs.ReliesReplyRefused.{machine_reason}
 use Rattle.papaya_map_book.specs.declared.rule.own.CapacityCause.{CapacityCause}
 use Rattle.papaya_map_book.specs.Limits.{HasNoRoom}
-use Rattle.papaya_map_change.specs.Writing.{IsMemoryOrCapacity, IsUnsaid}
+use Rattle.papaya_map_change.specs.Writing.{IsMemoryOrCapacity, IsWithoutResult}
 use Rattle.papaya_map_change.proofs.StepsOfOwn.{aside_asks_none, calling_asks, grown_leaves, own_went}
 
 -- only a compute shows that there is none
-pub shows_none : (m : Machine) → IsStanding m → ask_of m ≡ Call ShowNone → IsComputer m.call.task
-shows_none m standing e = subst (λ (a : Ask). MayAsk m.call.task (calls.kind_of_ask m.call) a) (call_asks m ShowNone e).1 (asked_of_task m.call standing.call)
+pub shows_none : (m : Machine) → IsValid m → ask_of m ≡ Call ShowNone → IsComputer m.call.task
+shows_none m valid e = subst (λ (a : Ask). MayAsk m.call.task (calls.kind_of_ask m.call) a) (call_asks m ShowNone e).1 (asked_of_task m.call valid.call)
 
 -- only one that may insert asks how many numbers for pairs were taken
 number_inserts : (task : Task) (kind : Option StepKind) (ask : Ask) → IsNumberAsk ask → MayAsk task kind ask → MayInsert task
@@ -47,8 +47,8 @@ number_inserts task kind (Load Made_word) number may = may
 number_inserts task kind (Exchange Made_word old new) number may = may.0
 number_inserts task kind _ number may = absurd number
 
-pub limit_inserts : (m : Machine) → IsStanding m → (answer : Answer) → IsAtLimit m.call answer → MayInsert m.call.task
-limit_inserts m standing answer over = number_inserts m.call.task (calls.kind_of_ask m.call) (calls.ask_of m.call) over.4 (asked_of_task m.call standing.call)
+pub limit_inserts : (m : Machine) → IsValid m → (answer : Answer) → IsAtLimit m.call answer → MayInsert m.call.task
+limit_inserts m valid answer over = number_inserts m.call.task (calls.kind_of_ask m.call) (calls.ask_of m.call) over.4 (asked_of_task m.call valid.call)
 
 -- a call that needs a next table is not ended by another answer than the number of one
 grown_stays : (m : Call_machine) (made : Made) (need : Need) (answer : Answer) (reply : Reply)
@@ -113,11 +113,11 @@ module _ (m : Machine) (calling : m.phase ≡ Calling) (answer : Answer) where
       (own_refused open_still cause e)
 
 -- where no closure had a part in it, there was no memory, or no number left
-pub unsaid_cause : (given : List CapacityCause) (answer : Answer) → IsUnsaid given answer → (cause : Cause) → answer ≡ Was_refused cause
+pub unsaid_cause : (given : List CapacityCause) (answer : Answer) → IsWithoutResult given answer → (cause : Cause) → answer ≡ Was_refused cause
     → IsMemoryOrCapacity cause
 unsaid_cause given answer unsaid cause e = ⊎_elim (λ memory. inl memory) (λ full. inr full.0) (unsaid cause e)
 
 -- and a log is full, where there was room for no more
-pub unsaid_room : (initial : ℕ) (tables : List ℕ) (given : List CapacityCause) (answer : Answer) → IsUnsaid given answer → (cause : Cause)
+pub unsaid_room : (initial : ℕ) (tables : List ℕ) (given : List CapacityCause) (answer : Answer) → IsWithoutResult given answer → (cause : Cause)
     → answer ≡ Was_refused cause → cause ≡ Capacity → HasNoRoom initial tables given
 unsaid_room initial tables given answer unsaid cause e full = ⊎_elim (λ memory. let f = sym memory ∙ full in absurd (cc f)) (λ h. inl h.1) (unsaid cause e)

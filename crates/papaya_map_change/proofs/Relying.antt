@@ -10,7 +10,7 @@ use Rattle.papaya_call.specs.declared.chain.machine.Machine.{Machine}
 use Rattle.papaya_call.specs.ChainMachine.{after, ask_of, follows_of, kind_of_ask}
 use Rattle.papaya_call_law.specs.Goes.{link_in}
 use Rattle.papaya_call_law.specs.ChainRelies.{Relies}
-use Rattle.papaya_call_law.specs.ChainTold.{IsTold, LoadedPairs}
+use Rattle.papaya_call_law.specs.ChainAnswers.{IsTrueOf, LoadedPairs}
 use Rattle.papaya_call_law.proofs.Learns.{all_learns}
 use Rattle.papaya_call_law.proofs.Stable.{all_carries, all_stable}
 use Rattle.papaya_words_law.specs.Allows.{AllAllowed}
@@ -140,14 +140,14 @@ module _ {K V S H : Type 0} (eq : K → K → Bool) (input : K → List (List �
 
     -- what was true of the words of the first log was so where the call relies on what holds
     pub told_then : (answer : Answer) (es : List (Exchange (Stored K V))) (loaded' : LoadedPairs (Stored K V))
-        → IsTold (wide log') coded k (state_of log) (kind_of_ask m) (follows_of m) loaded (ask_of m) answer es loaded'
-        → IsTold (wide log') coded k (run (begun ++ r.since) start) (kind_of_ask m) (follows_of m) loaded (ask_of m) answer es loaded'
+        → IsTrueOf (wide log') coded k (state_of log) (kind_of_ask m) (follows_of m) loaded (ask_of m) answer es loaded'
+        → IsTrueOf (wide log') coded k (run (begun ++ r.since) start) (kind_of_ask m) (follows_of m) loaded (ask_of m) answer es loaded'
     told_then answer es loaded' told = subst (λ (z : List (Exchange (Stored K V))).
-        IsTold (wide log') coded k (run z start) (kind_of_ask m) (follows_of m) loaded (ask_of m) answer es loaded') (sym r.is) told
+        IsTrueOf (wide log') coded k (run z start) (kind_of_ask m) (follows_of m) loaded (ask_of m) answer es loaded') (sym r.is) told
 
     -- it is told of the log's words, with which the log grew
     pub relying_told : (answer : Answer) → (answer ≡ answers.Call Exchanged → HasWords (wide log') (link_in m.phase))
-        → (loaded' : LoadedPairs (Stored K V)) → IsTold (wide log') coded k (state_of log) (kind_of_ask m) (follows_of m) loaded (ask_of m) answer more
+        → (loaded' : LoadedPairs (Stored K V)) → IsTrueOf (wide log') coded k (state_of log) (kind_of_ask m) (follows_of m) loaded (ask_of m) answer more
         loaded' → ChainRelying log' (after m answer) loaded'
     relying_told answer words loaded' told =
         let all = all_learns (wide log') coded (hashed_in log' l') begun r.since may_first k m loaded carried answer words more loaded'

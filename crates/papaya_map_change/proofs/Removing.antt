@@ -28,16 +28,16 @@ use Rattle.papaya_call.specs.declared.chain.ask.Answer.TheVariants as answers
 use Rattle.papaya_call.specs.declared.chain.ask.Ask.TheVariants.{Call}
 use Rattle.papaya_call.specs.declared.chain.machine.Machine.{Machine}
 use Rattle.papaya_call.specs.declared.chain.machine.Phase.TheVariants.{Calling}
-use Rattle.papaya_call.specs.ChainMachine.{IsStanding, after, ask_of, kind_of_ask}
+use Rattle.papaya_call.specs.ChainMachine.{IsValid, after, ask_of, kind_of_ask}
 use Rattle.papaya_call_law.proofs.Names.{call_asks}
 use Rattle.papaya_call_law.proofs.Replies.{chain_task}
 use Rattle.papaya_call_law.specs.Followed.{MayAsk}
 use Rattle.papaya_call.specs.Machine.{IsComputer, IsFit}
 use Rattle.papaya_call.specs.Machine as calls
-use Rattle.papaya_call_law.specs.Told.{LoadedPairs}
+use Rattle.papaya_call_law.specs.TrueAnswers.{LoadedPairs}
 use Rattle.papaya_call_law.specs.Relies.{WasAtMoment}
-use Rattle.papaya_call_law.specs.Told.{or_last}
-use Rattle.papaya_call_law.specs.Says.{Agrees, ShowsPairs, StandsOn}
+use Rattle.papaya_call_law.specs.TrueAnswers.{or_last}
+use Rattle.papaya_call_law.specs.Says.{Agrees, NamesPairs, ActsOn}
 use Rattle.papaya_call.specs.Search.{IsSize}
 use Rattle.papaya_call_law.proofs.ReliesHeld as held
 use Rattle.papaya_call_law.proofs.ReliesHeld.{IsShowing}
@@ -59,7 +59,7 @@ use Rattle.papaya_map_book.specs.Plays.{CanExchange}
 use Rattle.papaya_map_book.specs.Logs.{Stored, exchanges_of, pair_named}
 use Rattle.papaya_map_change.specs.Removing.{IsRemoving, IsRemovingOn}
 use Rattle.papaya_map_book.specs.Rule.{IsPlaced}
-use Rattle.papaya_map_change.specs.Showings.{WasHeld}
+use Rattle.papaya_map_change.specs.ClosureCalls.{WasHeld}
 use Rattle.papaya_map_change.proofs.Changing.{Coded, Wide, barren, call_loaded, call_relies, counted}
 use Rattle.papaya_map_change.proofs.Changing.{compared, hint_table, hinted, load_table, loaded_lawful}
 use Rattle.papaya_map_change.proofs.Changing.{loads, quiet, size_table, sized, slot_table}
@@ -72,7 +72,7 @@ use Rattle.papaya_map_lookup.proofs.Driving.{can_bury}
 use Rattle.papaya_map_change.proofs.Exchanging.{exchanged, lost}
 use Rattle.papaya_map_lookup.proofs.Histories.{history_since}
 use Rattle.papaya_map_lookup.proofs.Readings.{IsQuery, fed, hashed_with}
-use Rattle.papaya_map_change.proofs.Showings.{all_shown, held_then, held_wider}
+use Rattle.papaya_map_change.proofs.ClosureCalls.{all_shown, held_then, held_wider}
 
 module _ {K V S H F : Type 0} (eq : K → K → Bool) (input : K → List (List ℕ)) (build : S → H) (write : H → List ℕ → H) (finish : H → ℕ)
     (classes : IsEquivalence eq) (respects : (x y : K) → eq x y ≡ true → input x ≡ input y)
@@ -106,14 +106,14 @@ module _ {K V S H F : Type 0} (eq : K → K → Bool) (input : K → List (List 
     abbrev loaded : LoadedPairs (Stored K V)
     loaded = call_loaded eq input build write finish classes respects b matches query lawful None name begun x.call.copier.last []
 
-    module _ (standing : IsStanding m) where
+    module _ (valid : IsValid m) where
       -- no answer of its own has it refused: it asks for nothing to be made
       not_refused : (ask : Ask) → ask_of m ≡ Call ask → ((reply : Reply) → ask ≡ Done reply → ⊥) → (answer : Answer)
           → ((cause : Cause) → answer ≡ Was_refused cause → ⊥) → (cause : Cause) → ask_of (after m (answers.Call answer)) ≡ Call (Done (Refused cause)) → ⊥
       not_refused ask asks open_still answer unrefused cause e =
-          refused_for m (call_asks m ask asks).0 answer (λ _. ⊥) (λ none. subst IsComputer r.task_is (shows_none m standing none))
+          refused_for m (call_asks m ask asks).0 answer (λ _. ⊥) (λ none. subst IsComputer r.task_is (shows_none m valid none))
           (λ reply done. open_still reply (let f = sym asks ∙ done in cc f)) unrefused
-          (λ over. subst MayInsert r.task_is (limit_inserts m standing answer over)) cause e
+          (λ over. subst MayInsert r.task_is (limit_inserts m valid answer over)) cause e
 
       -- it goes on after an answer that shows nothing
       pub goes_on : (log' : List (Event K V S)) → IsPrefix log log' → (y : Driver K V S H) (answer : Answer) → y.machine ≡ m → IsFit answer
@@ -130,14 +130,14 @@ module _ {K V S H F : Type 0} (eq : K → K → Bool) (input : K → List (List 
             record {
               calling = subst (λ (z : Machine). IsDriven eq hash b name matches fed_to None begun log' [] (record y { machine = z })) same calling;
               task_is = ap (λ (z : Machine). z.call.task) (sym same) ∙ ((chain_task m (answers.Call answer) (own_order m own.0 answer)).0 ∙ r.task_is);
-              words = subst (λ (z : Machine). ShowsPairs z.call) same (own_shows m own.0 answer r.words);
+              words = subst (λ (z : Machine). NamesPairs z.call) same (own_shows m own.0 answer r.words);
               shown_placed = r.shown_placed;
               said = r.said;
               has_said = r.has_said;
               held = all_shown (HeldOn log) (HeldOn log') (held_later log' pre) r.said r.held;
               stood = λ n agrees stands. r.stood n agrees
-                  (own_stood m own.0 answer silent_call standing r.words (Agrees n agrees)
-                  (subst (λ (z : Machine). StandsOn z.call (Agrees n agrees)) (sym same) stands));
+                  (own_stood m own.0 answer silent_call valid r.words (Agrees n agrees)
+                  (subst (λ (z : Machine). ActsOn z.call (Agrees n agrees)) (sym same) stands));
               refuses = λ cause e. absurd (never cause (ap ask_of same ∙ e));
               crowded = λ e. absurd (never Capacity (ap ask_of same ∙ e));
             },
@@ -149,7 +149,7 @@ module _ {K V S H F : Type 0} (eq : K → K → Bool) (input : K → List (List 
       load_held at asks =
           load_table eq input build write finish classes respects b matches query lawful None name begun log m x.call.table x.call.copier.last x.call.copier.kept []
           x.call.taken x.call.put x.call.copier.fresh r.calling at asks
-          (subst (λ (a : Ask). MayAsk m.call.task (calls.kind_of_ask m.call) a) (call_asks m (Load at) asks).1 (asked_of_task m.call standing.call))
+          (subst (λ (a : Ask). MayAsk m.call.task (calls.kind_of_ask m.call) a) (call_asks m (Load at) asks).1 (asked_of_task m.call valid.call))
 
       -- and was loaded
       pub loaded_as : (log' : List (Event K V S)) → IsPrefix log log' → (at : At) (word : ℕ) (y : Driver K V S H)
@@ -270,7 +270,7 @@ module _ {K V S H F : Type 0} (eq : K → K → Bool) (input : K → List (List 
               stood = λ i agrees stands. ⊎_elim
                   (λ h. absurd (unsaid m.call n i agrees own.1 h))
                   (λ h. let e = h.1 in let same : agreed ≡ agrees = cc e in (p, refl, is i h.0, inl (ap (λ (z : Bool). (p, z)) (sym same))))
-                  (own_said m own.0 agreed standing r.words (Agrees i agrees) stands);
+                  (own_said m own.0 agreed valid r.words (Agrees i agrees) stands);
               refuses = λ cause e. absurd (never cause e);
               crowded = λ e. absurd (never Capacity e);
             },
@@ -290,7 +290,7 @@ module _ {K V S H F : Type 0} (eq : K → K → Bool) (input : K → List (List 
         bury_kind : calls.kind_of_ask m.call ≡ Some kinds.Bury
         bury_kind =
             ⊎_elim (λ h. absurd (h.0)) (λ h. h.1) (subst (λ (a : Ask). MayAsk RemoveIf (calls.kind_of_ask m.call) a) its_own.1
-            (subst (λ (z : Task). MayAsk z (calls.kind_of_ask m.call) (calls.ask_of m.call)) r.task_is (asked_of_task m.call standing.call)))
+            (subst (λ (z : Task). MayAsk z (calls.kind_of_ask m.call) (calls.ask_of m.call)) r.task_is (asked_of_task m.call valid.call)))
 
         pub bury_can : CanExchange eq hash b (Slot t i) (kind_of_ask m) old new None names.Nothing log
         bury_can =

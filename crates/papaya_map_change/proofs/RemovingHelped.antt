@@ -16,9 +16,9 @@ use Rattle.papaya_map_change.specs.declared.removal.Removal.{Removal}
 use Rattle.papaya_map_change.specs.Changing.{IsDriven}
 use Rattle.papaya_map_change.specs.Helping.{HasHelped}
 use Rattle.papaya_map_change.specs.Removing.{IsRemoving}
-use Rattle.papaya_map_change.specs.Showings.{WasHeld}
+use Rattle.papaya_map_change.specs.ClosureCalls.{WasHeld}
 use Rattle.papaya_map_change.proofs.Helped.{helped_keeps, refuses_kept, room_kept}
-use Rattle.papaya_map_change.proofs.Showings.{all_shown, held_wider}
+use Rattle.papaya_map_change.proofs.ClosureCalls.{all_shown, held_wider}
 
 module _ {K V S H F : Type 0} (eq : K → K → Bool) (hash : S → K → ℕ) (b : Begun K V S) (name : Book) (matches : K → Bool) (fed : ℕ)
     (judges : F → Stored K V → Bool → F → Type 0) (first : F) (begun log log' : List (Event K V S)) (x : Removal K V S H) (f : F)

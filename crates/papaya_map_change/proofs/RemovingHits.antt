@@ -19,15 +19,15 @@ use Rattle.papaya_call.specs.declared.call.Task.TheVariants.{RemoveIf}
 use Rattle.papaya_call.specs.declared.machine.State.{State}
 use Rattle.papaya_call.specs.declared.machine.State.TheVariants.{Burying, Showing, Uncounting}
 use Rattle.papaya_call.specs.declared.remove.Removal.{Removal as Shown}
-use Rattle.papaya_call.specs.Machine.{IsStandingState, started}
+use Rattle.papaya_call.specs.Machine.{IsValidState, started}
 use Rattle.papaya_call.specs.Remove.{grave_word}
 use Rattle.papaya_call.specs.declared.chain.ask.Answer.TheVariants as answers
 use Rattle.papaya_call.specs.declared.chain.machine.Machine.{Machine}
 use Rattle.papaya_call.specs.declared.chain.machine.Phase.TheVariants.{Calling}
-use Rattle.papaya_call.specs.ChainMachine.{IsStanding, after}
+use Rattle.papaya_call.specs.ChainMachine.{IsValid, after}
 use Rattle.papaya_call_law.specs.Relies.{change_in}
-use Rattle.papaya_call_law.specs.Says.{Agrees, StandsOn}
-use Rattle.papaya_call_law.specs.Told.{or_last}
+use Rattle.papaya_call_law.specs.Says.{Agrees, ActsOn}
+use Rattle.papaya_call_law.specs.TrueAnswers.{or_last}
 use Rattle.papaya_map_book.specs.declared.rule.entry.Begun.{Begun}
 use Rattle.papaya_map_book.specs.declared.rule.entry.Event.{Event}
 use Rattle.papaya_map_book.specs.declared.rule.entry.Named.TheVariants as names
@@ -44,15 +44,15 @@ use Rattle.papaya_map_lookup.specs.declared.lookup.Met.{Met}
 use Rattle.papaya_map_lookup.proofs.Readings.{IsQuery, fed}
 use Rattle.papaya_map_change.specs.declared.removal.Removal.{Removal}
 use Rattle.papaya_map_change.specs.Changing.{HasChanged, IsCalling}
-use Rattle.papaya_map_change.specs.RemovalAnswers.{HasShown, IsJudged, IsRemovalBy}
-use Rattle.papaya_map_change.specs.Showings.{AllShown, AreOf, HasSaid, WasHeld}
+use Rattle.papaya_map_change.specs.RemovalAnswers.{HasCalled, IsJudged, IsRemovalBy}
+use Rattle.papaya_map_change.specs.ClosureCalls.{AllArguments, AreOf, HasReturned, WasHeld}
 use Rattle.papaya_call.specs.Made.{IsLimit, IsNumber, wanted}
 use Rattle.papaya_call_law.proofs.ReliesLearnPairs.{wanted_relies}
 use Rattle.papaya_map_lookup.specs.Lookups.{coding_for, setting_for}
 use Rattle.papaya_map_change.proofs.Changing.{mode_is}
 use Rattle.papaya_map_change.proofs.Removing.{Removing, counted_on, bury_can, bury_held, bury_on, shown_on}
 use Rattle.papaya_map_change.proofs.RemovingReplies.{answered, removal_since}
-use Rattle.papaya_map_change.proofs.Showings.{all_shown, held_wider, shown_each}
+use Rattle.papaya_map_change.proofs.ClosureCalls.{all_shown, held_wider, shown_each}
 
 -- the machine of a removal that stands here
 abbrev pub removal_at : (hash : ℕ) → ResizeMode → (limit : Option ℕ) → State → Machine
@@ -150,7 +150,7 @@ module _ {K V S H F : Type 0} (eq : K → K → Bool) (input : K → List (List 
     abbrev Goes : List (Event K V S) → Removal K V S H → F → Type 0
     Goes log' x f = Removing eq input build write finish classes respects b name matches query lawful judges first begun log' x f
 
-    nothing_said : {n : ℕ} {agrees : Bool} → StandsOn showing.call.machine.call (Agrees n agrees) → ⊥
+    nothing_said : {n : ℕ} {agrees : Bool} → ActsOn showing.call.machine.call (Agrees n agrees) → ⊥
     nothing_said (inl e) = cc e
     nothing_said (inr (inl e)) = cc e
     nothing_said (inr (inr e)) = cc e
@@ -169,8 +169,8 @@ module _ {K V S H F : Type 0} (eq : K → K → Bool) (input : K → List (List 
       crowded = λ e. absurd (cc e);
     }
 
-    standing : (state : State) → IsStandingState RemoveIf state → IsStanding (removal_at by b.mode b.limit state)
-    standing state stands = record {
+    valid : (state : State) → IsValidState RemoveIf state → IsValid (removal_at by b.mode b.limit state)
+    valid state stands = record {
       call = record {
         made = record { limit = limited; number = wanted_stands b.limit; own = tt; of = tt };
         remembered = record { fill = tt; choice = tt };
@@ -188,7 +188,7 @@ module _ {K V S H F : Type 0} (eq : K → K → Bool) (input : K → List (List 
 
       said : Goes log asked g
       said = (shown_on eq input build write finish classes respects b name matches query lawful judges first begun log showing first shows
-          (standing (Showing place) (tt, hit.within)) (pair_of met.word) p agreed g refl judged refl).0
+          (valid (Showing place) (tt, hit.within)) (pair_of met.word) p agreed g refl judged refl).0
 
     -- it does not agree
     pub stays : (g : F) → judges first p false g → (entry : Bor K × Bor V) → AreOf entry p
@@ -208,8 +208,8 @@ module _ {K V S H F : Type 0} (eq : K → K → Bool) (input : K → List (List 
       abbrev i : ℕ
       i = met.place.probe.i
 
-      stands : IsStanding buries.call.machine
-      stands = standing (Burying place) (tt, hit.within)
+      stands : IsValid buries.call.machine
+      stands = valid (Burying place) (tt, hit.within)
 
       -- the pair may be deleted
       pub hit_can : CanExchange eq hash b (Slot t i) (Some steps.Bury) met.word (grave_word met.word) None names.Nothing log
@@ -250,7 +250,7 @@ module _ {K V S H F : Type 0} (eq : K → K → Bool) (input : K → List (List 
 
         counted : Goes log' ended g
         counted = (counted_on eq input build write finish classes respects b name matches query lawful judges first begun log' buried g went
-            (standing (Uncounting (pair_of met.word)) tt) _ refl).0
+            (valid (Uncounting (pair_of met.word)) tt) _ refl).0
 
         -- which is the call's change
         pub hit_changed : (change : Option ℕ × Option ℕ) → change_in ended.call.machine.call.state ≡ Some change
@@ -270,12 +270,12 @@ module _ {K V F : Type 0} (eq : K → K → Bool) (matches : K → Bool) (judges
   abbrev Shows : Type 0
   Shows = List (Stored K V × Bool)
 
-  module _ (before : Shows) (has_said : HasSaid judges first before g) where
-    said_first : (shown : Shows) (left : F) → HasSaid judges g shown left → HasSaid judges first (shown ++ before) left
-    said_first [] left h = subst (HasSaid judges first before) (sym h) has_said
+  module _ (before : Shows) (has_said : HasReturned judges first before g) where
+    said_first : (shown : Shows) (left : F) → HasReturned judges g shown left → HasReturned judges first (shown ++ before) left
+    said_first [] left h = subst (HasReturned judges first before) (sym h) has_said
     said_first (last ∷ rest) left h = (h.0, said_first rest h.0 h.1, h.2)
 
-    shown_all : (P : Stored K V → Type 0) → AllShown P before → (shown : Shows) → AllShown P shown → AllShown P (shown ++ before)
+    shown_all : (P : Stored K V → Type 0) → AllArguments P before → (shown : Shows) → AllArguments P shown → AllArguments P (shown ++ before)
     shown_all P own [] all = own
     shown_all P own (last ∷ rest) all = (all.0, shown_all P own rest all.1)
 
@@ -292,7 +292,7 @@ module _ {K V F : Type 0} (eq : K → K → Bool) (matches : K → Bool) (judges
     judged_on old new shown (Err cause) h = h
 
   pub removal_shown : (older old new : List (Change K (Stored K V))) → IsPrefix older old → IsPrefix old new
-      → HasShown eq matches older old judges first g → (answer : Result (Result (Option (Bor K × Bor V)) (Bor K × Bor V)) Refused)
+      → HasCalled eq matches older old judges first g → (answer : Result (Result (Option (Bor K × Bor V)) (Bor K × Bor V)) Refused)
       → IsRemovalBy eq matches old new judges g answer → IsRemovalBy eq matches older new judges first answer
   removal_shown older old new pre more s answer r =
       let w = removal_since eq matches older old new pre judges g answer r in
@@ -311,7 +311,7 @@ module _ {K V F : Type 0} (eq : K → K → Bool) (matches : K → Bool) (older 
     (judges : F → Stored K V → Bool → F → Type 0) (first left : F) where
   -- it has shown one pair
   pub one_shown : (p : Stored K V) (agreed : Bool) → judges first p agreed left → WasHeld eq matches old new (Some p) → IsPrefix older old
-      → HasShown eq matches older new judges first left
+      → HasCalled eq matches older new judges first left
   one_shown p agreed judged held pre = record {
     said = (p, agreed) ∷ [];
     has_said = (first, refl, judged);

@@ -16,9 +16,9 @@ use Rattle.papaya_call.specs.declared.chain.ask.Ask.TheVariants.{Call}
 use Rattle.papaya_call.specs.declared.chain.machine.Machine.{Machine}
 use Rattle.papaya_call.specs.ChainMachine.{ask_of, started}
 use Rattle.papaya_call_law.proofs.Names.{call_asks}
-use Rattle.papaya_call_law.specs.Told.{LoadedPairs}
+use Rattle.papaya_call_law.specs.TrueAnswers.{LoadedPairs}
 use Rattle.papaya_call_law.specs.Relies.{IsReply, change_in, change_of_reply}
-use Rattle.papaya_call_law.specs.Says.{Agrees, Said, StandsOn, said_in, said_of_removal}
+use Rattle.papaya_call_law.specs.Says.{Agrees, ClosureResult, ActsOn, result_in, result_of_removal}
 use Rattle.papaya_call_law.proofs.ReliesHeld.{ended_in, machine_replies}
 use Rattle.papaya_map_book.specs.declared.rule.entry.Begun.{Begun}
 use Rattle.papaya_map_book.specs.declared.rule.entry.Event.{Event}
@@ -28,16 +28,16 @@ use Rattle.papaya_map_lookup.specs.History.{Change, changes_of, history_of, key_
 use Rattle.papaya_map_book.specs.Logs.{Member, Stored, exchanges_of, pair_named}
 use Rattle.papaya_map_book.specs.declared.rule.entry.Named.TheVariants.{Pair}
 use Rattle.papaya_map_book.specs.Rule.{IsLawfulLog, IsPlaced}
-use Rattle.papaya_map_change.specs.Removing.{CanTell, IsRemoving, Tells}
-use Rattle.papaya_map_change.specs.RemovalAnswers.{IsJudged, IsRemovalBy, IsTaken, went as pair_went}
-use Rattle.papaya_map_change.specs.Showings.{AreOf, WasHeld}
+use Rattle.papaya_map_change.specs.Removing.{HoldsResult, IsRemoving, IsRemovalResult}
+use Rattle.papaya_map_change.specs.RemovalAnswers.{IsJudged, IsRemovalBy, IsTaken, has_removed as pair_went}
+use Rattle.papaya_map_change.specs.ClosureCalls.{AreOf, WasHeld}
 use Rattle.papaya_map_change.specs.Writing.{IsMemoryOrCapacity}
 use Rattle.papaya_map_change.proofs.Changing.{begins as begins_calling, Coded, Wide}
 use Rattle.papaya_map_lookup.proofs.Histories.{changes-append, history_since}
 use Rattle.papaya_map_book.proofs.Logs.{prefix_trans}
 use Rattle.papaya_map_lookup.proofs.Readings.{IsQuery}
 use Rattle.papaya_map_change.proofs.Removing.{Removing}
-use Rattle.papaya_map_change.proofs.Showings.{all_shown, held_then, held_wider, said_only, shown_each}
+use Rattle.papaya_map_change.proofs.ClosureCalls.{all_shown, held_then, held_wider, said_only, shown_each}
 
 -- no removal replies this
 abbrev pub IsNoRemoval : Reply → Type 0
@@ -79,12 +79,12 @@ module _ {K V S H F : Type 0} (eq : K → K → Bool) (input : K → List (List 
       (subst (λ (t : Task). IsReply g c (exchanges_of begun) r.calling.since None loaded t reply) r.task_is all.0, all.1)
 
   -- what its reply stands on
-  stands : (reply : Reply) (said : Said) → ask_of m ≡ Call (Done reply) → said_of_removal reply ≡ Some said → StandsOn m.call said
-  stands reply said e is = inl (ap (λ t. said_in t m.call.state) r.task_is
-      ∙ (ap (said_in RemoveIf) (ended_in m.call.made m.call.hash m.call.state reply (call_asks m (Done reply) e).1) ∙ is))
+  stands : (reply : Reply) (said : ClosureResult) → ask_of m ≡ Call (Done reply) → result_of_removal reply ≡ Some said → ActsOn m.call said
+  stands reply said e is = inl (ap (λ t. result_in t m.call.state) r.task_is
+      ∙ (ap (result_in RemoveIf) (ended_in m.call.made m.call.hash m.call.state reply (call_asks m (Done reply) e).1) ∙ is))
 
   -- what the closure said of the pair
-  was_said : (reply : Reply) (n : ℕ) (agrees : Bool) → ask_of m ≡ Call (Done reply) → said_of_removal reply ≡ Some (Agrees n agrees)
+  was_said : (reply : Reply) (n : ℕ) (agrees : Bool) → ask_of m ≡ Call (Done reply) → result_of_removal reply ≡ Some (Agrees n agrees)
       → (p : Stored K V) × (x.shown ≡ Some p) × (p.index ≡ n) × Member (p, agrees) r.said
   was_said reply n agrees e is = r.stood n agrees (stands reply (Agrees n agrees) e is)
 
@@ -111,7 +111,7 @@ module _ {K V S H F : Type 0} (eq : K → K → Bool) (input : K → List (List 
       answers (Ok (Err entry)) (p, subst (λ (z : Stored K V). Member (z, false) r.said) one s.3, are)
 
   -- a pair that stays was shown
-  can_tell_kept : (n : ℕ) → ask_of m ≡ Call (Done (Kept n)) → CanTell b name x (Kept n)
+  can_tell_kept : (n : ℕ) → ask_of m ≡ Call (Done (Kept n)) → HoldsResult b name x (Kept n)
   can_tell_kept n e = let s = was_said (Kept n) n false e refl in
       (s.0, s.1, subst (λ (o : Option (Stored K V)). IsPlaced b (Some name) (pair_named o)) s.1 r.shown_placed)
 
@@ -165,7 +165,7 @@ module _ {K V S H F : Type 0} (eq : K → K → Bool) (input : K → List (List 
     some_taken (Some p) h = (p, refl)
 
     -- a pair was shown, and one went
-    can_tell_removed : CanTell b name x (Removed n)
+    can_tell_removed : HoldsResult b name x (Removed n)
     can_tell_removed =
         let s = was_said (Removed n) n true e refl in
         let t = some_taken x.call.taken changed.taken_is in
@@ -198,7 +198,7 @@ module _ {K V S H F : Type 0} (eq : K → K → Bool) (input : K → List (List 
         answers (Ok (Ok (Some entry))) (taken, taken_as, (shown, (same_number shown taken has took, value), there), are)
 
   -- it has at hand what it tells of
-  pub can_tell : (reply : Reply) → ask_of m ≡ Call (Done reply) → CanTell b name x reply
+  pub can_tell : (reply : Reply) → ask_of m ≡ Call (Done reply) → HoldsResult b name x reply
   can_tell Absent e = tt
   can_tell (Found n) e = no_other (Found n) tt e
   can_tell (Inserted n) e = no_other (Inserted n) tt e
@@ -212,7 +212,7 @@ module _ {K V S H F : Type 0} (eq : K → K → Bool) (input : K → List (List 
 
   -- what it answers, by what it tells
   pub answered : (reply : Reply) → ask_of m ≡ Call (Done reply) → (answer : Result (Result (Option (Bor K × Bor V)) (Bor K × Bor V)) Cause)
-      → Tells x reply answer → IsRemovalBy eq matches (history_of begun) (history_of log) judges first answer
+      → IsRemovalResult x reply answer → IsRemovalBy eq matches (history_of begun) (history_of log) judges first answer
   answered Absent e answer is = subst (IsRemovalBy eq matches (history_of begun) (history_of log) judges first) (sym is) (absent e)
   answered (Found n) e answer t = absurd t
   answered (Inserted n) e answer t = absurd t
@@ -227,7 +227,7 @@ module _ {K V S H F : Type 0} (eq : K → K → Bool) (input : K → List (List 
 
 -- whether a pair went, by what a removal with this reply tells
 pub told_went : {K V S H : Type 0} (x : Removal K V S H) (reply : Reply) (answer : Result (Result (Option (Bor K × Bor V)) (Bor K × Bor V)) Cause)
-    → Tells x reply answer → pair_went answer ≡ is_some (change_of_reply reply)
+    → IsRemovalResult x reply answer → pair_went answer ≡ is_some (change_of_reply reply)
 told_went x Absent answer is = ap pair_went is
 told_went x (Found n) answer t = absurd t
 told_went x (Inserted n) answer t = absurd t
@@ -241,7 +241,7 @@ told_went x (Refused cause) answer is = ap pair_went is
 
 -- and where it was refused, so was its machine
 pub told_refused : {K V S H : Type 0} (x : Removal K V S H) (reply : Reply) (answer : Result (Result (Option (Bor K × Bor V)) (Bor K × Bor V)) Cause)
-    → Tells x reply answer → (cause : Cause) → answer ≡ Err cause → reply ≡ Refused cause
+    → IsRemovalResult x reply answer → (cause : Cause) → answer ≡ Err cause → reply ≡ Refused cause
 told_refused x Absent answer is cause e = let f = sym is ∙ e in absurd (cc f)
 told_refused x (Found n) answer t cause e = absurd t
 told_refused x (Inserted n) answer t cause e = absurd t
@@ -254,7 +254,7 @@ told_refused x Reply_done answer t cause e = absurd t
 told_refused x (Refused other) answer is cause e = let f = sym is ∙ e in let same : other ≡ cause = cc f in ap Refused same
 
 -- no removal tells of another reply
-pub tells_no_other : {K V S H : Type 0} (b : Begun K V S) (name : Book) (x : Removal K V S H) (reply : Reply) → IsNoRemoval reply → CanTell b name x reply → ⊥
+pub tells_no_other : {K V S H : Type 0} (b : Begun K V S) (name : Book) (x : Removal K V S H) (reply : Reply) → IsNoRemoval reply → HoldsResult b name x reply → ⊥
 tells_no_other b name x Absent never t = never
 tells_no_other b name x (Found n) never t = t
 tells_no_other b name x (Inserted n) never t = t
@@ -336,12 +336,12 @@ begins eq hash b name matches fed judges first log x l initial machine table pai
   said = [];
   has_said = refl;
   held = tt;
-  stood = λ n agrees stands. absurd (nothing_said (subst (λ (z : Machine). StandsOn z.call (Agrees n agrees)) machine stands));
+  stood = λ n agrees stands. absurd (nothing_said (subst (λ (z : Machine). ActsOn z.call (Agrees n agrees)) machine stands));
   refuses = λ cause e. let f = sym (ap ask_of machine) ∙ e in absurd (cc f);
   crowded = λ e. let f = sym (ap ask_of machine) ∙ e in absurd (cc f);
 }
   where
-    nothing_said : {n : ℕ} {agrees : Bool} → StandsOn (started RemoveIf fed b.mode initial 0 b.limit).call (Agrees n agrees) → ⊥
+    nothing_said : {n : ℕ} {agrees : Bool} → ActsOn (started RemoveIf fed b.mode initial 0 b.limit).call (Agrees n agrees) → ⊥
     nothing_said (inl e) = cc e
     nothing_said (inr (inl e)) = cc e
     nothing_said (inr (inr e)) = cc e

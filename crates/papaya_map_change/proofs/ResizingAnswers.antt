@@ -32,14 +32,14 @@ use Rattle.papaya_call.specs.declared.chain.resizer.ResizerState.{ResizerState a
 use Rattle.papaya_call.specs.declared.chain.resizer.ResizerState.TheVariants.{Opening, Linking, Copying, Done}
 use Rattle.papaya_call.specs.Resizer.{after, ask_of, follows_of, kind_of_ask}
 use Rattle.papaya_call_law.specs.Copier.{HasWords, link_in_copying}
-use Rattle.papaya_call_law.specs.Resizers.{HasLink, IsResizeCause, IsStageTold, ReliesStage, link_of}
-use Rattle.papaya_call_law.specs.ChainTold.{IsCopyTold, LoadedPairs}
+use Rattle.papaya_call_law.specs.Resizers.{HasLink, IsResizeCause, IsTrueOfStage, ReliesStage, link_of}
+use Rattle.papaya_call_law.specs.ChainAnswers.{IsTrueOfCopy, LoadedPairs}
 use Rattle.papaya_call_law.proofs.LinkStates.{Of}
 use Rattle.papaya_call_law.proofs.ResizerRefusals.{resizer_why}
 use Rattle.papaya_call_law.proofs.ResizerRelies.{stage_learns}
 use Rattle.papaya_words_law.specs.Exchange.{Exchange, State}
 use Rattle.papaya_words_law.specs.Meaning.{map_left}
-use Rattle.papaya_call_law.specs.Told.{or_last}
+use Rattle.papaya_call_law.specs.TrueAnswers.{or_last}
 use Rattle.papaya_map_book.specs.declared.rule.entry.Begun.{Begun}
 use Rattle.papaya_map_book.specs.declared.rule.entry.Event.{Event}
 use Rattle.papaya_map_book.specs.declared.rule.own.CapacityCause.{CapacityCause}
@@ -99,7 +99,7 @@ module _ (tables : List ℕ) where
 -- what is answered has not ended
 not_done : {K P : Type 0} (g : Rattle.papaya_words_law.specs.Exchange.Setting K P) (c : Rattle.papaya_words_law.specs.Code.Coding K P) (s : State P)
     (stage : Stage) (loaded : LoadedPairs P) (answer : Answer) (es : List (Exchange P)) (loaded' : LoadedPairs P)
-    → IsStageTold g c s stage loaded answer es loaded' → stage ≡ Done → ⊥
+    → IsTrueOfStage g c s stage loaded answer es loaded' → stage ≡ Done → ⊥
 not_done g c s Done loaded answer es loaded' told e = let none = told.1 in cc none
 not_done g c s other loaded answer es loaded' told e = cc e
 
@@ -166,7 +166,7 @@ module _ {K V S H : Type 0} (eq : K → K → Bool) (input : K → List (List �
   module _ (before : List (Event K V S)) (since : IsPrefix v before) (log : List (Event K V S)) (l : IsLawfulLog eq hashing b log)
       (pre : IsPrefix before log) (answer : Answer) (words : answer ≡ answers.Call Exchanged → HasWords (Gs log) (link_of m.state))
       (h' : Copier K V S H) (by : IsGivenBy answer h'.given.done)
-      (told : IsStageTold (Gs log) Cs (state_of before) m.state held answer (exchanges_of pre.0) (loaded_with h'.last h'.kept [])) where
+      (told : IsTrueOfStage (Gs log) Cs (state_of before) m.state held answer (exchanges_of pre.0) (loaded_with h'.last h'.kept [])) where
     pub again : IsPlaced b (Some name) (pair_named h'.last) → IsPlaced b (Some name) (pair_named h'.kept) → IsAtHand log h' (after m answer).state
         → ((slots limit : ℕ) → answer ≡ answers.Call (Size slots limit) → Member slots (tables_of log)) → IsResizing eq hashing b name log (after m answer) h'
     again placed placed' hand size =
@@ -213,7 +213,7 @@ module _ {K V S H : Type 0} (eq : K → K → Bool) (input : K → List (List �
 
     -- an answer with which nothing is exchanged
     quiet : (seen : List (Event K V S)) → IsPrefix v seen → IsLawfulLog eq hashing b seen → (ask : CopyAsk) → ask_of m ≡ Some ask → (answer : Answer)
-        → IsGivenBy answer h'.given.done → IsCopyTold (Gs seen) Cs (state_of seen) (kind_of_ask m) (follows_of m) held ask answer []
+        → IsGivenBy answer h'.given.done → IsTrueOfCopy (Gs seen) Cs (state_of seen) (kind_of_ask m) (follows_of m) held ask answer []
         (loaded_with h'.last h'.kept [])
         → IsPlaced b (Some name) (pair_named h'.last) → IsPlaced b (Some name) (pair_named h'.kept) → IsAtHand seen h' (after m answer).state
         → (answer ≡ answers.Call Exchanged → ⊥) → ((slots limit : ℕ) → answer ≡ answers.Call (Size slots limit) → Member slots (tables_of seen))
@@ -269,7 +269,7 @@ module _ {K V S H : Type 0} (eq : K → K → Bool) (input : K → List (List �
             copies.Exchange at old new,
             asked,
             subst (λ (z : LoadedPairs (Stored K V)).
-                IsCopyTold (Gs log) Cs (state_of t.before) (kind_of_ask m) (follows_of m) held (copies.Exchange at old new) (answers.Call Exchanged)
+                IsTrueOfCopy (Gs log) Cs (state_of t.before) (kind_of_ask m) (follows_of m) held (copies.Exchange at old new) (answers.Call Exchanged)
                 (exchanges_of g.0.0) z) same g.1,
           ))
           (placed_as (marked_or (kind_of_ask m) pair h.last) h'.last last (placed_marked (kind_of_ask m)))
@@ -283,7 +283,7 @@ module _ {K V S H : Type 0} (eq : K → K → Bool) (input : K → List (List �
             copies.Exchange at old new,
             asked,
             subst (λ (z : LoadedPairs (Stored K V)).
-                IsCopyTold (Gs log) Cs (state_of t.before) (kind_of_ask m) (follows_of m) held (copies.Exchange at old new)
+                IsTrueOfCopy (Gs log) Cs (state_of t.before) (kind_of_ask m) (follows_of m) held (copies.Exchange at old new)
                 (answers.Call (Found_instead found)) (exchanges_of g.0.0) z) same g.1,
           ))
           (placed_as (or_last pair h.last) h'.last last (placed_or b name pair h.last t.placed r.last_placed))

@@ -21,7 +21,7 @@ use Rattle.papaya_call.specs.declared.chain.resizer.Resizer.{Resizer}
 use Rattle.papaya_call.specs.declared.chain.resizer.ResizerState.{ResizerState as Stage}
 use Rattle.papaya_call.specs.declared.chain.resizer.ResizerState.TheVariants.{Opening}
 use Rattle.papaya_call.specs.Resizer.{after, after_in, begun, begun_in, reply_in}
-use Rattle.papaya_call_law.specs.Resizers.{IsStageTold, link_of}
+use Rattle.papaya_call_law.specs.Resizers.{IsTrueOfStage, link_of}
 use Rattle.papaya_call_law.proofs.ResizerRelies.{stage_begins}
 use Rattle.papaya_words_law.specs.Exchange.{Exchange}
 use Rattle.papaya_words_law.specs.Exchange as law
@@ -135,11 +135,11 @@ module _ {K V S H : Type 0} (eq : K → K → Bool) (input : K → List (List �
         let by : e ≡ law.Open n = call_wished Root (table.index + 1) (state_of t.before) None e (Some kinds.Open) tt done.1.asked ∙ ap law.Open number in
         let pre : IsPrefix t.before log = (Stepped done.0 ∷ [], sym done.2) in
         let none : ((state_of t.before).root == 0) ≡ true = ap (λ (i : ℕ). i == 0) t.is ∙ it in
-        let told : IsStageTold Gs Cs (state_of t.before) (Opening n) (loaded_with h.last h.kept []) (answers.Call Exchanged) (exchanges_of pre.0)
+        let told : IsTrueOfStage Gs Cs (state_of t.before) (Opening n) (loaded_with h.last h.kept []) (answers.Call Exchanged) (exchanges_of pre.0)
         (loaded_with h'.last h'.kept []) = rw none (refl, ap (λ (x : Exchange (Stored K V)). x ∷ []) by, same) in
         again eq input build write finish classes respects b name v m h r t.before t.since log t.now pre (answers.Call Exchanged)
         (λ e. subst (λ (s : Stage). HasWords Gs (link_of s)) (sym is) tt) h' tt
-        (subst (λ (s : Stage). IsStageTold Gs Cs (state_of t.before) s (loaded_with h.last h.kept []) (answers.Call Exchanged) (exchanges_of pre.0)
+        (subst (λ (s : Stage). IsTrueOfStage Gs Cs (state_of t.before) s (loaded_with h.last h.kept []) (answers.Call Exchanged) (exchanges_of pre.0)
         (loaded_with h'.last h'.kept [])) (sym is) told) placed placed'
         (subst (λ (s : Stage). IsMadeAt (λ i. IsFresh b name log i h'.fresh) (IsReadyAs b name log h'.fresh)
         (after_in m.resize m.mode m.initial m.number (answers.Call Exchanged) s)) (sym is) tt) (λ slots limit f. absurd (cc f))
@@ -147,11 +147,11 @@ module _ {K V S H : Type 0} (eq : K → K → Bool) (input : K → List (List �
         let still = subst After it t.after in
         let pre : IsPrefix t.before log = ([], append-nil t.before ∙ sym still) in
         let some : ((state_of t.before).root == 0) ≡ false = ap (λ (i : ℕ). i == 0) t.is ∙ it in
-        let told : IsStageTold Gs Cs (state_of t.before) (Opening n) (loaded_with h.last h.kept []) (answers.Call (Found_instead found)) []
+        let told : IsTrueOfStage Gs Cs (state_of t.before) (Opening n) (loaded_with h.last h.kept []) (answers.Call (Found_instead found)) []
         (loaded_with h'.last h'.kept []) = rw some (ap (λ (i : ℕ). answers.Call (Found_instead i)) (sym t.is), (refl, same)) in
         again eq input build write finish classes respects b name v m h r t.before t.since log t.now pre (answers.Call (Found_instead found))
         (λ e. absurd (cc e)) h' tt (subst (λ (s : Stage).
-        IsStageTold Gs Cs (state_of t.before) s (loaded_with h.last h.kept []) (answers.Call (Found_instead found)) []
+        IsTrueOfStage Gs Cs (state_of t.before) s (loaded_with h.last h.kept []) (answers.Call (Found_instead found)) []
         (loaded_with h'.last h'.kept [])) (sym is) told) placed placed'
         (subst (λ (s : Stage). IsMadeAt (λ i. IsFresh b name log i h'.fresh) (IsReadyAs b name log h'.fresh)
         (after_in m.resize m.mode m.initial m.number (answers.Call (Found_instead found)) s)) (sym is) tt) (λ slots limit f. absurd (cc f))

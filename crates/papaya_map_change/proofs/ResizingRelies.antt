@@ -21,9 +21,9 @@ use Rattle.papaya_call.specs.declared.chain.ask.Answer.TheVariants as answers
 use Rattle.papaya_call.specs.declared.chain.resizer.Resizer.{Resizer}
 use Rattle.papaya_call.specs.declared.chain.resizer.ResizerState.{ResizerState as Stage}
 use Rattle.papaya_call.specs.declared.chain.resizer.ResizerState.TheVariants.{Opening, Linking, Copying}
-use Rattle.papaya_call.specs.Resizer.{IsStandingResizer, after, after_in, ask_of, follows_of, kind_of_ask}
-use Rattle.papaya_call_law.specs.Resizers.{IsStageAsked, IsStageTold, ReliesStage, link_of}
-use Rattle.papaya_call_law.specs.ChainTold.{IsCopyTold, LoadedPairs}
+use Rattle.papaya_call.specs.Resizer.{IsValidResizer, after, after_in, ask_of, follows_of, kind_of_ask}
+use Rattle.papaya_call_law.specs.Resizers.{IsStageAsked, IsTrueOfStage, ReliesStage, link_of}
+use Rattle.papaya_call_law.specs.ChainAnswers.{IsTrueOfCopy, LoadedPairs}
 use Rattle.papaya_call_law.proofs.ResizerRelies.{stage_carries, stage_may, stage_may_hint, stage_stable, stage_there}
 use Rattle.papaya_words_law.specs.Allows.{AllAllowed, Allows}
 use Rattle.papaya_words_law.specs.Class.{IsOn}
@@ -35,7 +35,7 @@ use Rattle.papaya_words_law.specs.Meaning.{map_left}
 use Rattle.papaya_words_law.proofs.Moments.{allowed_first, allowed_rest, run-append}
 use Rattle.papaya_words_law.proofs.OneMap.{keeping}
 use Rattle.papaya_call_law.specs.Copier.{AreThere, HasWords, IsCopyAsked, IsThere, Rises_to, last_after, told_last}
-use Rattle.papaya_call_law.specs.Told.{IsWritten, or_last, word_of}
+use Rattle.papaya_call_law.specs.TrueAnswers.{IsWritten, or_last, word_of}
 use Rattle.papaya_map_book.specs.declared.rule.entry.Begun.{Begun}
 use Rattle.papaya_map_book.specs.declared.rule.entry.Event.{Event}
 use Rattle.papaya_map_book.specs.declared.rule.entry.Event.TheVariants.{Stepped}
@@ -75,8 +75,8 @@ module _ {K P : Type 0} (g : Setting K P) (c : Coding K P) (s : State P) where
   pub stage_told : (stage : Stage) → ((n : ℕ) → stage ≡ Opening n → ⊥)
       → (loaded : LoadedPairs P) (answer : Answer) (es : List (Exchange P)) (loaded' : LoadedPairs P) → (ask : CopyAsk)
       × (Rattle.papaya_call.specs.Resizer.asks_in stage ≡ Some ask)
-      × IsCopyTold g c s (Rattle.papaya_call.specs.Resizer.kind_in stage) (Rattle.papaya_call.specs.Resizer.follows_in stage) loaded ask answer es loaded'
-      → IsStageTold g c s stage loaded answer es loaded'
+      × IsTrueOfCopy g c s (Rattle.papaya_call.specs.Resizer.kind_in stage) (Rattle.papaya_call.specs.Resizer.follows_in stage) loaded ask answer es loaded'
+      → IsTrueOfStage g c s stage loaded answer es loaded'
   stage_told (Opening n) closed loaded answer es loaded' told = absurd (closed n refl)
   stage_told other closed loaded answer es loaded' told = told
 
@@ -251,7 +251,7 @@ module _ {K V S H : Type 0} (eq : K → K → Bool) (input : K → List (List �
 
         -- what was true of the words before it
         abbrev pub Tells : IsPrefix t.before log → Answer → Option (Stored K V) → Type 0
-        Tells pre answer last = IsCopyTold (G log) C (state_of t.before) (kind_of_ask m) (follows_of m) loaded (copies.Exchange at old new) answer
+        Tells pre answer last = IsTrueOfCopy (G log) C (state_of t.before) (kind_of_ask m) (follows_of m) loaded (copies.Exchange at old new) answer
             (exchanges_of pre.0) (loaded_with last h.kept [])
 
         pub grown : (found == old) ≡ true → (pre : IsPrefix t.before log) × Tells pre (answers.Call Exchanged) (marked_or (kind_of_ask m) pair h.last)

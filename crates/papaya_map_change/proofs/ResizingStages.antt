@@ -38,7 +38,7 @@ use Rattle.papaya_call.specs.declared.chain.resizer.ResizerState.TheVariants.{Co
 use Rattle.papaya_call.specs.declared.chain.resizer.ResizerState.TheVariants.{Copying, Done}
 use Rattle.papaya_call.specs.declared.chain.resizer.ResizerState.TheVariants.{Refused as Ended_refused}
 use Rattle.papaya_call.specs.ChainMachine as machine
-use Rattle.papaya_call.specs.Resizer.{IsStandingIn, after_in, asks_in, at_count, at_last, at_next}
+use Rattle.papaya_call.specs.Resizer.{IsValidIn, after_in, asks_in, at_count, at_last, at_next}
 use Rattle.papaya_call.specs.Resizer.{at_root, called, copied, copies, counted, judges, kind_in}
 use Rattle.papaya_call.specs.Resizer.{linked, makes, over, told_root}
 use Rattle.papaya_call.specs.TableSize.{room_of}
@@ -253,7 +253,7 @@ fits : (one ask : CopyAsk) → Some one ≡ Some ask → IsFitCopyAsk one → Is
 fits one ask e h = let is : one ≡ ask = cc e in subst IsFitCopyAsk is h
 
 -- a table that it asks to be made has a size of tables
-pub stage_fits : (stage : Stage) → IsStandingIn stage → (ask : CopyAsk) → asks_in stage ≡ Some ask → IsFitCopyAsk ask
+pub stage_fits : (stage : Stage) → IsValidIn stage → (ask : CopyAsk) → asks_in stage ≡ Some ask → IsFitCopyAsk ask
 stage_fits (Making room) stands ask e = fits (MakeTable room.len room.limit 0) ask e stands
 stage_fits (Linking link) stands ask e = fits (link_ask link) ask e (link_fits link stands)
 stage_fits (Copying from goes) stands ask e = fits (copying_ask goes) ask e (copying_fits goes stands)

@@ -25,7 +25,7 @@ use Rattle.papaya_call.specs.Made.{nothing_made}
 use Rattle.papaya_call.specs.Machine.{at_root, computes, goes_as, replaces}
 use Rattle.papaya_call.specs.ChainMachine.{started}
 use Rattle.papaya_words_law.specs.Invariant.{named}
-use Rattle.papaya_call_law.specs.Told.{or_last}
+use Rattle.papaya_call_law.specs.TrueAnswers.{or_last}
 use Rattle.papaya_call_law.proofs.LoadsLeft.{chosen}
 use Rattle.papaya_map_book.specs.declared.rule.entry.Begun.{Begun}
 use Rattle.papaya_map_book.specs.declared.rule.entry.Event.{Event}
@@ -44,7 +44,7 @@ use Rattle.papaya_map_lookup.specs.History.{key_of}
 use Rattle.papaya_map_lookup.proofs.Readings.{IsQuery}
 use Rattle.papaya_map_lookup.proofs.Turning.{compared_look, read_hinted}
 use Rattle.papaya_map_change.specs.Changing.{IsCalling}
-use Rattle.papaya_map_change.specs.Seeking.{IsSeekingAt, Seeker, Inserts, Computes, at_live, leads, left_at, left_to, met_by, seeker_at, task_of, turn_of}
+use Rattle.papaya_map_change.specs.Seeking.{IsSeekingAt, Seeker, Inserts, Computes, at_live, leads, left_at, left_to, met_by, seeker_at, task_of, hit_of}
 use Rattle.papaya_map_change.specs.declared.fast_path.ProbeHit.TheVariants.{Empty, Next, Over as OverTable}
 use Rattle.papaya_map_change.proofs.Changing.{begins, compared, hint_table, hinted as hint_loaded, loads, sized, slot_table}
 use Rattle.papaya_map_change.proofs.Written.{own_query}
@@ -71,7 +71,7 @@ live_met who mode at word same is_same live =
 
 module _ (M : Type 0) where
   abbrev Left : ProbeStep → ℕ
-  Left seen = left_to {M = M} (turn_of seen)
+  Left seen = left_to {M = M} (hit_of seen)
 
   -- each turn leaves fewer places
   fewer_on : (at : Place) → at.probe.len ≤ at.limit → Left (go_on at) < left_at at
@@ -109,17 +109,17 @@ module _ (M : Type 0) where
   fewer_yes at word false low = fewer_on at low
 
   -- a place that is looked at next is one of the search
-  within_on : (goes : Search) → IsProbed (On goes) → (next : Place) → turn_of {M = M} (On goes) ≡ Next next → IsWithin next
+  within_on : (goes : Search) → IsProbed (On goes) → (next : Place) → hit_of {M = M} (On goes) ≡ Next next → IsWithin next
   within_on (Looking at) seen next e = let is : at ≡ next = cc e in subst IsWithin is seen
   within_on goes seen next e = absurd (cc e)
 
-  pub within_next : (seen : ProbeStep) → IsProbed seen → (next : Place) → turn_of {M = M} seen ≡ Next next → IsWithin next
+  pub within_next : (seen : ProbeStep) → IsProbed seen → (next : Place) → hit_of {M = M} seen ≡ Next next → IsWithin next
   within_next (On goes) is next e = within_on goes is next e
   within_next seen is next e = absurd (cc e)
 
   -- a place that is looked at next is of the same table
   abbrev StaysIn : Place → ProbeStep → Type 0
-  StaysIn at seen = (next : Place) → turn_of {M = M} seen ≡ Next next → next ≡ record at { probe = next.probe }
+  StaysIn at seen = (next : Place) → hit_of {M = M} seen ≡ Next next → next ≡ record at { probe = next.probe }
 
   stays_on : (at : Place) → StaysIn at (go_on at)
   stays_on at = chosen (StaysIn at) (nat_lt at.probe.len at.limit) (On (Looking (next_place at))) (Over at.table)
@@ -146,7 +146,7 @@ module _ (M : Type 0) where
 
 module _ (K V : Type 0) where
   -- where a turn leads that met no pair, the search leads the machine
-  led_on : (who : Seeker) (mode : ResizeMode) (goes : Search) (state : State) → leads who (turn_of {M = Met K V} (On goes)) ≡ Some state
+  led_on : (who : Seeker) (mode : ResizeMode) (goes : Search) (state : State) → leads who (hit_of {M = Met K V} (On goes)) ≡ Some state
       → led_by who mode (On goes) ≡ state
   led_on who mode (Looking at) state e = cc e
   led_on who mode goes state e = absurd (cc e)
@@ -161,18 +161,18 @@ module _ (K V : Type 0) where
   led_over Inserts mode table state e = cc e
   led_over Computes mode table state e = absurd (cc e)
 
-  pub led_so : (who : Seeker) (mode : ResizeMode) (seen : ProbeStep) (state : State) → leads who (turn_of {M = Met K V} seen) ≡ Some state
+  pub led_so : (who : Seeker) (mode : ResizeMode) (seen : ProbeStep) (state : State) → leads who (hit_of {M = Met K V} seen) ≡ Some state
       → led_by who mode seen ≡ state
   led_so who mode (On goes) state e = led_on who mode goes state e
   led_so who mode (Seen_empty at) state e = led_empty who mode at state e
   led_so who mode (Over table) state e = led_over who mode table state e
   led_so who mode seen state e = absurd (cc e)
 
-  none_on : (goes : Search) → met_by (turn_of {M = Met K V} (On goes)) ≡ None
+  none_on : (goes : Search) → met_by (hit_of {M = Met K V} (On goes)) ≡ None
   none_on (Looking at) = refl
   none_on goes = refl
 
-  pub none_met : (seen : ProbeStep) → met_by (turn_of {M = Met K V} seen) ≡ None
+  pub none_met : (seen : ProbeStep) → met_by (hit_of {M = Met K V} seen) ≡ None
   none_met (On goes) = none_on goes
   none_met (Seen_empty at) = refl
   none_met seen = refl
@@ -236,7 +236,7 @@ module _ {K V S H : Type 0} (eq : K → K → Bool) (input : K → List (List �
 
   -- where a turn met no pair, it leads the machine on as the search does
   pub turned : (log : List (Event K V S)) (seen : ProbeStep) (table : Sheet) → At log (led_by who b.mode seen) None table → (state : State)
-      → leads who (turn_of {M = Met K V} seen) ≡ Some state → At log state (met_by (turn_of {M = Met K V} seen)) table
+      → leads who (hit_of {M = Met K V} seen) ≡ Some state → At log state (met_by (hit_of {M = Met K V} seen)) table
   turned log seen table r state e =
       subst (λ (o : Option (Stored K V)). At log state o table) (sym (none_met K V seen))
       (subst (λ (s : State). At log s None table) (led_so K V who b.mode seen state e) r)

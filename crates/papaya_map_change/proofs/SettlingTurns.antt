@@ -34,11 +34,11 @@ use Rattle.papaya_call.specs.declared.copy.settle.SlotToCopy.{SlotToCopy as Slot
 use Rattle.papaya_call.specs.declared.copy.step.Chunk.{Chunk}
 use Rattle.papaya_call.specs.declared.copy.step.Step.TheVariants.{Advancing, Settling}
 use Rattle.papaya_call.specs.declared.copy.step.Stepped.TheVariants.{On as Step_on}
-use Rattle.papaya_call.specs.Carry.{IsStandingCarry, fills}
+use Rattle.papaya_call.specs.Carry.{IsValidCarry, fills}
 use Rattle.papaya_call.specs.Carry as carries
-use Rattle.papaya_call.specs.Copying.{IsStandingCopying, leads}
-use Rattle.papaya_call.specs.Settle.{IsStandingSettle, copied_as, finishes, look_at, marked_as, settled_by}
-use Rattle.papaya_call.specs.Step.{IsStandingChunk, next_slot, settled_to, slot_of}
+use Rattle.papaya_call.specs.Copying.{IsValidCopying, leads}
+use Rattle.papaya_call.specs.Settle.{IsValidSettle, copied_as, finishes, look_at, marked_as, settled_by}
+use Rattle.papaya_call.specs.Step.{IsValidChunk, next_slot, settled_to, slot_of}
 use Rattle.papaya_call.specs.ChainMachine.{IsFit, copying_after}
 use Rattle.papaya_call.specs.declared.chain.ask.Answer.{Answer}
 use Rattle.papaya_call.specs.declared.chain.ask.Answer.TheVariants.{Call, Hash}
@@ -50,7 +50,7 @@ use Rattle.papaya_map_book.specs.Hinted.{IsSlotHint}
 use Rattle.papaya_map_book.specs.Rule.{IsLawfulLog}
 use Rattle.papaya_map_change.specs.Copier.{AnswersExchange, Carries, HasTried, IsSizeOf, tried_answer}
 use Rattle.papaya_map_change.specs.Helping.{IsLoadedFor}
-use Rattle.papaya_map_change.specs.Settling.{AnswersAt, CanLead, Ends, IsPath, IsTurn, Leads, LeavesSlot, Stop, at_slot, past_slot}
+use Rattle.papaya_map_change.specs.Settling.{AnswersAt, CanStep, Ends, IsPath, IsMoveStep, StepsTo, LeavesSlot, Stop, at_slot, past_slot}
 
 module _ {K V S H : Type 0} (eq : K → K → Bool) (hash : S → K → ℕ) (b : Begun K V S) (name : Book) where
   module _ (mode : ResizeMode) where
@@ -60,23 +60,23 @@ module _ {K V S H : Type 0} (eq : K → K → Bool) (hash : S → K → ℕ) (b 
     path_then (x ∷ ts) us s t u p q = (p.0, path_then ts us x t u p.1 q)
 
     -- one answer after others
-    pub leads_then : (s t u : Stop K V S H) → Leads eq hash b name mode s t → Leads eq hash b name mode t u → Leads eq hash b name mode s u
+    pub leads_then : (s t u : Stop K V S H) → StepsTo eq hash b name mode s t → StepsTo eq hash b name mode t u → StepsTo eq hash b name mode s u
     leads_then s t u l m = (l.0 ++ m.0, path_then l.0 m.0 s t u l.1 m.1)
 
-    pub leads_one : (s t : Stop K V S H) → IsTurn eq hash b name mode s t → Leads eq hash b name mode s t
+    pub leads_one : (s t : Stop K V S H) → IsMoveStep eq hash b name mode s t → StepsTo eq hash b name mode s t
     leads_one s t turn = (t ∷ [], (turn, refl))
 
-    pub leads_none : (s : Stop K V S H) → Leads eq hash b name mode s s
+    pub leads_none : (s : Stop K V S H) → StepsTo eq hash b name mode s s
     leads_none s = ([], refl)
 
     -- what may be asked later
-    pub can_then : (s t : Stop K V S H) → CanLead eq hash b name mode s → IsTurn eq hash b name mode s t → CanLead eq hash b name mode t
+    pub can_then : (s t : Stop K V S H) → CanStep eq hash b name mode s → IsMoveStep eq hash b name mode s t → CanStep eq hash b name mode t
     can_then s t can turn = λ u l. can u (leads_then s t u (leads_one s t turn) l)
 
-    pub can_later : (s t : Stop K V S H) → CanLead eq hash b name mode s → Leads eq hash b name mode s t → CanLead eq hash b name mode t
+    pub can_later : (s t : Stop K V S H) → CanStep eq hash b name mode s → StepsTo eq hash b name mode s t → CanStep eq hash b name mode t
     can_later s t can led = λ u l. can u (leads_then s t u led l)
 
-    pub ends_then : (s t s' : Stop K V S H) (answer : Answer) → Leads eq hash b name mode s t → Ends eq hash b name mode t s' answer
+    pub ends_then : (s t s' : Stop K V S H) (answer : Answer) → StepsTo eq hash b name mode s t → Ends eq hash b name mode t s' answer
         → Ends eq hash b name mode s s' answer
     ends_then s t s' answer l e = record {
       log = e.log;
@@ -84,32 +84,32 @@ module _ {K V S H : Type 0} (eq : K → K → Bool) (hash : S → K → ℕ) (b 
       leads = leads_then s t (record { copying = s'.copying; log = e.log; loaded = e.loaded }) l e.leads;
       since = e.since;
       answers = e.answers;
-      standing = e.standing;
+      valid = e.valid;
       fit = e.fit;
     }
 
     pub ends_here : (s : Stop K V S H) (log : List (Event K V S)) (h : Copier K V S H) (answer : Answer) → IsPrefix s.log log
-        → AnswersAt eq hash b name mode s log h answer → IsStandingCopying s.copying → IsFit answer
+        → AnswersAt eq hash b name mode s log h answer → IsValidCopying s.copying → IsFit answer
         → Ends eq hash b name mode s (record { copying = s.copying; log = log; loaded = h }) answer
-    ends_here s log h answer since answers standing fit = record {
+    ends_here s log h answer since answers valid fit = record {
       log = s.log;
       loaded = s.loaded;
       leads = leads_none s;
       since = since;
       answers = answers;
-      standing = standing;
+      valid = valid;
       fit = fit;
     }
 
     -- the copy of a slot goes on from where an answer led it
     pub leaves_then : (aim : Aim) (chunk : Chunk) (s t : Stop K V S H) (log : List (Event K V S)) (h : Copier K V S H) (halt : Option Halt)
-        → IsTurn eq hash b name mode s t → LeavesSlot eq hash b name mode aim chunk t log h halt → LeavesSlot eq hash b name mode aim chunk s log h halt
+        → IsMoveStep eq hash b name mode s t → LeavesSlot eq hash b name mode aim chunk t log h halt → LeavesSlot eq hash b name mode aim chunk s log h halt
     leaves_then aim chunk s t log h None turn l = leads_then s t (record { copying = past_slot aim chunk; log = log; loaded = h }) (leads_one s t turn) l
     leaves_then aim chunk s t log h (Some halt) turn e = ends_then s t (record { copying = at_slot aim chunk halt.settle; log = log; loaded = h })
         halt.answer (leads_one s t turn) e
 
     pub leaves_led : (aim : Aim) (chunk : Chunk) (s t : Stop K V S H) (log : List (Event K V S)) (h : Copier K V S H) (halt : Option Halt)
-        → Leads eq hash b name mode s t → LeavesSlot eq hash b name mode aim chunk t log h halt → LeavesSlot eq hash b name mode aim chunk s log h halt
+        → StepsTo eq hash b name mode s t → LeavesSlot eq hash b name mode aim chunk t log h halt → LeavesSlot eq hash b name mode aim chunk s log h halt
     leaves_led aim chunk s t log h None led l = leads_then s t (record { copying = past_slot aim chunk; log = log; loaded = h }) led l
     leaves_led aim chunk s t log h (Some halt) led e = ends_then s t (record { copying = at_slot aim chunk halt.settle; log = log; loaded = h })
         halt.answer led e
@@ -149,13 +149,13 @@ past_by aim chunk mode false = refl
 pub past_on : (aim : Aim) (chunk : Chunk) (mode : ResizeMode) → leads aim mode (settled_to chunk Was_settled) ≡ On (past_slot aim chunk)
 past_on aim chunk mode = past_by aim chunk mode (nat_lt (chunk.at + 1) chunk.end)
 
-pub past_standing : (aim : Aim) (chunk : Chunk) → IsStandingChunk chunk → IsStandingCopying (past_slot aim chunk)
-past_standing aim chunk standing = by_next (nat_lt (chunk.at + 1) chunk.end) refl
+pub past_standing : (aim : Aim) (chunk : Chunk) → IsValidChunk chunk → IsValidCopying (past_slot aim chunk)
+past_standing aim chunk valid = by_next (nat_lt (chunk.at + 1) chunk.end) refl
   where
     by_next : (z : Bool) → nat_lt (chunk.at + 1) chunk.end ≡ z
-        → IsStandingCopying (if z then at_slot aim (next_slot chunk) Looking else Stepping aim (Advancing chunk.cursor))
-    by_next true is = (record { cursor = standing.cursor; at = ltb-true (chunk.at + 1) chunk.end is; within = standing.within }, tt)
-    by_next false is = standing.cursor
+        → IsValidCopying (if z then at_slot aim (next_slot chunk) Looking else Stepping aim (Advancing chunk.cursor))
+    by_next true is = (record { cursor = valid.cursor; at = ltb-true (chunk.at + 1) chunk.end is; within = valid.within }, tt)
+    by_next false is = valid.cursor
 
 -- which is the next slot, or the end of the chunk
 pub past_next : (aim : Aim) (chunk : Chunk) → chunk.at + 1 < chunk.end → past_slot aim chunk ≡ at_slot aim (next_slot chunk) Looking
@@ -209,7 +209,7 @@ looked_past word_kinds.Closed slot word empty live marked = refl
 
 -- Each answer that leads the copy of a slot on.
 module _ {K V S H : Type 0} (eq : K → K → Bool) (hash : S → K → ℕ) (b : Begun K V S) (name : Book) (mode : ResizeMode) (aim : Aim) (chunk : Chunk)
-    (standing : IsStandingChunk chunk) (log : List (Event K V S)) (h : Copier K V S H) (log' : List (Event K V S)) (h' : Copier K V S H)
+    (valid : IsValidChunk chunk) (log : List (Event K V S)) (h : Copier K V S H) (log' : List (Event K V S)) (h' : Copier K V S H)
     (since : IsPrefix log log') where
   abbrev pub before : Settle → Stop K V S H
   before settle = record { copying = at_slot aim chunk settle; log = log; loaded = h }
@@ -221,7 +221,7 @@ module _ {K V S H : Type 0} (eq : K → K → Bool) (hash : S → K → ℕ) (b 
   past = record { copying = past_slot aim chunk; log = log'; loaded = h' }
 
   abbrev Turns : Stop K V S H → Stop K V S H → Type 0
-  Turns s t = IsTurn eq hash b name mode s t
+  Turns s t = IsMoveStep eq hash b name mode s t
 
   abbrev Slots : (t x : ℕ) → StepKind → (old new found : ℕ) → Type 0
   Slots t x kind old new found = HasTried eq hash b name (Slot t x) (Some kind) (old, new) h.kept h.fresh log h.last found log' h'.last
@@ -234,7 +234,7 @@ module _ {K V S H : Type 0} (eq : K → K → Bool) (hash : S → K → ℕ) (b 
       answer = tried_answer found marked;
       answers = told eq hash b name chunk.cursor.from chunk.at (Some kinds.Finish) marked (copied_as marked) log h log' h' found tried rest;
       on = λ initial number. either initial number (found == marked);
-      standing = past_standing aim chunk standing;
+      valid = past_standing aim chunk valid;
     }
       where
         either : (initial number : ℕ) (z : Bool)
@@ -251,7 +251,7 @@ module _ {K V S H : Type 0} (eq : K → K → Bool) (hash : S → K → ℕ) (b 
       answer = Call Exchanged;
       answers = won eq hash b name chunk.cursor.from chunk.at (Some kinds.Mark) word (marked_as word) log h log' h' found tried rest is;
       on = λ initial number. refl;
-      standing = (standing, tt);
+      valid = (valid, tt);
     }
 
     -- or shut
@@ -261,7 +261,7 @@ module _ {K V S H : Type 0} (eq : K → K → Bool) (hash : S → K → ℕ) (b 
       answer = Call Exchanged;
       answers = won eq hash b name chunk.cursor.from chunk.at (Some kinds.Close) 0 5 log h log' h' found tried rest is;
       on = λ initial number. refl;
-      standing = (standing, tt);
+      valid = (valid, tt);
     }
 
     -- the pair was put into a place
@@ -273,7 +273,7 @@ module _ {K V S H : Type 0} (eq : K → K → Bool) (hash : S → K → ℕ) (b 
       answer = Call Exchanged;
       answers = won eq hash b name at.table at.probe.i (Some kinds.Place) 0 (live_word (pair_of marked)) log h log' h' found tried rest is;
       on = λ initial number. refl;
-      standing = (standing, within);
+      valid = (valid, within);
     }
 
     module _ (word : ℕ) where
@@ -285,11 +285,11 @@ module _ {K V S H : Type 0} (eq : K → K → Bool) (hash : S → K → ℕ) (b 
         answer = Call (Word word);
         answers = record { word = word; is = refl; as_loaded = as_loaded; rest = rest };
         on = λ initial number. ap (λ (z : ℕ). leads aim mode (settled_to chunk (settled_by marked mode (carries.look byte at mode z)))) is;
-        standing = (standing, within);
+        valid = (valid, within);
       }
 
       module _ (as_loaded : IsLoadedFor eq hash b name (Slot chunk.cursor.from chunk.at) word log' h.last h'.last) where
-        looks_by : (kind : Kind) → kind_of word ≡ kind → (next : Settle) → look_at kind (slot_of chunk) word ≡ Settle_on next → IsStandingSettle next
+        looks_by : (kind : Kind) → kind_of word ≡ kind → (next : Settle) → look_at kind (slot_of chunk) word ≡ Settle_on next → IsValidSettle next
             → Turns (before Looking) (later next)
         looks_by kind is next on stands = record {
           since = since;
@@ -297,7 +297,7 @@ module _ {K V S H : Type 0} (eq : K → K → Bool) (hash : S → K → ℕ) (b 
           answers = record { word = word; is = refl; as_loaded = as_loaded; rest = rest };
           on = λ initial number. ap (λ (z : Kind). leads aim mode (settled_to chunk (look_at z (slot_of chunk) word))) is
               ∙ ap (λ (z : Settled). leads aim mode (settled_to chunk z)) on;
-          standing = (standing, stands);
+          valid = (valid, stands);
         }
 
         -- the slot is empty, or has a pair
@@ -316,7 +316,7 @@ module _ {K V S H : Type 0} (eq : K → K → Bool) (hash : S → K → ℕ) (b 
           answers = record { word = word; is = refl; as_loaded = as_loaded; rest = rest };
           on = λ initial number. ap (λ (z : Settled). leads aim mode (settled_to chunk z))
               (looked_past (kind_of word) (slot_of chunk) word empty live marked) ∙ past_on aim chunk mode;
-          standing = past_standing aim chunk standing;
+          valid = past_standing aim chunk valid;
         }
 
   -- a hint was written
@@ -327,7 +327,7 @@ module _ {K V S H : Type 0} (eq : K → K → Bool) (hash : S → K → ℕ) (b 
       answer = Call Ok_done;
       answers = record { is = refl; lawful = lawful; rest = rest };
       on = λ initial number. past_on aim chunk mode;
-      standing = past_standing aim chunk standing;
+      valid = past_standing aim chunk valid;
     }
 
     module _ (marked byte : ℕ) (at : Place) where
@@ -337,7 +337,7 @@ module _ {K V S H : Type 0} (eq : K → K → Bool) (hash : S → K → ℕ) (b 
         answer = Call Ok_done;
         answers = record { is = refl; lawful = lawful; rest = rest };
         on = λ initial number. ap (λ (z : ResizeMode). leads aim mode (settled_to chunk (finishes marked z))) is;
-        standing = (standing, tt);
+        valid = (valid, tt);
       }
 
       pub notes_last : mode ≡ Blocking → Turns (before (Carrying marked (Placed byte at))) past
@@ -346,19 +346,19 @@ module _ {K V S H : Type 0} (eq : K → K → Bool) (hash : S → K → ℕ) (b 
         answer = Call Ok_done;
         answers = record { is = refl; lawful = lawful; rest = rest };
         on = λ initial number. ap (λ (z : ResizeMode). leads aim mode (settled_to chunk (finishes marked z))) is ∙ past_on aim chunk mode;
-        standing = past_standing aim chunk standing;
+        valid = past_standing aim chunk valid;
       }
 
   -- a hint was loaded
   module _ (marked byte : ℕ) (at : Place) (hint : ℕ) (hinted : IsSlotHint eq hash b at.table at.probe.i hint log') (rest : h' ≡ h) where
-    pub hints_at : (next : Carry) → carries.hinted byte at mode hint ≡ Carry_on next → IsStandingCarry next
+    pub hints_at : (next : Carry) → carries.hinted byte at mode hint ≡ Carry_on next → IsValidCarry next
         → Turns (before (Carrying marked (Looking_at byte at))) (later (Carrying marked next))
     hints_at next on stands = record {
       since = since;
       answer = Call (Word hint);
       answers = record { hint = hint; is = refl; hinted = hinted; rest = rest };
       on = λ initial number. ap (λ (z : Carried). leads aim mode (settled_to chunk (settled_by marked mode z))) on;
-      standing = (standing, stands);
+      valid = (valid, stands);
     }
 
   -- the size of the next table is known
@@ -369,19 +369,19 @@ module _ {K V S H : Type 0} (eq : K → K → Bool) (hash : S → K → ℕ) (b 
     answer = Call (Size size.0 size.1);
     answers = record { size = size; is = refl; size_of = size_of; rest = rest };
     on = λ initial number. refl;
-    standing = (standing, within);
+    valid = (valid, within);
   }
 
 module _ {K V S H : Type 0} (eq : K → K → Bool) (hash : S → K → ℕ) (b : Begun K V S) (name : Book) (mode : ResizeMode) (aim : Aim) (chunk : Chunk)
-    (standing : IsStandingChunk chunk) (log : List (Event K V S)) (h h' : Copier K V S H) where
+    (valid : IsValidChunk chunk) (log : List (Event K V S)) (h h' : Copier K V S H) where
   -- the hash of the pair's key is known, and the pair is carried
   pub hashes : (marked to byte : ℕ) → Carries eq hash b name h h' byte → h' ≡ record h { kept = h'.kept }
-      → IsTurn eq hash b name mode (record { copying = at_slot aim chunk (Carrying marked (Hashing to)); log = log; loaded = h })
+      → IsMoveStep eq hash b name mode (record { copying = at_slot aim chunk (Carrying marked (Hashing to)); log = log; loaded = h })
       (record { copying = at_slot aim chunk (Carrying marked (Sizing byte to)); log = log; loaded = h' })
   hashes marked to byte carried rest = record {
     since = ([], append-nil log);
     answer = Hash byte;
     answers = record { word = byte; is = refl; carries = carried; still = refl; rest = rest };
     on = λ initial number. refl;
-    standing = (standing, tt);
+    valid = (valid, tt);
   }

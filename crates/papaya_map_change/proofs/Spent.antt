@@ -15,7 +15,7 @@ use Rattle.papaya_map_book.specs.declared.rule.own.CapacityCause.{CapacityCause}
 use Rattle.papaya_map_book.specs.Limits.{IsSpent}
 use Rattle.papaya_map_book.specs.Logs.{exchanges_of, setting_of, state_of}
 use Rattle.papaya_map_book.specs.Rule.{IsLawfulLog}
-use Rattle.papaya_map_change.specs.Writing.{IsUnsaid, TellsTaken}
+use Rattle.papaya_map_change.specs.Writing.{IsWithoutResult, IsTakenCount}
 
 module _ {K V S : Type 0} (eq : K → K → Bool) (hash : S → K → ℕ) (b : Begun K V S) (log : List (Event K V S)) (l : IsLawfulLog eq hash b log) where
   -- so many numbers were taken as the limit says
@@ -24,14 +24,14 @@ module _ {K V S : Type 0} (eq : K → K → Bool) (hash : S → K → ℕ) (b : 
       (exchanges_of log) start l.allowed (omega arith) in omega (arith, below, over)
 
   -- where the answer tells how many were taken
-  pub limit_spent : (m : Machine) (answer : Answer) → m.made.limit ≡ b.limit → TellsTaken log (calls.ask_of m) answer → IsAtLimit m answer → IsSpent b.limit log
+  pub limit_spent : (m : Machine) (answer : Answer) → m.made.limit ≡ b.limit → IsTakenCount log (calls.ask_of m) answer → IsAtLimit m answer → IsSpent b.limit log
   limit_spent m answer limit tells (most, count, is, over, number, says) =
       let made_is = tells number count says in
       let has : b.limit ≡ Some most = sym limit ∙ is in
       subst (λ (o : Option ℕ). MatchOption o ⊥ (λ n. (state_of log).made ≡ n)) (sym has) (at_most most has (omega (arith, made_is, over)))
 
 -- what was to be made is not refused for that
-pub unsaid_limit : (Holds : Type 0) (given : List CapacityCause) (answer : Answer) → IsUnsaid given answer → (cause : Cause)
+pub unsaid_limit : (Holds : Type 0) (given : List CapacityCause) (answer : Answer) → IsWithoutResult given answer → (cause : Cause)
     → answer ≡ Was_refused cause → cause ≡ Limit → Holds
 unsaid_limit Holds given answer unsaid cause e limit = absurd
     (⊎_elim (λ memory. let f = sym memory ∙ limit in cc f) (λ full. let f = sym full.0 ∙ limit in cc f) (unsaid cause e))

@@ -56,12 +56,12 @@ use Rattle.papaya_words_law.specs.Code.{Coding, IsHashed}
 use Rattle.papaya_words_law.specs.Exchange.{Exchange as Law_exchange, Setting, State as Words}
 use Rattle.papaya_call_law.specs.Followed.{IsAtTable, told_table}
 use Rattle.papaya_call_law.specs.Relies.{change_after, change_in}
-use Rattle.papaya_call_law.specs.Told as told_calls
+use Rattle.papaya_call_law.specs.TrueAnswers as told_calls
 use Rattle.papaya_call_law.proofs.Followed.{opens_once, table_told}
 use Rattle.papaya_call_law.proofs.ReliesOpened.{machine_opened}
 use Rattle.papaya_call_law.specs.Goes.{IsInOrder, link_in}
 use Rattle.papaya_call_law.specs.ChainRelies.{left_by}
-use Rattle.papaya_call_law.specs.ChainTold.{IsTold, LoadedPairs}
+use Rattle.papaya_call_law.specs.ChainAnswers.{IsTrueOf, LoadedPairs}
 use Rattle.papaya_call_law.proofs.Names.{call_asks}
 use Rattle.papaya_call_law.proofs.Replies.{aside_asks, chain_changes}
 use Rattle.papaya_map_book.specs.Logs.{Stored}
@@ -319,10 +319,10 @@ module _ (m : Machine) (calling : m.phase ≡ Calling) (answer : Answer) where
 
   -- what the call was told, the machine is told
   pub own_told : {K P : Type 0} (g : Setting K P) (c : Coding K P) (k : K) (s : Words P) (loaded : LoadedPairs P) (es : List (Law_exchange P))
-      (call : told_calls.LoadedPairs P) (ask : Ask) → calls.ask_of m.call ≡ ask → told_calls.IsTold g c k s (kind_of_ask m) loaded.call ask answer es call
-      → IsTold g c k s (kind_of_ask m) (follows_of m) loaded (ask_of m) (answers.Call answer) es (record loaded { call = call })
+      (call : told_calls.LoadedPairs P) (ask : Ask) → calls.ask_of m.call ≡ ask → told_calls.IsTrueOf g c k s (kind_of_ask m) loaded.call ask answer es call
+      → IsTrueOf g c k s (kind_of_ask m) (follows_of m) loaded (ask_of m) (answers.Call answer) es (record loaded { call = call })
   own_told g c k s loaded es call ask asks tells =
-      subst (λ (a : Chain_ask). IsTold g c k s (kind_of_ask m) (follows_of m) loaded a (answers.Call answer) es (record loaded { call = call }))
+      subst (λ (a : Chain_ask). IsTrueOf g c k s (kind_of_ask m) (follows_of m) loaded a (answers.Call answer) es (record loaded { call = call }))
       (sym (calling_asks m calling ∙ ap (λ a. asked.Call a) asks))
       (record { told = answer; is = refl; call = call; tells = tells; handed = refl })
 
@@ -332,7 +332,7 @@ module _ (m : Machine) (calling : m.phase ≡ Calling) (answer : Answer) where
   -- what it has changed then
   pub own_changes : {K P : Type 0} (g : Setting K P) (c : Coding K P) → IsHashed g c → (k : K) → m.call.hash ≡ c.hash k
       → (s : Words P) (loaded : LoadedPairs P) (es : List (Law_exchange P)) (call : told_calls.LoadedPairs P) (ask : Ask) → calls.ask_of m.call ≡ ask
-      → told_calls.IsTold g c k s (kind_of_ask m) loaded.call ask answer es call
+      → told_calls.IsTrueOf g c k s (kind_of_ask m) loaded.call ask answer es call
       → change_in m'.call.state ≡ change_after (kind_of_ask m) ask answer (change_in m.call.state)
   own_changes g c hashed k hash s loaded es call ask asks tells =
       chain_changes g c k s m loaded (answers.Call answer) es (record loaded { call = call }) own_order

@@ -19,7 +19,7 @@ use Rattle.papaya_call_law.proofs.Names.{call_asks}
 use Rattle.papaya_words_law.specs.Code.{Coding}
 use Rattle.papaya_words_law.specs.Exchange.{Setting}
 use Rattle.papaya_call_law.specs.Relies.{change_of_kind}
-use Rattle.papaya_call_law.specs.Told.{IsAsked, IsTold, LoadedPairs, word_of}
+use Rattle.papaya_call_law.specs.TrueAnswers.{IsAsked, IsTrueOf, LoadedPairs, word_of}
 use Rattle.papaya_map_book.specs.Sheets.{Sheet}
 use Rattle.papaya_map_book.specs.declared.rule.entry.Begun.{Begun}
 use Rattle.papaya_map_book.specs.declared.rule.entry.Event.{Event}
@@ -92,7 +92,7 @@ module _ {K V S H : Type 0} (eq : K → K → Bool) (input : K → List (List �
           (subst (λ (z : Option StepKind). IsWished z Made_word new (state_of before) None e) kind done.1.asked) in
           let asked : IsAsked (G log) C k (kind_of_ask m) Made_word new (state_of before) loaded
           e = subst (λ (z : Option StepKind). IsAsked (G log) C k z Made_word new (state_of before) loaded e) (sym kind) plainly in
-          let told : IsTold (G log) C k (state_of before) (kind_of_ask m) loaded (Ask_exchange Made_word old new) Exchanged (e ∷ []) loaded = rw here
+          let told : IsTrueOf (G log) C k (state_of before) (kind_of_ask m) loaded (Ask_exchange Made_word old new) Exchanged (e ∷ []) loaded = rw here
           (refl, (e, asked, refl), refl) in
           answered eq input build write finish classes respects b matches query lawful k name begun v before log s.lawful s.now s.since more m table
           last kept made taken put fresh r (Ask_exchange Made_word old new) asks Exchanged last made told table taken put fresh
@@ -108,7 +108,7 @@ module _ {K V S H : Type 0} (eq : K → K → Bool) (input : K → List (List �
           let pre : IsPrefix v log = subst (IsPrefix v) (sym same) s.since in
           let here : word_of (G log) C (state_of log) Made_word ≡ found = ap (λ (z : List (Event K V S)). (state_of z).made) same ∙ s.is in
           let differs : (word_of (G log) C (state_of log) Made_word == old) ≡ false = ap (λ (n : ℕ). n == old) here ∙ is in
-          let told : IsTold (G log) C k (state_of log) (kind_of_ask m) loaded (Ask_exchange Made_word old new) (Found_instead found) []
+          let told : IsTrueOf (G log) C k (state_of log) (kind_of_ask m) loaded (Ask_exchange Made_word old new) (Found_instead found) []
           loaded = rw differs (ap Found_instead (sym here), refl, refl) in
           quiet eq input build write finish classes respects b matches query lawful k name begun v log pre s.now m table last kept made taken put
           fresh r (Ask_exchange Made_word old new) asks (Found_instead found) last made table fresh

@@ -5,7 +5,7 @@ use denote.Bor.{Bor}
 use Rattle.papaya_map_book.specs.Logs.{Stored}
 use Rattle.papaya_map_lookup.specs.History.{Change, key_of}
 use Rattle.papaya_map_change.specs.Changes.{IsChangeOf, IsPut, key_kept}
-use Rattle.papaya_map_change.specs.Showings.{IsSamePair}
+use Rattle.papaya_map_change.specs.ClosureCalls.{IsSamePair}
 use Rattle.papaya_map_change.specs.Tries.{AreSame}
 
 module _ {K V : Type 0} where

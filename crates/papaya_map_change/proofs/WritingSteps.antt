@@ -22,14 +22,14 @@ use Rattle.papaya_call.specs.declared.chain.ask.Ask.TheVariants.{Call}
 use Rattle.papaya_call.specs.declared.chain.ask.Ask.{Ask as Chain_ask}
 use Rattle.papaya_call.specs.declared.chain.machine.Machine.{Machine}
 use Rattle.papaya_call.specs.declared.chain.machine.Phase.TheVariants.{Calling}
-use Rattle.papaya_call.specs.ChainMachine.{IsStanding, ask_of, kind_of_ask, started}
+use Rattle.papaya_call.specs.ChainMachine.{IsValid, ask_of, kind_of_ask, started}
 use Rattle.papaya_call_law.proofs.Names.{call_asks}
 use Rattle.papaya_call_law.specs.Followed.{MayAsk}
 use Rattle.papaya_call_law.specs.Relies.{IsNumberAsk}
 use Rattle.papaya_call.specs.declared.call.Task.{Task}
 use Rattle.papaya_call.specs.Machine as calls
 use Rattle.papaya_call.specs.Search.{IsSize}
-use Rattle.papaya_call_law.specs.Told.{IsOneOf, or_last}
+use Rattle.papaya_call_law.specs.TrueAnswers.{IsOneOf, or_last}
 use Rattle.papaya_call_law.proofs.Followed.{asked_of_task}
 use Rattle.papaya_map_book.specs.Sheets.{Sheet}
 use Rattle.papaya_map_change.specs.declared.driver.Driver.{Driver}
@@ -48,7 +48,7 @@ use Rattle.papaya_map_book.specs.Makers.{IsMade}
 use Rattle.papaya_map_book.specs.Plays.{CanExchange, IsPutting}
 use Rattle.papaya_map_book.specs.Rule.{IsLawfulLog, IsPlaced}
 use Rattle.papaya_map_book.specs.declared.book.pairs.KeyPart.TheVariants as keys
-use Rattle.papaya_map_change.specs.Writing.{HasValue, IsWriting, MayStand, TellsTaken}
+use Rattle.papaya_map_change.specs.Writing.{HasValue, IsWriting, MayOverwrite, IsTakenCount}
 use Rattle.papaya_map_change.proofs.Changing.{begins as begins_calling, call_loaded, call_relies}
 use Rattle.papaya_map_change.proofs.Changing.{counted, hint_may, hint_table, hinted, load_table}
 use Rattle.papaya_map_change.proofs.Changing.{loaded_lawful, loads, noted, size_table, sized}
@@ -114,10 +114,10 @@ module _ {K V S H : Type 0} (eq : K → K → Bool) (input : K → List (List �
     abbrev m : Machine
     m = w.call.machine
 
-    module _ (standing : IsStanding m) where
+    module _ (valid : IsValid m) where
       -- what its call may ask
       may_ask : (ask : Ask) → ask_of m ≡ Call ask → MayAsk m.call.task (calls.kind_of_ask m.call) ask
-      may_ask ask asks = subst (λ (a : Ask). MayAsk m.call.task (calls.kind_of_ask m.call) a) (call_asks m ask asks).1 (asked_of_task m.call standing.call)
+      may_ask ask asks = subst (λ (a : Ask). MayAsk m.call.task (calls.kind_of_ask m.call) a) (call_asks m ask asks).1 (asked_of_task m.call valid.call)
 
       -- the word at a place may be loaded
       pub load_held : (at : At) → ask_of m ≡ Call (Load at) → IsHeldAt at log w.call.table
@@ -195,7 +195,7 @@ module _ {K V S H : Type 0} (eq : K → K → Bool) (input : K → List (List �
               w.call.copier.last w.call.copier.kept made w.call.taken w.call.put w.call.copier.fresh r.calling old new asks kind_take log' found state tried is) r.put_placed))
               (cases_Bool (found == old))
 
-          pub took_tells : (answer : Answer) → Tells (found == old) answer → TellsTaken log' (calls.ask_of m.call) answer
+          pub took_tells : (answer : Answer) → Tells (found == old) answer → IsTakenCount log' (calls.ask_of m.call) answer
           took_tells answer told number count says =
               ⊎_elim
               (λ is. let e = subst (λ (z : Bool). Tells z answer) is told in
@@ -221,7 +221,7 @@ module _ {K V S H : Type 0} (eq : K → K → Bool) (input : K → List (List �
 
     -- how many numbers for pairs were taken is told
     pub loaded_tells : (log' : List (Event K V S)) (at : At) (word : ℕ) (c : Driver K V S H) → ask_of m ≡ Call (Load at)
-        → IsLoaded eq hash b name at word log' w.call.table c.table w.call.copier.last c.copier.last → TellsTaken log' (calls.ask_of m.call) (Word_read word)
+        → IsLoaded eq hash b name at word log' w.call.table c.table w.call.copier.last c.copier.last → IsTakenCount log' (calls.ask_of m.call) (Word_read word)
     loaded_tells log' at word c asks is number count says =
         let made_is = taken_at eq hash b name log' at word w.call.table c.table w.call.copier.last c.copier.last is
         (subst IsNumberAsk (call_asks m (Load at) asks).1 number) in
@@ -296,11 +296,11 @@ module _ {K V S H : Type 0} (eq : K → K → Bool) (input : K → List (List �
       kind_at kind = let same = own_kind m its_own.0 in same ∙ asked_kind m.call t i old new its_own.1 (subst IsPutting same kind)
 
       -- one that is claimed has the call's key, where it may stand there
-      pub claims_own : IsPutting (kind_of_ask m) → (q : Stored K V) → MayStand log key t i old q → kind_of_ask m ≡ Some kinds.Claim → key_of q ≡ key
+      pub claims_own : IsPutting (kind_of_ask m) → (q : Stored K V) → MayOverwrite log key t i old q → kind_of_ask m ≡ Some kinds.Claim → key_of q ≡ key
       claims_own kind q stands claims = claimed_as _ _ (old == 0) (kind_of_ask m) (kind_at kind) stands claims
 
       -- a pair may be put in that may stand there, where one of its number was asked for
-      pub put_can : IsPutting (kind_of_ask m) → (q : Stored K V) → MayStand log key t i old q → pair_of new ≡ q.index
+      pub put_can : IsPutting (kind_of_ask m) → (q : Stored K V) → MayOverwrite log key t i old q → pair_of new ≡ q.index
           → CanExchange eq hash b (Slot t i) (kind_of_ask m) old new (Some q) (names.Pair q) log
       put_can kind q stands number =
           let same = own_kind m its_own.0 in

@@ -32,7 +32,7 @@ use Rattle.papaya_map_book.specs.Makers.{IsMade}
 use Rattle.papaya_map_book.specs.Rule.{IsLawfulLog, IsPlaced}
 use Rattle.papaya_map_book.specs.declared.book.pairs.KeyPart.{KeyPart}
 use Rattle.papaya_map_book.specs.declared.book.pairs.ValuePart.{ValuePart}
-use Rattle.papaya_call_law.specs.Told.{IsOneOf}
+use Rattle.papaya_call_law.specs.TrueAnswers.{IsOneOf}
 use Rattle.papaya_map_change.specs.Writing.{HasKey, HasValue, IsWriting, IsWritingOn}
 use Rattle.papaya_map_change.proofs.Changing.{barren, compared, held_later, quiet}
 use Rattle.papaya_map_change.proofs.StepsOfOwn.{own_brings}
@@ -143,11 +143,11 @@ module _ {K V S H : Type 0} (eq : K → K → Bool) (input : K → List (List �
           r.put_placed
 
       -- the pair was not logged
-      abbrev pub IsUnlogged : Answer → Type 0
-      IsUnlogged answer = ((refused : Refused) × (answer ≡ Was_refused refused)) ⊎ (answer ≡ Ok_done)
+      abbrev pub IsNotStored : Answer → Type 0
+      IsNotStored answer = ((refused : Refused) × (answer ≡ Was_refused refused)) ⊎ (answer ≡ Ok_done)
 
       module _ (own : Option (KeyPart K V)) (value : Option (ValuePart K V)) (keyed : HasKey b name key own) (valued : HasValue b name value) where
-        pub pair_unmade : (answer : Answer) → ask_of m ≡ Call MakePair → IsUnlogged answer → IsPlainAnswer answer
+        pub pair_unmade : (answer : Answer) → ask_of m ≡ Call MakePair → IsNotStored answer → IsPlainAnswer answer
             → WritingOn log (record w { value = value; key = own }) answer
         pair_unmade answer asks unmade plain =
             goes_on made log (record w { value = value; key = own }) answer keyed valued (plain_fit answer plain)
@@ -164,7 +164,7 @@ module _ {K V S H : Type 0} (eq : K → K → Bool) (input : K → List (List �
             }) r.calling.holds_table r.calling.last_placed r.calling.made_placed)
             r.put_placed
 
-        pub of_unmade : (n : ℕ) → (answer : Answer) → ask_of m ≡ Call (MakePairOf n) → IsUnlogged answer → IsPlainAnswer answer
+        pub of_unmade : (n : ℕ) → (answer : Answer) → ask_of m ≡ Call (MakePairOf n) → IsNotStored answer → IsPlainAnswer answer
             → WritingOn log (record w { value = value; key = own }) answer
         of_unmade n answer asks unmade plain =
             goes_on made log (record w { value = value; key = own }) answer keyed valued (plain_fit answer plain)

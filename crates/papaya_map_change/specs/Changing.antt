@@ -18,12 +18,12 @@ use Rattle.papaya_call.specs.declared.chain.machine.Phase.TheVariants.{Calling}
 use Rattle.papaya_call.specs.ChainMachine.{ask_of}
 use Rattle.papaya_call_law.specs.Goes.{link_in}
 use Rattle.papaya_call_law.specs.ChainRelies.{Relies}
-use Rattle.papaya_call_law.specs.ChainTold.{LoadedPairs}
+use Rattle.papaya_call_law.specs.ChainAnswers.{LoadedPairs}
 use Rattle.papaya_call_law.specs.Followed.{IsAtTable}
 use Rattle.papaya_words_law.specs.Exchange.{Exchange}
 use Rattle.papaya_words_law.specs.Further.{IsLawfulKey}
 use Rattle.papaya_call_law.specs.Relies.{change_in}
-use Rattle.papaya_call_law.specs.Told.{IsOneOf}
+use Rattle.papaya_call_law.specs.TrueAnswers.{IsOneOf}
 use Rattle.papaya_map_book.specs.Sheets.{Sheet}
 use Rattle.papaya_map_book.specs.declared.rule.entry.Begun.{Begun}
 use Rattle.papaya_map_book.specs.declared.rule.entry.Event.{Event}
@@ -166,8 +166,8 @@ module _ {K V S H : Type 0} (eq : K → K → Bool) (hash : S → K → ℕ) (b 
       × IsDriven matches fed k begun log made c
 
   -- Each call that was under way with `c` is under way at the log `log'` with `c'`.
-  abbrev pub GoesOn : List (Event K V S) → Driver K V S H → List (Event K V S) → Driver K V S H
+  abbrev pub Continues : List (Event K V S) → Driver K V S H → List (Event K V S) → Driver K V S H
       → Type 0
-  GoesOn log c log' c' = (matches : K → Bool) (fed : ℕ) → IsForm eq hash b matches fed → (k : Option K)
+  Continues log c log' c' = (matches : K → Bool) (fed : ℕ) → IsForm eq hash b matches fed → (k : Option K)
       (begun : List (Event K V S)) (made : List (Stored K V))
       → IsDriven matches fed k begun log made c → IsDriven matches fed k begun log' made c'

@@ -15,7 +15,7 @@ use Rattle.papaya_call.specs.declared.copy_ask.CopyAsk.{CopyAsk}
 use Rattle.papaya_call.specs.declared.copy_ask.CopyAsk.TheVariants.{Count, Exchange, HashOf, Load, LoadHint, MakeTable, SamePair, SizeOf, WriteHint}
 use Rattle.papaya_call.specs.declared.chain.ask.Answer.{Answer}
 use Rattle.papaya_call.specs.declared.chain.ask.Answer.TheVariants as answers
-use Rattle.papaya_call_law.specs.Told.{or_last}
+use Rattle.papaya_call_law.specs.TrueAnswers.{or_last}
 use Rattle.papaya_map_book.specs.declared.rule.entry.Begun.{Begun}
 use Rattle.papaya_map_book.specs.declared.rule.entry.Event.{Event}
 use Rattle.papaya_map_book.specs.declared.rule.entry.Named.TheVariants as names

@@ -26,7 +26,7 @@ use Rattle.papaya_words_law.specs.Exchange.{Exchange, State}
 use Rattle.papaya_words_law.specs.Invariant.{named}
 use Rattle.papaya_call_law.specs.Copier.{told_last}
 use Rattle.papaya_call_law.specs.Relies.{change_in}
-use Rattle.papaya_call_law.specs.Told.{IsOneOf}
+use Rattle.papaya_call_law.specs.TrueAnswers.{IsOneOf}
 use Rattle.papaya_map_book.specs.declared.rule.entry.Begun.{Begun}
 use Rattle.papaya_map_book.specs.declared.rule.entry.Event.{Event}
 use Rattle.papaya_map_book.specs.declared.rule.entry.Event.TheVariants.{Stepped}
@@ -53,7 +53,7 @@ pub record HasGoneOn (m m' : Machine) : Type 0 where
 
 -- The call that was set aside begins again: it has just loaded the root, as a call that begins
 -- does.
-pub record HasBegunAnew (m m' : Machine) : Type 0 where
+pub record HasRestarted (m m' : Machine) : Type 0 where
   pub from : ℕ
   pub left : left_by m.call.state ≡ Some from
   pub root : ℕ
@@ -70,7 +70,7 @@ pub record WasRefused (m m' : Machine) (tables : List ℕ) (given : List Capacit
 
 -- The call was not set aside, or it has continued in one of these ways.
 abbrev pub HasHelped : Machine → Machine → (tables : List ℕ) → List CapacityCause → Type 0
-HasHelped m m' tables given = (m' ≡ m) ⊎ HasGoneOn m m' ⊎ HasBegunAnew m m'
+HasHelped m m' tables given = (m' ≡ m) ⊎ HasGoneOn m m' ⊎ HasRestarted m m'
     ⊎ WasRefused m m' tables given
 
 -- The call is still set aside.
@@ -81,9 +81,9 @@ pub record IsAside (m m' : Machine) : Type 0 where
   pub busy : m'.phase ≡ Calling → ⊥
 
 -- The call is no longer set aside, and has continued in one of these ways.
-pub record IsLed (m m' : Machine) (tables : List ℕ) (given : List CapacityCause) : Type 0 where
+pub record HasResumed (m m' : Machine) (tables : List ℕ) (given : List CapacityCause) : Type 0 where
   pub calling : m'.phase ≡ Calling
-  pub where_to : HasGoneOn m m' ⊎ HasBegunAnew m m' ⊎ WasRefused m m' tables given
+  pub where_to : HasGoneOn m m' ⊎ HasRestarted m m' ⊎ WasRefused m m' tables given
 
 -- The call is about to search the table `n` for its key.
 abbrev pub IsEntering : Machine → ℕ → Type 0
@@ -166,7 +166,7 @@ module _ {K V S H : Type 0} (eq : K → K → Bool) (hash : S → K → ℕ) (b 
     pub relies : IsSetAside eq hash b name matches fed k begun log (after c.machine answer)
         c'.copier.last c'.copier.kept made c'.taken c'.put c'.copier.fresh
     pub leads : IsAside c.machine (after c.machine answer)
-        ⊎ IsLed c.machine (after c.machine answer) (tables_of log) c'.copier.given.done
+        ⊎ HasResumed c.machine (after c.machine answer) (tables_of log) c'.copier.given.done
 
   -- This answer takes each call that was under way with `c` on to `c'`.
   abbrev pub Copies : List (Event K V S) → Driver K V S H → List (Event K V S) → Driver K V S H

@@ -20,7 +20,7 @@ use Rattle.papaya_map_change.specs.Changes.{IsPut}
 use Rattle.papaya_map_lookup.specs.History.{history_of, key_of}
 use Rattle.papaya_map_book.specs.Logs.{Stored}
 use Rattle.papaya_map_book.specs.Limits.{HasNoRoom, IsSpent, tables_of}
-use Rattle.papaya_call_law.specs.Told.{IsOneOf}
+use Rattle.papaya_call_law.specs.TrueAnswers.{IsOneOf}
 use Rattle.papaya_map_change.specs.Writing.{HasKeyAt, IsMemoryCapacityOrLimit, IsWriting, answered as answered_writer, held_value}
 
 -- If the machine has the number of a pair that the insertion made of its own key, then the
@@ -96,7 +96,7 @@ module _ {K V S H : Type 0} (eq : K → K → Bool) (hash : S → K → ℕ) (b 
       answer
 
   -- Each insertion that was under way with `x` is under way at the log `log'` with `x'`.
-  abbrev pub GoesOn : List (Event K V S) → Insertion K V S H → List (Event K V S)
+  abbrev pub Continues : List (Event K V S) → Insertion K V S H → List (Event K V S)
       → Insertion K V S H → Type 0
-  GoesOn log x log' x' = (key : K) (value : V) (begun : List (Event K V S))
+  Continues log x log' x' = (key : K) (value : V) (begun : List (Event K V S))
       → IsInserting key value begun log x → IsInserting key value begun log' x'

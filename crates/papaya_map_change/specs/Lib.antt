@@ -1,14 +1,14 @@
 pub mod Changes
 pub mod Changing
 pub mod Driver
-pub mod LookingOn
+pub mod ProbingOn
 pub mod Helping
 pub mod Copier
 pub mod Doing
 pub mod Writing
 pub mod Inserting
 pub mod Seeking
-pub mod Showings
+pub mod ClosureCalls
 pub mod RemovalAnswers
 pub mod Removing
 pub mod Resizing

@@ -15,7 +15,7 @@ use Rattle.papaya_call.specs.Machine.{IsFit}
 use Rattle.papaya_call.specs.declared.chain.ask.Answer.TheVariants as answers
 use Rattle.papaya_call.specs.declared.chain.ask.Ask.TheVariants.{Call}
 use Rattle.papaya_call.specs.ChainMachine.{after, ask_of}
-use Rattle.papaya_call_law.specs.Says.{Agrees, ShowsPairs, StandsOn}
+use Rattle.papaya_call_law.specs.Says.{Agrees, NamesPairs, ActsOn}
 use Rattle.papaya_map_book.specs.declared.rule.entry.Begun.{Begun}
 use Rattle.papaya_map_book.specs.declared.rule.entry.Event.{Event}
 use Rattle.papaya_map_book.specs.declared.rule.entry.Named.TheVariants.{Pair}
@@ -25,7 +25,7 @@ use Rattle.papaya_map_lookup.specs.History.{history_of}
 use Rattle.papaya_map_book.specs.Logs.{Member, Stored, pair_named}
 use Rattle.papaya_map_book.specs.Limits.{HasNoRoom, tables_of}
 use Rattle.papaya_map_book.specs.Rule.{IsPlaced}
-use Rattle.papaya_map_change.specs.Showings.{AllShown, AreOf, HasSaid, WasHeld}
+use Rattle.papaya_map_change.specs.ClosureCalls.{AllArguments, AreOf, HasReturned, WasHeld}
 use Rattle.papaya_map_change.specs.Writing.{IsMemoryOrCapacity}
 
 module _ {K V S H F : Type 0} (eq : K → K → Bool) (hash : S → K → ℕ) (b : Begun K V S) (name : Book)
@@ -36,12 +36,12 @@ module _ {K V S H F : Type 0} (eq : K → K → Bool) (hash : S → K → ℕ) (
       (f : F) : Type 0 where
     pub calling : IsDriven eq hash b name matches fed None begun log [] x.call
     pub task_is : x.call.machine.call.task ≡ RemoveIf
-    pub words : ShowsPairs x.call.machine.call
+    pub words : NamesPairs x.call.machine.call
     pub shown_placed : IsPlaced b (Some name) (pair_named x.shown)
     pub said : List (Stored K V × Bool)
-    pub has_said : HasSaid judges first said f
-    pub held : AllShown (λ p. WasHeld eq matches (history_of begun) (history_of log) (Some p)) said
-    pub stood : (n : ℕ) (agrees : Bool) → StandsOn x.call.machine.call (Agrees n agrees)
+    pub has_said : HasReturned judges first said f
+    pub held : AllArguments (λ p. WasHeld eq matches (history_of begun) (history_of log) (Some p)) said
+    pub stood : (n : ℕ) (agrees : Bool) → ActsOn x.call.machine.call (Agrees n agrees)
         → (p : Stored K V) × (x.shown ≡ Some p) × (p.index ≡ n) × Member (p, agrees) said
     pub refuses : (cause : Refused) → ask_of x.call.machine ≡ Call (Done (reply.Refused cause))
         → IsMemoryOrCapacity cause
@@ -79,33 +79,33 @@ module _ {K V S H F : Type 0} (eq : K → K → Bool) (hash : S → K → ℕ) (
 
 -- The closure `f` was called with the pair last loaded, which the removal keeps. It returned what
 -- `answer` states, and is `g` afterwards.
-abbrev pub Shows : {K V S H F : Type 0} → (F → Stored K V → Bool → F → Type 0) → Removal K V S H → F
+abbrev pub CallsClosure : {K V S H F : Type 0} → (F → Stored K V → Bool → F → Type 0) → Removal K V S H → F
     → Removal K V S H → F → Answer → Type 0
-Shows {K = K} {V = V} judges x f x' g answer = (p : Stored K V) × (agreed : Bool)
+CallsClosure {K = K} {V = V} judges x f x' g answer = (p : Stored K V) × (agreed : Bool)
     × (x.call.copier.last ≡ Some p) × judges f p agreed g × (x' ≡ record x { shown = Some p })
     × (answer ≡ Yes agreed)
 
 module _ {K V S H : Type 0} where
   -- A removal with this reply holds the pairs that its result needs: the one with which its closure
   -- was called, and the one that was removed, which has the same number.
-  abbrev pub CanTell : Begun K V S → Book → Removal K V S H → Reply → Type 0
-  CanTell b name x reply.Absent = Unit {0}
-  CanTell b name x (reply.Refused cause) = Unit {0}
-  CanTell b name x (reply.Kept n) = (shown : Stored K V) × (x.shown ≡ Some shown)
+  abbrev pub HoldsResult : Begun K V S → Book → Removal K V S H → Reply → Type 0
+  HoldsResult b name x reply.Absent = Unit {0}
+  HoldsResult b name x (reply.Refused cause) = Unit {0}
+  HoldsResult b name x (reply.Kept n) = (shown : Stored K V) × (x.shown ≡ Some shown)
       × IsPlaced b (Some name) (Pair shown)
-  CanTell b name x (reply.Removed n) = (shown : Stored K V) × (taken : Stored K V)
+  HoldsResult b name x (reply.Removed n) = (shown : Stored K V) × (taken : Stored K V)
       × (x.shown ≡ Some shown) × (x.call.taken ≡ Some taken) × (shown.index ≡ taken.index)
       × IsPlaced b (Some name) (Pair shown) × IsPlaced b (Some name) (Pair taken)
-  CanTell b name x _ = ⊥
+  HoldsResult b name x _ = ⊥
 
   -- The result of a removal with this reply.
-  abbrev pub Tells : Removal K V S H → Reply
+  abbrev pub IsRemovalResult : Removal K V S H → Reply
       → Result (Result (Option (Bor K × Bor V)) (Bor K × Bor V)) Refused → Type 0
-  Tells x reply.Absent answer = answer ≡ Ok (Ok None)
-  Tells x (reply.Refused cause) answer = answer ≡ Err cause
-  Tells x (reply.Kept n) answer = (shown : Stored K V) × (entry : Bor K × Bor V)
+  IsRemovalResult x reply.Absent answer = answer ≡ Ok (Ok None)
+  IsRemovalResult x (reply.Refused cause) answer = answer ≡ Err cause
+  IsRemovalResult x (reply.Kept n) answer = (shown : Stored K V) × (entry : Bor K × Bor V)
       × (x.shown ≡ Some shown) × AreOf entry shown × (answer ≡ Ok (Err entry))
-  Tells x (reply.Removed n) answer = (shown : Stored K V) × (taken : Stored K V)
+  IsRemovalResult x (reply.Removed n) answer = (shown : Stored K V) × (taken : Stored K V)
       × (entry : Bor K × Bor V) × (x.shown ≡ Some shown) × (x.call.taken ≡ Some taken)
       × (shown.value ≡ taken.value) × AreOf entry taken × (answer ≡ Ok (Ok (Some entry)))
-  Tells x _ answer = ⊥
+  IsRemovalResult x _ answer = ⊥

@@ -54,11 +54,11 @@ abbrev pub insertion_at : (hash : ℕ) → ResizeMode → (initial : ℕ) → Ma
 insertion_at hash mode initial made state = seeker_at Inserts hash mode initial made state
 
 -- The outcome of a place at which no pair of the key was met, by the search's next step.
-abbrev pub turn_of : {M : Type 0} → ProbeStep → ProbeHit M
-turn_of (On (Looking at)) = Next at
-turn_of (Seen_empty at) = Empty at
-turn_of (Seen_over table) = Over table
-turn_of _ = Else
+abbrev pub hit_of : {M : Type 0} → ProbeStep → ProbeHit M
+hit_of (On (Looking at)) = Next at
+hit_of (Seen_empty at) = Empty at
+hit_of (Seen_over table) = Over table
+hit_of _ = Else
 
 -- The state in which a call continues at an empty place, and (`at_live`) at a live pair of the key.
 abbrev pub at_empty : Seeker → Place → State
@@ -84,8 +84,8 @@ leads who (Met_pair met) = Some (at_live who met.place met.word)
 leads who (Over table) = at_over who table
 leads who Else = None
 
-abbrev pub led_to : {K V : Type 0} → ProbeHit (Met K V) → Option State
-led_to turn = leads Inserts turn
+abbrev pub next_state : {K V : Type 0} → ProbeHit (Met K V) → Option State
+next_state turn = leads Inserts turn
 
 -- The pair that the search met, if any.
 abbrev pub met_by : {K V : Type 0} → ProbeHit (Met K V) → Option (Stored K V)

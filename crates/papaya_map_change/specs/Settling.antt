@@ -13,7 +13,7 @@ use Rattle.papaya_call.specs.declared.copy.settle.Settle.{Settle}
 use Rattle.papaya_call.specs.declared.copy.step.Chunk.{Chunk}
 use Rattle.papaya_call.specs.declared.copy.step.Step.TheVariants.{Advancing, Settling}
 use Rattle.papaya_call.specs.declared.copy.settle.Settle.TheVariants.{Looking}
-use Rattle.papaya_call.specs.Copying.{IsStandingCopying, copying_ask, copying_follows, copying_kind}
+use Rattle.papaya_call.specs.Copying.{IsValidCopying, copying_ask, copying_follows, copying_kind}
 use Rattle.papaya_call.specs.Step.{next_slot}
 use Rattle.papaya_call.specs.declared.chain.ask.Answer.{Answer}
 use Rattle.papaya_call.specs.ChainMachine.{IsFit, copying_after}
@@ -49,41 +49,41 @@ module _ {K V S H : Type 0} (eq : K → K → Bool) (hash : S → K → ℕ) (b 
       (copying_kind s.copying) (copying_follows s.copying) s.log s.loaded log h answer
 
   -- One ask was answered, which led from `s` to `s'`.
-  pub record IsTurn (s s' : Stop K V S H) : Type 0 where
+  pub record IsMoveStep (s s' : Stop K V S H) : Type 0 where
     pub since : IsPrefix s.log s'.log
     pub answer : Answer
     pub answers : AnswersAt s s'.log s'.loaded answer
     pub on : (initial number : ℕ) → copying_after s.copying mode initial number answer
         ≡ On s'.copying
-    pub standing : IsStandingCopying s'.copying
+    pub valid : IsValidCopying s'.copying
 
   -- Answers led from `s` to `s'` by these stops.
   abbrev pub IsPath : List (Stop K V S H) → Stop K V S H → Stop K V S H → Type 0
   IsPath [] s s' = s' ≡ s
-  IsPath (t ∷ ts) s s' = IsTurn s t × IsPath ts t s'
+  IsPath (t ∷ ts) s s' = IsMoveStep s t × IsPath ts t s'
 
-  abbrev pub Leads : Stop K V S H → Stop K V S H → Type 0
-  Leads s s' = (ts : List (Stop K V S H)) × IsPath ts s s'
+  abbrev pub StepsTo : Stop K V S H → Stop K V S H → Type 0
+  StepsTo s s' = (ts : List (Stop K V S H)) × IsPath ts s s'
 
   -- Wherever answers lead from `s`, what the copy asks there may be answered.
-  abbrev pub CanLead : Stop K V S H → Type 0
-  CanLead s = (s' : Stop K V S H) → Leads s s' → CanAnswerAt s'
+  abbrev pub CanStep : Stop K V S H → Type 0
+  CanStep s = (s' : Stop K V S H) → StepsTo s s' → CanAnswerAt s'
 
   -- Answers led from `s` to `s'`, and the machine has yet to receive the last one, `answer`.
   pub record Ends (s s' : Stop K V S H) (answer : Answer) : Type 0 where
     pub log : List (Event K V S)
     pub loaded : Copier K V S H
-    pub leads : Leads s (record { copying = s'.copying; log = log; loaded = loaded })
+    pub leads : StepsTo s (record { copying = s'.copying; log = log; loaded = loaded })
     pub since : IsPrefix log s'.log
     pub answers : AnswersAt (record { copying = s'.copying; log = log; loaded = loaded }) s'.log
         s'.loaded answer
-    pub standing : IsStandingCopying s'.copying
+    pub valid : IsValidCopying s'.copying
     pub fit : IsFit answer
 
   -- The slot is settled, or its copy stopped at this step.
   abbrev pub LeavesSlot : Aim → Chunk → Stop K V S H → List (Event K V S) → Copier K V S H
       → Option Halt → Type 0
-  LeavesSlot aim chunk s log h None = Leads s
+  LeavesSlot aim chunk s log h None = StepsTo s
       (record { copying = past_slot aim chunk; log = log; loaded = h })
   LeavesSlot aim chunk s log h (Some halt) = Ends s
       (record { copying = at_slot aim chunk halt.settle; log = log; loaded = h }) halt.answer

@@ -13,9 +13,9 @@ use Rattle.papaya_map_lookup.specs.Drivers.{past}
 use Rattle.papaya_map_lookup.specs.History.{history_of}
 use Rattle.papaya_map_lookup.specs.declared.lookup.Met.{Met}
 use Rattle.papaya_map_change.specs.Changes.{IsChangeOf}
-use Rattle.papaya_map_change.specs.Seeking.{Computes, at_live, led_to, met_by}
+use Rattle.papaya_map_change.specs.Seeking.{Computes, at_live, next_state, met_by}
 use Rattle.papaya_map_change.specs.Window.Seeking.{IsInsertingAt, IsSeekingAt}
-use Rattle.papaya_map_change.specs.Showings.{IsSamePair}
+use Rattle.papaya_map_change.specs.ClosureCalls.{IsSamePair}
 use Rattle.papaya_map_change.specs.declared.fast_path.Tried.{Tried}
 use Rattle.papaya_map_change.specs.declared.fast_path.Tried.TheVariants.{Put, Lost, Back}
 use Rattle.papaya_map_change.specs.declared.fast_path.ProbeHit.{ProbeHit}
@@ -42,19 +42,19 @@ module _ {K V S H : Type 0} {d : keyed.Ghosts S K H} where
   -- it met, if any.
   abbrev pub Offers : (w w' : Window K V S H d) → K → Sheet → ProbeHit (Met K V) → Stored K V → Type 0
   Offers w w' key table turn q = (begun : List (Event K V S)) (state : State)
-      → led_to turn ≡ Some state → IsInsertingAt w key begun state (met_by turn) table
+      → next_state turn ≡ Some state → IsInsertingAt w key begun state (met_by turn) table
       → (taken : Option (Stored K V)) × AreSame (met_by turn) taken
       × IsChangeOf (d.keys.eq key) (history_of begun) (past w') taken (Some q)
 
   -- A compute that began at the log `begun` is about to call its closure with the live pair that
   -- its search met.
-  abbrev pub ShowsMet : Window K V S H d → K → List (Event K V S) → Sheet → Met K V → Type 0
-  ShowsMet w key begun table met = IsSeekingAt Computes w key begun
+  abbrev pub CallsWith : Window K V S H d → K → List (Event K V S) → Sheet → Met K V → Type 0
+  CallsWith w key begun table met = IsSeekingAt Computes w key begun
       (at_live Computes met.place met.word) (Some met.stored) table
 
   -- Each such compute has taken out that very pair.
   abbrev pub TakesOut : (w w' : Window K V S H d) → K → Sheet → Met K V → Type 0
-  TakesOut w w' key table met = (begun : List (Event K V S)) → ShowsMet w key begun table met
+  TakesOut w w' key table met = (begun : List (Event K V S)) → CallsWith w key begun table met
       → (taken : Stored K V) × IsSamePair met.stored taken
       × IsChangeOf (d.keys.eq key) (history_of begun) (past w') (Some taken) None
 

@@ -5,7 +5,7 @@ pub mod Driver
 pub mod Ends
 pub mod Going
 pub mod Inserting
-pub mod LookingOn
+pub mod ProbingOn
 pub mod Removing
 pub mod Resizing
 pub mod Seeking

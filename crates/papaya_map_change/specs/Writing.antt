@@ -11,7 +11,7 @@ use Rattle.papaya_call.specs.declared.chain.ask.Answer.TheVariants.{Call}
 use Rattle.papaya_call.specs.ChainMachine.{after}
 use Rattle.papaya_words_law.specs.Invariant.{named}
 use Rattle.papaya_call_law.specs.Relies.{IsNumberAsk}
-use Rattle.papaya_call_law.specs.Told.{IsOneOf}
+use Rattle.papaya_call_law.specs.TrueAnswers.{IsOneOf}
 use Rattle.papaya_map_book.specs.declared.book.pairs.KeyPart.{KeyPart}
 use Rattle.papaya_map_book.specs.declared.book.pairs.KeyPart.TheVariants as keys
 use Rattle.papaya_map_book.specs.declared.book.pairs.ValuePart.{ValuePart}
@@ -52,8 +52,8 @@ abbrev pub HasValue : {K V S : Type 0} → Begun K V S → Book → Option (Valu
 HasValue b name part = MatchOption part (Unit {0}) (λ own. IsValuePlaced b name own)
 
 -- No pair was stored in the arena: memory or numbers ran out, or there was nothing to store.
-abbrev pub IsUnlogged : Answer → Type 0
-IsUnlogged answer = ((answer ≡ Refused Memory) ⊎ (answer ≡ Refused Capacity)) ⊎ (answer ≡ Ok_done)
+abbrev pub IsNotStored : Answer → Type 0
+IsNotStored answer = ((answer ≡ Refused Memory) ⊎ (answer ≡ Refused Capacity)) ⊎ (answer ≡ Ok_done)
 
 -- The call after its machine was answered.
 abbrev pub answered : {K V S H : Type 0} → Writer K V S H → Answer → Writer K V S H
@@ -72,14 +72,14 @@ IsMemoryCapacityOrLimit cause = IsMemoryOrCapacity cause ⊎ (cause ≡ Limit)
 
 -- The closure played no part in this answer: if it is a refusal, memory ran out, or an arena that
 -- is full returned this number.
-abbrev pub IsUnsaid : List CapacityCause → Answer → Type 0
-IsUnsaid given answer = (cause : Cause) → answer ≡ Refused cause → (cause ≡ Memory)
+abbrev pub IsWithoutResult : List CapacityCause → Answer → Type 0
+IsWithoutResult given answer = (cause : Cause) → answer ≡ Refused cause → (cause ≡ Memory)
     ⊎ ((cause ≡ Capacity) × IsFull given)
 
 module _ {K V S : Type 0} (log : List (Event K V S)) where
   -- If the machine asked how many numbers were taken for pairs, then the answer is that number.
-  abbrev pub TellsTaken : Ask → Answer → Type 0
-  TellsTaken ask answer = IsNumberAsk ask → (count : ℕ)
+  abbrev pub IsTakenCount : Ask → Answer → Type 0
+  IsTakenCount ask answer = IsNumberAsk ask → (count : ℕ)
       → (answer ≡ Word_read count) ⊎ (answer ≡ Found count) → (state_of log).made ≡ count
 
   -- The pair that the slot names has exactly this key.
@@ -88,8 +88,8 @@ module _ {K V S : Type 0} (log : List (Event K V S)) where
 
   -- The pair `q` may replace this word of a slot: if the word is empty, `q` has the call's own key;
   -- if not, `q` has the key that is there.
-  abbrev pub MayStand : (key : K) → (t x old : ℕ) → Stored K V → Type 0
-  MayStand key t x old q = MatchBool (old == 0) (key_of q ≡ key) (HasKeyAt t x (key_of q))
+  abbrev pub MayOverwrite : (key : K) → (t x old : ℕ) → Stored K V → Type 0
+  MayOverwrite key t x old q = MatchBool (old == 0) (key_of q ≡ key) (HasKeyAt t x (key_of q))
 
 module _ {K V S H : Type 0} (eq : K → K → Bool) (hash : S → K → ℕ) (b : Begun K V S)
     (name : Book) where
@@ -133,11 +133,11 @@ module _ {K V S H : Type 0} (eq : K → K → Bool) (hash : S → K → ℕ) (b 
   -- Some such call is under way that has made the pair `q`, which may replace this word of a slot.
   abbrev pub CanPut : List (Event K V S) → Writer K V S H → (t x old : ℕ) → Stored K V → Type 0
   CanPut log w t x old q = (key : K) × (made : List (Stored K V)) × (begun : List (Event K V S))
-      × IsWriting key made begun log w × IsOneOf made q × MayStand log key t x old q
+      × IsWriting key made begun log w × IsOneOf made q × MayOverwrite log key t x old q
 
   -- Each such call that was under way goes on with this answer.
   abbrev pub Puts : List (Event K V S) → Writer K V S H → (t x old : ℕ) → Stored K V
       → List (Event K V S) → Writer K V S H → Answer → Type 0
   Puts log w t x old q log' w' answer = (key : K) (made : List (Stored K V))
       (begun : List (Event K V S)) → IsWriting key made begun log w → IsOneOf made q
-      → MayStand log key t x old q → IsWritingOn key made begun log' w' answer
+      → MayOverwrite log key t x old q → IsWritingOn key made begun log' w' answer

@@ -2,12 +2,12 @@
 //! Only the proof has the machine.
 ghost use Rattle.std.specs.Prelude.{◌≡◌};
 ghost use Rattle.papaya_call.specs.ChainMachine.{IsFit};
-ghost use Rattle.papaya_call.specs.Copying.{IsStandingCopying};
-ghost use Rattle.papaya_call.specs.Step.{IsStandingChunk, IsStandingCursor, chunk_at};
+ghost use Rattle.papaya_call.specs.Copying.{IsValidCopying};
+ghost use Rattle.papaya_call.specs.Step.{IsValidChunk, IsValidCursor, chunk_at};
 ghost use Rattle.papaya_call.specs.declared.copy.copying.Copying.TheVariants.{Stepping};
 ghost use Rattle.papaya_call.specs.declared.copy.step.Step.TheVariants as steps;
 ghost use Rattle.papaya_map_book.specs.Windows.{Observes};
-ghost use Rattle.papaya_map_change.specs.Window.Settling.{CanLead, Ends, stop_in};
+ghost use Rattle.papaya_map_change.specs.Window.Settling.{CanStep, Ends, stop_in};
 
 use crate::copier::{Copier, size};
 use crate::settling::Site;
@@ -22,9 +22,9 @@ use std::hash::{BuildHasher, Hash};
 /// Returns the chunk whose word is loaded now.
 #[inline(always)]
 fn chunk_of(cursor: Cursor) -> Chunk
-    requires { IsStandingCursor cursor }
+    requires { IsValidCursor cursor }
     ensures value { result ≡ chunk_at cursor }
-    ensures standing { IsStandingChunk result }
+    ensures valid { IsValidChunk result }
 {
     // A chunk's length may be any 64-bit number.
     let end = if cursor.slots < cursor.len - cursor.begun {
@@ -48,10 +48,10 @@ impl<K: Hash + Eq, V, S: BuildHasher> Copier<K, V, S> {
         mode: ResizeMode,
         window: &mut Window<'a, K, V, S>,
     ) -> (Copying, Answer)
-        requires can { CanLead window.old mode
+        requires can { CanStep window.old mode
             (stop_in window.old (Stepping aim steps.AtRoot) self.old) }
         ensures sees { Observes window.old window.new }
-        ensures standing { IsStandingCopying result.0 }
+        ensures valid { IsValidCopying result.0 }
         ensures fit { IsFit result.1 }
         ensures ends { Ends window.old mode (Stepping aim steps.AtRoot) self.old window.new self.new
             result }
@@ -88,11 +88,11 @@ impl<K: Hash + Eq, V, S: BuildHasher> Copier<K, V, S> {
         mode: ResizeMode,
         window: &mut Window<'a, K, V, S>,
     ) -> (Copying, Answer)
-        requires standing { IsStandingCursor cursor }
-        requires can { CanLead window.old mode
+        requires valid { IsValidCursor cursor }
+        requires can { CanStep window.old mode
             (stop_in window.old (Stepping aim (steps.AtChunk cursor)) self.old) }
         ensures sees { Observes window.old window.new }
-        ensures standing { IsStandingCopying result.0 }
+        ensures valid { IsValidCopying result.0 }
         ensures fit { IsFit result.1 }
         ensures ends { Ends window.old mode (Stepping aim (steps.AtChunk cursor)) self.old
             window.new self.new result }
@@ -114,12 +114,12 @@ impl<K: Hash + Eq, V, S: BuildHasher> Copier<K, V, S> {
         site: &Site<'a, K, V, S>,
         window: &mut Window<'a, K, V, S>,
     ) -> (Copying, Answer)
-        requires standing { IsStandingCursor site.now.chunk.cursor }
-        requires can { CanLead window.old site.now.mode
+        requires valid { IsValidCursor site.now.chunk.cursor }
+        requires can { CanStep window.old site.now.mode
             (stop_in window.old (Stepping site.now.aim (steps.Advancing site.now.chunk.cursor))
             self.old) }
         ensures sees { Observes window.old window.new }
-        ensures standing { IsStandingCopying result.0 }
+        ensures valid { IsValidCopying result.0 }
         ensures fit { IsFit result.1 }
         ensures ends { Ends window.old site.now.mode
             (Stepping site.now.aim (steps.Advancing site.now.chunk.cursor)) self.old window.new

@@ -4,7 +4,7 @@ ghost use Rattle.std.specs.Prelude.{◌≡◌, ◌≢◌, ◌⊎◌, ◌<◌, �
 ghost use Rattle.papaya_call.specs.Search.{IsSize};
 ghost use Rattle.papaya_call.specs.declared.ask.At.TheVariants.{Next, Slot};
 ghost use Rattle.papaya_call.specs.ChainMachine.{IsFit};
-ghost use Rattle.papaya_call_law.specs.Told.{or_last};
+ghost use Rattle.papaya_call_law.specs.TrueAnswers.{or_last};
 ghost use Rattle.papaya_map_book.specs.Limits.{IsFull};
 ghost use Rattle.papaya_map_book.specs.Logs.{pair_named};
 ghost use Rattle.papaya_map_book.specs.Windows.{HasCome, IsHint, IsIn, IsLawful, IsTable, MayHint, Observes};

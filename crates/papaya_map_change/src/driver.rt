@@ -5,14 +5,14 @@ ghost use Rattle.std.specs.Int.{IsPowerOfTwo};
 ghost use Rattle.papaya_words.specs.Mode.{IsChunked};
 ghost use Rattle.papaya_call.specs.Machine.{IsFit as IsCallFit};
 ghost use Rattle.papaya_call.specs.declared.ask.At.TheVariants.{Slot};
-ghost use Rattle.papaya_call.specs.ChainMachine.{IsStanding, after, kind_of_ask, started};
+ghost use Rattle.papaya_call.specs.ChainMachine.{IsValid, after, kind_of_ask, started};
 ghost use Rattle.papaya_call.specs.declared.chain.ask.Answer.TheVariants.{Call};
 ghost use Rattle.papaya_call.specs.declared.chain.machine.Phase.TheVariants.{Calling};
-ghost use Rattle.papaya_call_law.specs.Told.{or_last};
+ghost use Rattle.papaya_call_law.specs.TrueAnswers.{or_last};
 ghost use Rattle.papaya_map_book.specs.Windows.{CanTrySlot, Does, IsHint, MayHint, Observes, Sees};
 ghost use Rattle.papaya_map_change.specs.Doing.{was_made};
 ghost use Rattle.papaya_map_change.specs.Window.Driver.{Holds, Loads};
-ghost use Rattle.papaya_map_change.specs.Window.LookingOn.{CanLookOn, GoesOver, LooksOn};
+ghost use Rattle.papaya_map_change.specs.Window.ProbingOn.{CanProbeOn, HasPassedOver, ProbesOn};
 ghost use Rattle.papaya_map_change.specs.Window.Steps.{CanTake, Buries, HasTried, IsSizeOf, Takes};
 
 use crate::copier::Copier;
@@ -58,7 +58,7 @@ impl<'a, K: Hash + Eq, V, S: BuildHasher> Driver<'a, K, V, S> {
         requires chunked { IsChunked mode }
         requires initial { IsPowerOfTwo initial }
         ensures machine { result.machine ≡ started task hash mode initial 0 limit }
-        ensures standing { IsStanding result.machine }
+        ensures valid { IsValid result.machine }
         ensures empty { HoldsNothing result }
     {
         Driver {
@@ -72,7 +72,7 @@ impl<'a, K: Hash + Eq, V, S: BuildHasher> Driver<'a, K, V, S> {
 
     /// Sets the call's state, and the table that it holds.
     #[inline(always)]
-    pub fn stand(&mut self, state: State, table: &'a Table<K, V, S>)
+    pub fn enter_state(&mut self, state: State, table: &'a Table<K, V, S>)
         ensures { self.new ≡ record self.old {
           machine = record self.old.machine {
             call = record self.old.machine.call { state = state };
@@ -99,12 +99,12 @@ impl<'a, K: Hash + Eq, V, S: BuildHasher> Driver<'a, K, V, S> {
     /// Moves a call that searches the table which it holds past the places with other keys. Its
     /// machine would ask for each of them.
     #[inline(always)]
-    pub fn look_on(&mut self, key: &K, window: &mut Window<'a, K, V, S>)
-        requires standing { IsStanding self.old.machine }
+    pub fn probe_on(&mut self, key: &K, window: &mut Window<'a, K, V, S>)
+        requires valid { IsValid self.old.machine }
         requires calling { self.old.machine.phase ≡ Calling }
-        requires can { CanLookOn window.old key.now self.old }
-        ensures over { GoesOver window.old self.old window.new self.new }
-        ensures looks { LooksOn window.old key.now self.old window.new self.new }
+        requires can { CanProbeOn window.old key.now self.old }
+        ensures over { HasPassedOver window.old self.old window.new self.new }
+        ensures looks { ProbesOn window.old key.now self.old window.new self.new }
     {
         let (State::Searching(Search::Looking(at)), Some(table)) = (
             self.machine.call.state,
@@ -113,18 +113,18 @@ impl<'a, K: Hash + Eq, V, S: BuildHasher> Driver<'a, K, V, S> {
             return;
         };
         let to = pass_over(window, key, self.machine.call.hash, table, at);
-        self.stand(State::Searching(Search::Looking(to)), table);
+        self.enter_state(State::Searching(Search::Looking(to)), table);
     }
 
     /// Continues after an answer to what the call asked for itself.
     #[inline(always)]
     pub fn answer(&mut self, answer: CallAnswer)
-        requires standing { IsStanding self.old.machine }
+        requires valid { IsValid self.old.machine }
         requires fit { IsCallFit answer }
         ensures after { self.new ≡ record self.old {
           machine = after self.old.machine (Call answer);
         } }
-        ensures standing { IsStanding self.new.machine }
+        ensures valid { IsValid self.new.machine }
     {
         self.machine.answer(Answer::Call(answer));
     }

@@ -1,6 +1,6 @@
 //! Insertions whose search of the root ends as most do: their pair is stored and put in at once.
 //! Only the proof has the machine. Computes search in the same way, and put in their pairs so.
-ghost use Rattle.papaya_map_change.specs.Window.Ends.{Ends, HasTried, TellsWhy};
+ghost use Rattle.papaya_map_change.specs.Window.Ends.{Ends, HasTried, HasCause};
 ghost use Rattle.std.specs.Prelude.{◌≡◌, ◌==◌, ◌<◌, true, is_ok, length};
 ghost use Rattle.std.specs.Prelude.{Ok, Err, IfErr, IfOk, None, Some};
 ghost use Rattle.std.specs.Int.{IsPowerOfTwo};
@@ -18,18 +18,18 @@ ghost use Rattle.papaya_map_book.specs.Windows.{TriesSlot};
 ghost use Rattle.papaya_map_lookup.specs.Drivers.{own, past};
 ghost use Rattle.papaya_map_lookup.specs.History.{key_of};
 ghost use Rattle.papaya_map_change.specs.Changes.{IsPut};
-ghost use Rattle.papaya_map_change.specs.Seeking.{left_at, left_to, turn_of};
-ghost use Rattle.papaya_map_change.specs.Showings.{IsSamePair};
-ghost use Rattle.papaya_map_change.specs.Window.Seeking.{HasWritten, IsFoundFor, LooksAt, ReadsAt, StandsBy};
-ghost use Rattle.papaya_map_change.specs.Window.Seeking.{Turns};
-ghost use Rattle.papaya_map_change.specs.Tries.{CanBury, Offers, ShowsMet, TakesOut, TriesBurial};
+ghost use Rattle.papaya_map_change.specs.Seeking.{left_at, left_to, hit_of};
+ghost use Rattle.papaya_map_change.specs.ClosureCalls.{IsSamePair};
+ghost use Rattle.papaya_map_change.specs.Window.Seeking.{HasWritten, IsFoundFor, ProbesAt, ReadsAt, IsStateAfter};
+ghost use Rattle.papaya_map_change.specs.Window.Seeking.{Probes};
+ghost use Rattle.papaya_map_change.specs.Tries.{CanBury, Offers, CallsWith, TakesOut, TriesBurial};
 ghost use Rattle.papaya_map_change.specs.declared.fast_path.Tried.TheVariants.{Back, Put};
 ghost use Rattle.papaya_map_change.specs.declared.fast_path.ProbeHit.TheVariants.{Empty, Next};
 ghost use Rattle.papaya_map_change.specs.declared.fast_path.ProbeHit.TheVariants.{Met as MetPair};
 ghost use Rattle.papaya_map_change.specs.Writing.{IsMemoryCapacityOrLimit};
 
 use crate::driver::Means;
-use crate::insertion::{insert_logged, insert_met, insert_onward, insert_slow};
+use crate::insertion::{insert_met, insert_onward, insert_slow, insert_stored};
 use papaya_call::ask::StepKind;
 use papaya_call::search::{Place, ProbeStep, Search};
 use papaya_call::write::Write;
@@ -115,7 +115,7 @@ pub enum ProbeHit<M> {
 /// Returns where a search continues that has met no pair of the key.
 #[inline(always)]
 fn without<M>(seen: ProbeStep) -> ProbeHit<M>
-    ensures { result ≡ turn_of seen }
+    ensures { result ≡ hit_of seen }
 {
     match seen {
         ProbeStep::On(Search::Looking(at)) => ProbeHit::Next(at),
@@ -151,7 +151,7 @@ fn read_at<'a, K: Hash + Eq, V, S: BuildHasher>(
     requires within { IsWithin at }
     requires stands { ReadsAt window.old key.now table.now at }
     ensures sees { Observes window.old window.new }
-    ensures turns { Turns window.old window.new key.now table.now (Searching (Reading at)) result }
+    ensures turns { Probes window.old window.new key.now table.now (Searching (Reading at)) result }
     ensures next { (next : _) → result ≡ Next next → IsWithin next }
     ensures stays { (next : _) → result ≡ Next next → next ≡ record at { probe = next.probe } }
     ensures fewer { left_to result < left_at at }
@@ -181,7 +181,7 @@ fn read_at<'a, K: Hash + Eq, V, S: BuildHasher>(
 /// Looks at one place of a table: loads its hint, and its word if the hint says nothing or is the
 /// key's.
 #[inline(always)]
-fn look_at<'a, K: Hash + Eq, V, S: BuildHasher>(
+fn probe_at<'a, K: Hash + Eq, V, S: BuildHasher>(
     window: &mut Window<'a, K, V, S>,
     key: &K,
     hash: u64,
@@ -190,9 +190,9 @@ fn look_at<'a, K: Hash + Eq, V, S: BuildHasher>(
 ) -> ProbeHit<Live<'a, K, V>>
     requires within { IsWithin at }
     requires hashed { hash ≡ ⟦<S as Hashed<K>>⟧.hash window.old.book.now.parts.hasher key.now }
-    requires stands { LooksAt window.old key.now table.now at }
+    requires stands { ProbesAt window.old key.now table.now at }
     ensures sees { Observes window.old window.new }
-    ensures turns { Turns window.old window.new key.now table.now (Searching (Looking at)) result }
+    ensures turns { Probes window.old window.new key.now table.now (Searching (Looking at)) result }
     ensures next { (next : _) → result ≡ Next next → IsWithin next }
     ensures stays { (next : _) → result ≡ Next next → next ≡ record at { probe = next.probe } }
     ensures fewer { left_to result < left_at at }
@@ -217,13 +217,13 @@ fn seek<'a, K: Hash + Eq, V, S: BuildHasher>(
 ) -> ProbeHit<Live<'a, K, V>>
     requires within { IsWithin at }
     requires hashed { hash ≡ ⟦<S as Hashed<K>>⟧.hash window.old.book.now.parts.hasher key.now }
-    requires stands { LooksAt window.old key.now table.now at }
+    requires stands { ProbesAt window.old key.now table.now at }
     ensures sees { Observes window.old window.new }
-    ensures turns { Turns window.old window.new key.now table.now (Searching (Looking at)) result }
+    ensures turns { Probes window.old window.new key.now table.now (Searching (Looking at)) result }
 {
     let mut place = at;
     loop {
-        match look_at(window, key, hash, table, place) {
+        match probe_at(window, key, hash, table, place) {
             ProbeHit::Next(next) => place.probe = next.probe,
             turned => return turned,
         }
@@ -240,16 +240,16 @@ pub(crate) fn pass_over<K: Hash + Eq, V, S: BuildHasher>(
 ) -> Place
     requires within { IsWithin at }
     requires hashed { hash ≡ ⟦<S as Hashed<K>>⟧.hash window.old.book.now.parts.hasher key.now }
-    requires stands { LooksAt window.old key.now table.now at }
+    requires stands { ProbesAt window.old key.now table.now at }
     ensures sees { Observes window.old window.new }
     ensures within { IsWithin result }
     ensures stays { result ≡ record at { probe = result.probe } }
-    ensures turns { Turns window.old window.new key.now table.now (Searching (Looking at))
+    ensures turns { Probes window.old window.new key.now table.now (Searching (Looking at))
         (Next result) }
 {
     let mut place = at;
     loop {
-        match look_at(window, key, hash, table, place) {
+        match probe_at(window, key, hash, table, place) {
             ProbeHit::Next(next) => place.probe = next.probe,
             _ => {
                 window.learn();
@@ -313,7 +313,7 @@ pub fn claim<K: Hash + Eq + Drop, V: Drop, S: BuildHasher>(
 ) -> Tried<K, V, (K, V)>
     requires hashed { hash ≡ ⟦<S as Hashed<K>>⟧.hash window.old.book.now.parts.hasher key }
     requires limit { window.old.book.now.parts.limit ≡ None }
-    requires stands { StandsBy window.old key table.now (Empty at) }
+    requires stands { IsStateAfter window.old key table.now (Empty at) }
     ensures tried { HasTried key value window.old window.new result }
     ensures put { (q : _) → result ≡ Put q → Offers window.old window.new key table.now
         (Empty at) q }
@@ -322,7 +322,7 @@ pub fn claim<K: Hash + Eq + Drop, V: Drop, S: BuildHasher>(
     if at.is_crowded() {
         table.write_ahead(&window.sight, shard.count());
     }
-    let pair = match window.book.log_fresh(hash, key, value) {
+    let pair = match window.book.store_fresh(hash, key, value) {
         Ok(pair) => pair,
         Err(back) => return Tried::Back(back),
     };
@@ -348,7 +348,7 @@ pub fn replace<K: Hash + Eq + Drop, V: Drop, S: BuildHasher>(
     live: &Live<'_, K, V>,
 ) -> Tried<K, V, V>
     requires limit { window.old.book.now.parts.limit ≡ None }
-    requires stands { (key : K) × StandsBy window.old key table.now (MetPair live.now) }
+    requires stands { (key : K) × IsStateAfter window.old key table.now (MetPair live.now) }
     ensures tried { HasTried (key_of live.now.stored) value window.old window.new result }
     ensures put { (q : _) → result ≡ Put q → (key : K) → Offers window.old window.new key
         table.now (MetPair live.now) q }
@@ -358,7 +358,7 @@ pub fn replace<K: Hash + Eq + Drop, V: Drop, S: BuildHasher>(
     let met = &live.met;
     let (place, word) = (met.place, met.word);
     let lane = Word(word).pair();
-    let pair = match book.log_renewed(lane, &met.stored, live.pair, value) {
+    let pair = match book.store_renewed(lane, &met.stored, live.pair, value) {
         Ok(pair) => pair,
         Err(back) => return Tried::Back(back),
     };
@@ -442,7 +442,7 @@ pub fn bury<K: Hash + Eq, V, S: BuildHasher>(
     table: &Table<K, V, S>,
     met: &Met<K, V>,
 ) -> bool
-    requires shows { (key : K) × (begun : _) × ShowsMet window.old key begun table.now met.now }
+    requires shows { (key : K) × (begun : _) × CallsWith window.old key begun table.now met.now }
     ensures ends { Ends result window.old window.new }
     ensures went { result ≡ true → (key : K) → TakesOut window.old window.new key table.now
         met.now }
@@ -467,17 +467,17 @@ fn claim_at<'a, R: Wait, K: Hash + Eq + Drop, V: Drop, S: BuildHasher>(
     requires initial { IsPowerOfTwo means.now.initial }
     requires hashed { hash ≡ ⟦<S as Hashed<K>>⟧.hash window.old.book.now.parts.hasher key }
     requires limit { window.old.book.now.parts.limit ≡ None }
-    requires stands { StandsBy window.old key table.now (Empty at) }
+    requires stands { IsStateAfter window.old key table.now (Empty at) }
     ensures ends { Ends (is_ok result) window.old window.new }
     ensures put { IfOk result (λ answer. HasWritten window.old window.new key value
         table.now (Empty at) answer) }
     ensures refused { IfErr result (λ refused. IsMemoryCapacityOrLimit refused) }
-    ensures tells { TellsWhy means.now.initial window.new given.new.done
+    ensures tells { HasCause means.now.initial window.new given.new.done
         (λ cause. result ≡ Err cause) }
 {
     match claim(means.shard, window, key, value, hash, table, at) {
         Tried::Put(_) => Ok(None),
-        Tried::Lost(pair) => insert_logged(means, window, given, hash, pair),
+        Tried::Lost(pair) => insert_stored(means, window, given, hash, pair),
         Tried::Back((key, value)) => insert_slow(means, window, given, key, value),
     }
 }
@@ -498,12 +498,12 @@ fn replace_at<'a, R: Wait, K: Hash + Eq + Drop, V: Drop, S: BuildHasher>(
     requires initial { IsPowerOfTwo means.now.initial }
     requires hashed { hash ≡ ⟦<S as Hashed<K>>⟧.hash window.old.book.now.parts.hasher key }
     requires limit { window.old.book.now.parts.limit ≡ None }
-    requires stands { StandsBy window.old key table.now (MetPair live) }
+    requires stands { IsStateAfter window.old key table.now (MetPair live) }
     ensures ends { Ends (is_ok result) window.old window.new }
     ensures put { IfOk result (λ answer. HasWritten window.old window.new key value
         table.now (MetPair live.entry) answer) }
     ensures refused { IfErr result (λ refused. IsMemoryCapacityOrLimit refused) }
-    ensures tells { TellsWhy means.now.initial window.new given.new.done
+    ensures tells { HasCause means.now.initial window.new given.new.done
         (λ cause. result ≡ Err cause) }
 {
     let book = window.book;
@@ -539,7 +539,7 @@ pub fn insert<'a, R: Wait, K: Hash + Eq + Drop, V: Drop, S: BuildHasher>(
     ensures put { IfOk result (λ answer. IsPut K.eq key value (past window.old) (past window.new)
         answer) }
     ensures refused { IfErr result (λ refused. IsMemoryCapacityOrLimit refused) }
-    ensures tells { TellsWhy initial window.new given.new.done (λ cause. result ≡ Err cause) }
+    ensures tells { HasCause initial window.new given.new.done (λ cause. result ≡ Err cause) }
 {
     window.learn();
     let hash = hash(&window.book.parts.hasher, &key);

@@ -4,8 +4,8 @@ ghost use Rattle.papaya_map_change.specs.Window.Ends.{Ends};
 ghost use Rattle.std.specs.Int.{IsPowerOfTwo};
 ghost use Rattle.papaya_call.specs.Made.{IsLimit};
 ghost use Rattle.papaya_map_lookup.specs.Drivers.{past};
-ghost use Rattle.papaya_map_change.specs.RemovalAnswers.{IsTriedRemoval, went_fast};
-ghost use Rattle.papaya_map_change.specs.Showings.{Judges};
+ghost use Rattle.papaya_map_change.specs.RemovalAnswers.{IsTriedRemoval, has_removed_fast};
+ghost use Rattle.papaya_map_change.specs.ClosureCalls.{Judges};
 
 use crate::driver::Means;
 use crate::fast_path::bury_met;
@@ -64,7 +64,7 @@ pub fn remove_fast<
     requires callable { F.IsAlwaysCallable agrees.old }
     requires initial { IsPowerOfTwo means.now.initial }
     ensures callable { F.IsAlwaysCallable agrees.new }
-    ensures ends { Ends (went_fast result) window.old window.new }
+    ensures ends { Ends (has_removed_fast result) window.old window.new }
     ensures removed { IsTriedRemoval K.eq (Q.matches key.now) (past window.old) (past window.new)
         (Judges F.FnMut) agrees.old agrees.new result }
 {

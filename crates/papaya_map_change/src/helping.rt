@@ -1,7 +1,7 @@
 //! A call that is set aside makes a next table or copies the root, and then continues. A copier
 //! performs what it asks for in between.
 ghost use Rattle.std.specs.Prelude.{◌≡◌, ◌≢◌, ℕ, MatchOption};
-ghost use Rattle.papaya_call.specs.ChainMachine.{IsFit, IsStanding, ask_of};
+ghost use Rattle.papaya_call.specs.ChainMachine.{IsFit, IsValid, ask_of};
 ghost use Rattle.papaya_call.specs.declared.chain.ask.Ask.TheVariants.{Copy};
 ghost use Rattle.papaya_call.specs.declared.chain.machine.Phase.TheVariants as phases;
 ghost use Rattle.papaya_call.specs.declared.chain.machine.Phase.TheVariants.{Calling};
@@ -10,8 +10,8 @@ ghost use Rattle.papaya_call.specs.declared.copy.copying.Copying.TheVariants.{St
 ghost use Rattle.papaya_call.specs.declared.copy.step.Step.TheVariants as steps;
 ghost use Rattle.papaya_call.specs.Link.{IsFitCopyAsk};
 ghost use Rattle.papaya_map_book.specs.Windows.{HasCome, IsLawful, IsTable, Observes};
-ghost use Rattle.papaya_map_change.specs.Window.Driver.{CanGoOn, Copies, GoesOn, Helps};
-ghost use Rattle.papaya_map_change.specs.Window.Going.{GoesBy};
+ghost use Rattle.papaya_map_change.specs.Window.Driver.{CanGoOn, Copies, Continues, Helps};
+ghost use Rattle.papaya_map_change.specs.Window.Going.{ContinuesTo};
 ghost use Rattle.papaya_map_change.specs.Helping.{IsEntering};
 ghost use Rattle.papaya_map_change.specs.Settling.{at_slot};
 
@@ -35,10 +35,10 @@ impl<'a, K: Hash + Eq, V, S: BuildHasher> Driver<'a, K, V, S> {
     /// stays as it is.
     #[inline(always)]
     pub fn help<R: Wait>(&mut self, means: &Means<'_, '_, R>, window: &mut Window<'a, K, V, S>)
-        requires standing { IsStanding self.old.machine }
+        requires valid { IsValid self.old.machine }
         requires can { CanGoOn window.old self.old }
         ensures helps { Helps window.old self.old.machine window.new self.new }
-        ensures goes_on { GoesOn window.old self.old window.new self.new }
+        ensures goes_on { Continues window.old self.old window.new self.new }
         ensures rest { (self.new.taken ≡ self.old.taken) × (self.new.put ≡ self.old.put) }
         ensures still { self.old.machine.phase ≡ Calling
             → (self.new ≡ self.old) × (window.new ≡ window.old) }
@@ -57,11 +57,11 @@ impl<'a, K: Hash + Eq, V, S: BuildHasher> Driver<'a, K, V, S> {
         means: &Means<'_, '_, R>,
         window: &mut Window<'a, K, V, S>,
     )
-        requires standing { IsStanding self.old.machine }
+        requires valid { IsValid self.old.machine }
         requires can { CanGoOn window.old self.old }
         requires aside { self.old.machine.phase ≢ Calling }
         ensures helps { Helps window.old self.old.machine window.new self.new }
-        ensures goes_on { GoesOn window.old self.old window.new self.new }
+        ensures goes_on { Continues window.old self.old window.new self.new }
         ensures rest { (self.new.taken ≡ self.old.taken) × (self.new.put ≡ self.old.put) }
     {
         self.machine.number = means.shard.count().next_start();
@@ -110,14 +110,14 @@ impl<'a, K: Hash + Eq, V, S: BuildHasher> Driver<'a, K, V, S> {
         making: &mut Option<MutexGuard<'a, ()>>,
         window: &mut Window<'a, K, V, S>,
     ) -> Answer
-        requires standing { IsStanding self.old.machine }
+        requires valid { IsValid self.old.machine }
         requires can { CanGoOn window.old self.old }
         requires asks { ask_of self.old.machine ≡ Copy ask }
         requires fit { IsFitCopyAsk ask }
         ensures sees { Observes window.old window.new }
-        ensures standing { IsStanding self.new.machine }
+        ensures valid { IsValid self.new.machine }
         ensures fit { IsFit result }
-        ensures goes { GoesBy window.old self.old window.new self.new result }
+        ensures goes { ContinuesTo window.old self.old window.new self.new result }
         ensures rest { self.new ≡ record self.old {
           machine = self.new.machine;
           copier = self.new.copier;
@@ -137,13 +137,13 @@ impl<'a, K: Hash + Eq, V, S: BuildHasher> Driver<'a, K, V, S> {
 
     /// Finds the tables of the copy; returns the answer to the ask after them.
     fn find_tables(&mut self, aim: Aim, window: &mut Window<'a, K, V, S>) -> Answer
-        requires standing { IsStanding self.old.machine }
+        requires valid { IsValid self.old.machine }
         requires can { CanGoOn window.old self.old }
         requires phase { self.old.machine.phase ≡ phases.Copying (Stepping aim steps.AtRoot) }
         ensures sees { Observes window.old window.new }
-        ensures standing { IsStanding self.new.machine }
+        ensures valid { IsValid self.new.machine }
         ensures fit { IsFit result }
-        ensures goes { GoesBy window.old self.old window.new self.new result }
+        ensures goes { ContinuesTo window.old self.old window.new self.new result }
         ensures rest { self.new ≡ record self.old {
           machine = self.new.machine;
           copier = self.new.copier;
@@ -157,14 +157,14 @@ impl<'a, K: Hash + Eq, V, S: BuildHasher> Driver<'a, K, V, S> {
 
     /// Copies slots of the chunk at the cursor; returns the answer to the ask after them.
     fn take_chunk(&mut self, aim: Aim, cursor: Cursor, window: &mut Window<'a, K, V, S>) -> Answer
-        requires standing { IsStanding self.old.machine }
+        requires valid { IsValid self.old.machine }
         requires can { CanGoOn window.old self.old }
         requires phase { self.old.machine.phase
             ≡ phases.Copying (Stepping aim (steps.AtChunk cursor)) }
         ensures sees { Observes window.old window.new }
-        ensures standing { IsStanding self.new.machine }
+        ensures valid { IsValid self.new.machine }
         ensures fit { IsFit result }
-        ensures goes { GoesBy window.old self.old window.new self.new result }
+        ensures goes { ContinuesTo window.old self.old window.new self.new result }
         ensures rest { self.new ≡ record self.old {
           machine = self.new.machine;
           copier = self.new.copier;
@@ -179,13 +179,13 @@ impl<'a, K: Hash + Eq, V, S: BuildHasher> Driver<'a, K, V, S> {
     /// Copies slots of the chunk, from the current one on; returns the answer to the ask after
     /// them.
     fn copy_slots(&mut self, aim: Aim, chunk: Chunk, window: &mut Window<'a, K, V, S>) -> Answer
-        requires standing { IsStanding self.old.machine }
+        requires valid { IsValid self.old.machine }
         requires can { CanGoOn window.old self.old }
         requires phase { self.old.machine.phase ≡ phases.Copying (at_slot aim chunk Looking) }
         ensures sees { Observes window.old window.new }
-        ensures standing { IsStanding self.new.machine }
+        ensures valid { IsValid self.new.machine }
         ensures fit { IsFit result }
-        ensures goes { GoesBy window.old self.old window.new self.new result }
+        ensures goes { ContinuesTo window.old self.old window.new self.new result }
         ensures rest { self.new ≡ record self.old {
           machine = self.new.machine;
           copier = self.new.copier;
@@ -206,7 +206,7 @@ impl<'a, K: Hash + Eq, V, S: BuildHasher> Driver<'a, K, V, S> {
         making: &mut Option<MutexGuard<'a, ()>>,
         window: &mut Window<'a, K, V, S>,
     ) -> Answer
-        requires standing { IsStanding self.old.machine }
+        requires valid { IsValid self.old.machine }
         requires can { CanGoOn window.old self.old }
         requires asks { ask_of self.old.machine ≡ Copy ask }
         requires fit { IsFitCopyAsk ask }

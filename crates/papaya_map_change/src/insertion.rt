@@ -1,5 +1,5 @@
 //! Insertions: their machine, whose asks are performed by steps on the book.
-ghost use Rattle.papaya_map_change.specs.Window.Ends.{Ends, TellsWhy};
+ghost use Rattle.papaya_map_change.specs.Window.Ends.{Ends, HasCause};
 ghost use Rattle.papaya_map_lookup.specs.Drivers.{past};
 ghost use Rattle.papaya_map_lookup.specs.History.{key_of};
 ghost use Rattle.papaya_map_book.specs.Windows.{Does, IsIn, Sees};
@@ -9,7 +9,7 @@ ghost use Rattle.papaya_map_change.specs.Window.Inserting.{CanInsert, HasPut, Ha
 ghost use Rattle.std.specs.Prelude.{◌≡◌, ℕ, ◌<◌, ◌^◌, false, true, is_ok, None, Some, Err, IfErr, IfOk};
 ghost use Rattle.std.specs.Int.{IsPowerOfTwo};
 ghost use Rattle.papaya_call.specs.Machine.{ask_of as call_ask_of};
-ghost use Rattle.papaya_call.specs.ChainMachine.{IsStanding, ask_of, started};
+ghost use Rattle.papaya_call.specs.ChainMachine.{IsValid, ask_of, started};
 ghost use Rattle.papaya_call.specs.declared.chain.ask.Ask.TheVariants.{Call};
 ghost use Rattle.papaya_call.specs.declared.chain.machine.Phase.TheVariants.{Calling};
 ghost use Rattle.papaya_call.specs.declared.ask.Ask.TheVariants.{Done, Exchange, MakePair, MakePairOf};
@@ -18,7 +18,7 @@ ghost use Rattle.papaya_call.specs.declared.call.Reply.TheVariants.{Refused as R
 ghost use Rattle.papaya_call.specs.declared.call.Task.TheVariants.{Insert};
 ghost use Rattle.papaya_map_change.specs.Changes.{IsPut};
 ghost use Rattle.papaya_map_change.specs.Driver.{HoldsNothing};
-ghost use Rattle.papaya_map_change.specs.Window.Seeking.{HasWritten, StandsBy};
+ghost use Rattle.papaya_map_change.specs.Window.Seeking.{HasWritten, IsStateAfter};
 ghost use Rattle.papaya_map_change.specs.declared.fast_path.ProbeHit.TheVariants.{Over};
 ghost use Rattle.papaya_map_change.specs.Writing.{HasKeyAt, IsMemoryCapacityOrLimit};
 
@@ -65,7 +65,7 @@ impl<'a, K: Hash + Eq + Drop, V: Drop, S: BuildHasher> Insertion<'a, K, V, S> {
         requires initial { IsPowerOfTwo means.now.initial }
         ensures machine { result.writer.call.machine ≡ started (Insert true) hash
             book.now.parts.mode means.now.initial 0 book.now.parts.limit }
-        ensures standing { IsStanding result.writer.call.machine }
+        ensures valid { IsValid result.writer.call.machine }
         ensures empty { HoldsNothing result.writer.call }
         ensures parts { (result.writer.key ≡ Some key) × (result.writer.value ≡ Some value) }
         ensures made { (result.own ≡ None) × (result.of ≡ None) }
@@ -85,13 +85,13 @@ impl<'a, K: Hash + Eq + Drop, V: Drop, S: BuildHasher> Insertion<'a, K, V, S> {
 
     /// Stores the pair of the call's key and the value.
     fn make_pair<R: Wait>(&mut self, rt: &R, window: &Window<'a, K, V, S>) -> Answer
-        requires standing { IsStanding self.old.writer.call.machine }
+        requires valid { IsValid self.old.writer.call.machine }
         requires can { CanInsert window.now self.old }
         requires asks { ask_of self.old.writer.call.machine ≡ Call MakePair }
         ensures machine { self.new.writer.call.machine ≡ self.old.writer.call.machine }
         ensures inserts { Inserts window.now self.old window.now self.new (Some result) }
     {
-        match self.writer.log_pair(rt, window) {
+        match self.writer.store_pair(rt, window) {
             Ok(pair) => {
                 let number = pair.index();
                 self.own = Some(pair);
@@ -103,13 +103,13 @@ impl<'a, K: Hash + Eq + Drop, V: Drop, S: BuildHasher> Insertion<'a, K, V, S> {
 
     /// Stores the pair of the value and the key that was met.
     fn make_pair_of<R: Wait>(&mut self, rt: &R, window: &Window<'a, K, V, S>) -> Answer
-        requires standing { IsStanding self.old.writer.call.machine }
+        requires valid { IsValid self.old.writer.call.machine }
         requires can { CanInsert window.now self.old }
         requires asks { (n : ℕ) × (ask_of self.old.writer.call.machine ≡ Call (MakePairOf n)) }
         ensures machine { self.new.writer.call.machine ≡ self.old.writer.call.machine }
         ensures inserts { Inserts window.now self.old window.now self.new (Some result) }
     {
-        match self.writer.log_pair_of(rt, window) {
+        match self.writer.store_pair_of(rt, window) {
             Ok(pair) => {
                 let number = pair.index();
                 self.of = Some(pair);
@@ -128,7 +128,7 @@ impl<'a, K: Hash + Eq + Drop, V: Drop, S: BuildHasher> Insertion<'a, K, V, S> {
         words: (u64, u64),
         window: &mut Window<'a, K, V, S>,
     ) -> Answer
-        requires standing { IsStanding self.old.writer.call.machine }
+        requires valid { IsValid self.old.writer.call.machine }
         requires can { CanInsert window.old self.old }
         requires asks { ask_of self.old.writer.call.machine ≡ Call (Exchange
             (Slot number place) words.0 words.1) }
@@ -151,7 +151,7 @@ impl<'a, K: Hash + Eq + Drop, V: Drop, S: BuildHasher> Insertion<'a, K, V, S> {
         means: &Means<'_, '_, R>,
         window: &mut Window<'a, K, V, S>,
     ) -> Option<Answer>
-        requires standing { IsStanding self.old.writer.call.machine }
+        requires valid { IsValid self.old.writer.call.machine }
         requires calling { self.old.writer.call.machine.phase ≡ Calling }
         requires can { CanInsert window.old self.old }
         ensures sees { Sees window.old window.new }
@@ -196,7 +196,7 @@ impl<'a, K: Hash + Eq + Drop, V: Drop, S: BuildHasher> Insertion<'a, K, V, S> {
 
     /// Returns the result of an insertion that has replied: the value that its key had.
     fn replied(&self, window: &Window<'a, K, V, S>) -> Result<Option<&'a V>, Refused>
-        requires standing { IsStanding self.now.writer.call.machine }
+        requires valid { IsValid self.now.writer.call.machine }
         requires can { CanInsert window.now self.now }
         requires done { (reply : _) × (ask_of self.now.writer.call.machine
             ≡ Call (Done reply)) }
@@ -225,7 +225,7 @@ fn drive<'a, R: Wait, K: Hash + Eq + Drop, V: Drop, S: BuildHasher>(
     given: &mut OwnSteps<CapacityCause>,
     begun: Insertion<'a, K, V, S>,
 ) -> Result<Option<&'a V>, Refused>
-    requires standing { IsStanding begun.writer.call.machine }
+    requires valid { IsValid begun.writer.call.machine }
     requires calling { begun.writer.call.machine.phase ≡ Calling }
     requires can { CanInsert window.old begun }
     requires unchanged { has_changed begun.writer.call.machine ≡ false }
@@ -233,7 +233,7 @@ fn drive<'a, R: Wait, K: Hash + Eq + Drop, V: Drop, S: BuildHasher>(
     ensures put { IfOk result (λ answer. HasPutSince window.old begun.entry window.new
         answer) }
     ensures refused { IfErr result (λ refused. IsMemoryCapacityOrLimit refused) }
-    ensures tells { TellsWhy begun.entry.writer.call.machine.call.initial window.new given.new.done
+    ensures tells { HasCause begun.entry.writer.call.machine.call.initial window.new given.new.done
         (λ cause. result ≡ Err cause) }
 {
     let mut insertion = begun;
@@ -242,7 +242,7 @@ fn drive<'a, R: Wait, K: Hash + Eq + Drop, V: Drop, S: BuildHasher>(
             Some(answer) => {
                 insertion.writer.call.answer(answer);
                 insertion.writer.call.help(means, window);
-                insertion.writer.look_on(window);
+                insertion.writer.probe_on(window);
             }
             None => {
                 *given = insertion.writer.call.copier.given.again();
@@ -268,7 +268,7 @@ pub(crate) fn insert_slow<'a, R: Wait, K: Hash + Eq + Drop, V: Drop, S: BuildHas
     ensures put { IfOk result (λ answer. IsPut K.eq key value
         (past window.old) (past window.new) answer) }
     ensures refused { IfErr result (λ refused. IsMemoryCapacityOrLimit refused) }
-    ensures tells { TellsWhy means.now.initial window.new given.new.done
+    ensures tells { HasCause means.now.initial window.new given.new.done
         (λ cause. result ≡ Err cause) }
 {
     window.learn();
@@ -293,12 +293,12 @@ pub(crate) fn insert_onward<'a, R: Wait, K: Hash + Eq + Drop, V: Drop, S: BuildH
 ) -> Result<Option<&'a V>, Refused>
     requires initial { IsPowerOfTwo means.now.initial }
     requires hashed { hash ≡ ⟦<S as Hashed<K>>⟧.hash window.old.book.now.parts.hasher key }
-    requires stands { StandsBy window.old key table.now (Over number) }
+    requires stands { IsStateAfter window.old key table.now (Over number) }
     ensures ends { Ends (is_ok result) window.old window.new }
     ensures put { IfOk result (λ answer. HasWritten window.old window.new key value
         table.now (Over number) answer) }
     ensures refused { IfErr result (λ refused. IsMemoryCapacityOrLimit refused) }
-    ensures tells { TellsWhy means.now.initial window.new given.new.done
+    ensures tells { HasCause means.now.initial window.new given.new.done
         (λ cause. result ≡ Err cause) }
 {
     let (key, value) = (KeyPart::Own(key), ValuePart::Own(value));
@@ -306,12 +306,12 @@ pub(crate) fn insert_onward<'a, R: Wait, K: Hash + Eq + Drop, V: Drop, S: BuildH
     insertion
         .writer
         .call
-        .stand(State::Growing(Need::Room(number)), table);
+        .enter_state(State::Growing(Need::Room(number)), table);
     drive(means, window, given, insertion)
 }
 
 /// Inserts a pair that is in the arena, with its key, by its machine; returns the key's old value.
-pub(crate) fn insert_logged<'a, R: Wait, K: Hash + Eq + Drop, V: Drop, S: BuildHasher>(
+pub(crate) fn insert_stored<'a, R: Wait, K: Hash + Eq + Drop, V: Drop, S: BuildHasher>(
     means: &Means<'_, '_, R>,
     window: &mut Window<'a, K, V, S>,
     given: &mut OwnSteps<CapacityCause>,
@@ -326,7 +326,7 @@ pub(crate) fn insert_logged<'a, R: Wait, K: Hash + Eq + Drop, V: Drop, S: BuildH
     ensures put { IfOk result (λ answer. IsPut K.eq (key_of pair) pair.value.value
         (past window.old) (past window.new) answer) }
     ensures refused { IfErr result (λ refused. IsMemoryCapacityOrLimit refused) }
-    ensures tells { TellsWhy means.now.initial window.new given.new.done
+    ensures tells { HasCause means.now.initial window.new given.new.done
         (λ cause. result ≡ Err cause) }
 {
     window.learn();
@@ -362,7 +362,7 @@ pub(crate) fn insert_met<'a, R: Wait, K: Hash + Eq + Drop, V: Drop, S: BuildHash
     ensures put { IfOk result (λ answer. IsPut K.eq key pair.value.value
         (past window.old) (past window.new) answer) }
     ensures refused { IfErr result (λ refused. IsMemoryCapacityOrLimit refused) }
-    ensures tells { TellsWhy means.now.initial window.new given.new.done
+    ensures tells { HasCause means.now.initial window.new given.new.done
         (λ cause. result ≡ Err cause) }
 {
     window.learn();

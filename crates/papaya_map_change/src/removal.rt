@@ -6,20 +6,20 @@ ghost use Rattle.papaya_map_lookup.specs.History.{key_of};
 ghost use Rattle.papaya_map_book.specs.Windows.{Sees};
 ghost use Rattle.papaya_map_book.specs.Books.{IsIn};
 ghost use Rattle.papaya_map_change.specs.Doing.{Answers};
-ghost use Rattle.papaya_map_change.specs.Window.Removing.{CanRemove, CanTell, Removes};
-ghost use Rattle.papaya_map_change.specs.Removing.{Shows, Tells};
+ghost use Rattle.papaya_map_change.specs.Window.Removing.{CanRemove, HoldsResult, Removes};
+ghost use Rattle.papaya_map_change.specs.Removing.{CallsClosure, IsRemovalResult};
 ghost use Rattle.papaya_map_change.specs.Window.Steps.{HasLast};
 ghost use Rattle.std.specs.Prelude.{◌≡◌, Some, Err};
 ghost use Rattle.std.specs.Int.{IsPowerOfTwo};
 ghost use Rattle.papaya_map_book.specs.Limits.{HasNoRoom, tables_of};
 ghost use Rattle.papaya_call.specs.Machine.{ask_of as call_ask_of};
-ghost use Rattle.papaya_call.specs.ChainMachine.{IsStanding, ask_of};
+ghost use Rattle.papaya_call.specs.ChainMachine.{IsValid, ask_of};
 ghost use Rattle.papaya_call.specs.declared.chain.ask.Ask.TheVariants.{Call};
 ghost use Rattle.papaya_call.specs.declared.chain.machine.Phase.TheVariants.{Calling};
 ghost use Rattle.papaya_call.specs.declared.ask.Ask.TheVariants.{Done};
 ghost use Rattle.papaya_map_book.specs.Logs.{pair_named};
-ghost use Rattle.papaya_map_change.specs.RemovalAnswers.{IsRemovalBy, went};
-ghost use Rattle.papaya_map_change.specs.Showings.{AreOf, Judges};
+ghost use Rattle.papaya_map_change.specs.RemovalAnswers.{IsRemovalBy, has_removed};
+ghost use Rattle.papaya_map_change.specs.ClosureCalls.{AreOf, Judges};
 
 use crate::driver::{Driver, Means};
 use crate::fast_removal::remove_fast;
@@ -85,7 +85,7 @@ impl<'a, K: Hash + Eq, V, S: BuildHasher> Removal<'a, K, V, S> {
     }
 
     /// Calls the closure with the pair last loaded, and keeps that pair.
-    fn show<F: FnMut(&K, &V) -> bool>(
+    fn call_closure<F: FnMut(&K, &V) -> bool>(
         &mut self,
         agrees: &mut F,
         window: &Window<'a, K, V, S>,
@@ -93,7 +93,7 @@ impl<'a, K: Hash + Eq, V, S: BuildHasher> Removal<'a, K, V, S> {
         requires callable { F.IsAlwaysCallable agrees.old }
         requires last { HasLast window.now self.old.call }
         ensures callable { F.IsAlwaysCallable agrees.new }
-        ensures shows { Shows (Judges F.FnMut) self.old agrees.old self.new agrees.new result }
+        ensures shows { CallsClosure (Judges F.FnMut) self.old agrees.old self.new agrees.new result }
     {
         let Some(last) = &self.call.copier.last else {
             unreachable!()
@@ -115,7 +115,7 @@ impl<'a, K: Hash + Eq, V, S: BuildHasher> Removal<'a, K, V, S> {
         requires callable { F.IsAlwaysCallable agrees.old }
         requires can { CanRemove (⟦<S as Asked<K, Q>>⟧.query key.now) (Judges F.FnMut) window.old
             self.old agrees.old }
-        requires standing { IsStanding self.old.call.machine }
+        requires valid { IsValid self.old.call.machine }
         requires calling { self.old.call.machine.phase ≡ Calling }
         ensures sees { Sees window.old window.new }
         ensures answers { Answers (call_ask_of self.old.call.machine.call) result window.old
@@ -135,7 +135,7 @@ impl<'a, K: Hash + Eq, V, S: BuildHasher> Removal<'a, K, V, S> {
             }
             CallAsk::SizeOf(_) => Some(self.call.size()),
             CallAsk::SameKey(_) => Some(self.same(key, window)),
-            CallAsk::ShowPair(_) => Some(self.show(agrees, window)),
+            CallAsk::ShowPair(_) => Some(self.call_closure(agrees, window)),
             CallAsk::Exchange(At::Slot(number, place), old, new) => {
                 Some(self.call.bury(number, place, (old, new), window))
             }
@@ -162,12 +162,12 @@ impl<'a, K: Hash + Eq, V, S: BuildHasher> Removal<'a, K, V, S> {
         &self,
         window: &Window<'a, K, V, S>,
     ) -> Result<Result<Option<(&'a K, &'a V)>, (&'a K, &'a V)>, Refused>
-        requires standing { IsStanding self.now.call.machine }
+        requires valid { IsValid self.now.call.machine }
         requires done { (reply : _) × (ask_of self.now.call.machine ≡ Call (Done reply)) }
         requires can { (reply : _) → ask_of self.now.call.machine ≡ Call (Done reply)
-            → CanTell window.now self.now reply }
+            → HoldsResult window.now self.now reply }
         ensures tells { (reply : _) × (ask_of self.now.call.machine ≡ Call (Done reply))
-            × Tells self.now reply result }
+            × IsRemovalResult self.now reply result }
     {
         let book = window.book;
         match (self.call.machine.ask(), &self.shown, &self.call.taken) {
@@ -204,7 +204,7 @@ pub fn remove_slow<
 ) -> Result<Result<Option<(&'a K, &'a V)>, (&'a K, &'a V)>, Refused>
     requires callable { F.IsAlwaysCallable agrees }
     requires initial { IsPowerOfTwo means.now.initial }
-    ensures ends { Ends (went result) window.old window.new }
+    ensures ends { Ends (has_removed result) window.old window.new }
     ensures removed { IsRemovalBy K.eq (Q.matches key.now) (past window.old) (past window.new)
         (Judges F.FnMut) agrees result }
     ensures crowded { result ≡ Err Refused.Capacity → HasNoRoom means.now.initial
@@ -262,7 +262,7 @@ pub fn remove<
 ) -> Result<Result<Option<(&'a K, &'a V)>, (&'a K, &'a V)>, Refused>
     requires callable { F.IsAlwaysCallable agrees }
     requires initial { IsPowerOfTwo initial }
-    ensures ends { Ends (went result) window.old window.new }
+    ensures ends { Ends (has_removed result) window.old window.new }
     ensures removed { IsRemovalBy K.eq (Q.matches key.now) (past window.old) (past window.new)
         (Judges F.FnMut) agrees result }
     ensures crowded { result ≡ Err Refused.Capacity → HasNoRoom initial

@@ -2,14 +2,14 @@
 ghost use Rattle.std.specs.Prelude.{◌≡◌, ℕ, IfErr, IfOk, Some, None, Err};
 ghost use Rattle.std.specs.Int.{IsPowerOfTwo};
 ghost use Rattle.papaya_call.specs.ChainMachine.{IsFit};
-ghost use Rattle.papaya_call.specs.Resizer.{IsStandingResizer, ask_of, reply_of};
+ghost use Rattle.papaya_call.specs.Resizer.{IsValidResizer, ask_of, reply_of};
 ghost use Rattle.papaya_call.specs.declared.call.Reply.TheVariants.{Refused as ReplyRefused};
 ghost use Rattle.papaya_call.specs.declared.chain.resizer.ResizerState.TheVariants.{Opening, Done};
 ghost use Rattle.papaya_call.specs.declared.chain.resizer.ResizerState.TheVariants as stages;
 ghost use Rattle.papaya_call.specs.declared.copy.settle.Settle.TheVariants.{Looking};
 ghost use Rattle.papaya_map_book.specs.Limits.{tables_of};
 ghost use Rattle.papaya_map_book.specs.Windows.{IsLawful, Observes};
-ghost use Rattle.papaya_map_change.specs.Window.Resizing.{CanResize, GoesOnAfter};
+ghost use Rattle.papaya_map_change.specs.Window.Resizing.{CanResize, ContinuesAfter};
 ghost use Rattle.papaya_map_change.specs.Resizing.{HasNoRoomFor, HasRoomFor};
 ghost use Rattle.papaya_map_change.specs.Settling.{at_slot};
 ghost use Rattle.papaya_map_change.specs.Writing.{IsMemoryOrCapacity};
@@ -46,16 +46,16 @@ impl<K: Hash + Eq, V, S: BuildHasher> Resizing<K, V, S> {
         making: &mut Option<MutexGuard<'a, ()>>,
         window: &mut Window<'a, K, V, S>,
     ) -> Answer
-        requires standing { IsStandingResizer self.old.machine }
+        requires valid { IsValidResizer self.old.machine }
         requires can { CanResize window.old self.old }
         requires asks { ask_of self.old.machine ≡ Some ask }
         ensures sees { Observes window.old window.new }
         ensures fit { IsFit result }
-        ensures standing { IsStandingResizer self.new.machine }
+        ensures valid { IsValidResizer self.new.machine }
         ensures machine { self.new.machine ≡ record self.old.machine {
           state = self.new.machine.state;
         } }
-        ensures goes_on { GoesOnAfter window.new self.new result }
+        ensures goes_on { ContinuesAfter window.new self.new result }
     {
         match self.machine.state {
             ResizerState::Opening(_) => self.open(window),
@@ -75,14 +75,14 @@ impl<K: Hash + Eq, V, S: BuildHasher> Resizing<K, V, S> {
         making: &mut Option<MutexGuard<'a, ()>>,
         window: &mut Window<'a, K, V, S>,
     ) -> Answer
-        requires standing { IsStandingResizer self.old.machine }
+        requires valid { IsValidResizer self.old.machine }
         requires can { CanResize window.old self.old }
         requires asks { ask_of self.old.machine ≡ Some ask }
         requires closed { (n : ℕ) → self.old.machine.state ≡ Opening n → ⊥ }
         ensures sees { Observes window.old window.new }
         ensures fit { IsFit result }
         ensures machine { self.new.machine ≡ self.old.machine }
-        ensures goes_on { GoesOnAfter window.new self.new result }
+        ensures goes_on { ContinuesAfter window.new self.new result }
     {
         let asked = CopyRequest {
             ask,
@@ -101,16 +101,16 @@ impl<K: Hash + Eq, V, S: BuildHasher> Resizing<K, V, S> {
         chunk: Chunk,
         window: &mut Window<'a, K, V, S>,
     ) -> Answer
-        requires standing { IsStandingResizer self.old.machine }
+        requires valid { IsValidResizer self.old.machine }
         requires can { CanResize window.old self.old }
         requires state { self.old.machine.state ≡ stages.Copying from (at_slot aim chunk Looking) }
         ensures sees { Observes window.old window.new }
         ensures fit { IsFit result }
-        ensures standing { IsStandingResizer self.new.machine }
+        ensures valid { IsValidResizer self.new.machine }
         ensures machine { self.new.machine ≡ record self.old.machine {
           state = self.new.machine.state;
         } }
-        ensures goes_on { GoesOnAfter window.new self.new result }
+        ensures goes_on { ContinuesAfter window.new self.new result }
     {
         let mode = self.machine.mode;
         let (copying, answer) = self.copier.copy_slots(aim, chunk, mode, window);
@@ -120,13 +120,13 @@ impl<K: Hash + Eq, V, S: BuildHasher> Resizing<K, V, S> {
 
     /// Tries to make the new table the root.
     fn open<'a>(&mut self, window: &mut Window<'a, K, V, S>) -> Answer
-        requires standing { IsStandingResizer self.old.machine }
+        requires valid { IsValidResizer self.old.machine }
         requires can { CanResize window.old self.old }
         requires opens { (n : _) × (self.old.machine.state ≡ Opening n) }
         ensures sees { Observes window.old window.new }
         ensures fit { IsFit result }
         ensures machine { self.new.machine ≡ self.old.machine }
-        ensures goes_on { GoesOnAfter window.new self.new result }
+        ensures goes_on { ContinuesAfter window.new self.new result }
     {
         let Some((table, mut seal)) = self.copier.fresh.take() else {
             unreachable!()

@@ -3,17 +3,17 @@
 ghost use Rattle.std.specs.Prelude.{◌≡◌, List, None};
 ghost use mathlib.Core.List.{IsPrefix};
 ghost use Rattle.papaya_call.specs.ChainMachine.{IsFit};
-ghost use Rattle.papaya_call.specs.Copying.{IsStandingCopying};
+ghost use Rattle.papaya_call.specs.Copying.{IsValidCopying};
 ghost use Rattle.papaya_call.specs.Settle.{copied_as, marked_as};
-ghost use Rattle.papaya_call.specs.Step.{IsStandingChunk};
+ghost use Rattle.papaya_call.specs.Step.{IsValidChunk};
 ghost use Rattle.papaya_call.specs.declared.copy.carry.Carry.TheVariants as carries;
 ghost use Rattle.papaya_call.specs.declared.copy.settle.Settle.TheVariants as settles;
 ghost use Rattle.papaya_words.specs.Word.{live_word, pair_of};
 ghost use Rattle.papaya_map_book.specs.declared.rule.entry.Event.{Event};
 ghost use Rattle.papaya_map_book.specs.Windows.{Observes};
 ghost use Rattle.papaya_map_change.specs.Settling.{at_slot};
-ghost use Rattle.papaya_map_change.specs.Window.Settling.{CanLead, CanLeadAt, Ends, IsAt, IsPlacedAt, Leaves, LeavesFrom};
-ghost use Rattle.papaya_map_change.specs.Window.Settling.{LooksOn, WaitsAt, looking, placing, reading, stop_in, stop_seen};
+ghost use Rattle.papaya_map_change.specs.Window.Settling.{CanStep, CanStepAt, Ends, IsAt, IsPlacedAt, Leaves, LeavesFrom};
+ghost use Rattle.papaya_map_change.specs.Window.Settling.{ProbesOn, WaitsAt, looking, placing, reading, stop_in, stop_seen};
 
 use crate::copier::{Copier, load_hint_at, size_at, write_hint_at};
 use papaya_call::ask::{Answer as CallAnswer, At, StepKind};
@@ -99,7 +99,7 @@ impl<K: Hash + Eq, V, S: BuildHasher> Copier<K, V, S> {
         window: &mut Window<'a, K, V, S>,
     ) -> Option<Halt>
         requires placed { IsPlacedAt window.old site.now }
-        requires can { CanLeadAt window.old site.now (settles.Finishing marked) self.old }
+        requires can { CanStepAt window.old site.now (settles.Finishing marked) self.old }
         ensures sees { Observes window.old window.new }
         ensures leaves { Leaves window.old site.now (settles.Finishing marked) self.old window.new
             self.new result }
@@ -128,7 +128,7 @@ impl<K: Hash + Eq, V, S: BuildHasher> Copier<K, V, S> {
     ) -> Option<Halt>
         requires placed { IsPlacedAt window.old site.now }
         requires at { IsAt window.old moving.now }
-        requires can { CanLeadAt window.old site.now (placing moving.now) self.old }
+        requires can { CanStepAt window.old site.now (placing moving.now) self.old }
         ensures sees { Observes window.old window.new }
         ensures leaves { Leaves window.old site.now (placing moving.now) self.old window.new self.new
             result }
@@ -162,7 +162,7 @@ impl<K: Hash + Eq, V, S: BuildHasher> Copier<K, V, S> {
     ) -> Option<Halt>
         requires placed { IsPlacedAt window.old site.now }
         requires at { IsAt window.old moving.now }
-        requires can { CanLeadAt window.old site.now (reading moving.now) self.old }
+        requires can { CanStepAt window.old site.now (reading moving.now) self.old }
         ensures sees { Observes window.old window.new }
         ensures leaves { Leaves window.old site.now (reading moving.now) self.old window.new self.new
             result }
@@ -180,7 +180,7 @@ impl<K: Hash + Eq, V, S: BuildHasher> Copier<K, V, S> {
 
     /// Looks at one place of the next table for the pair that moves.
     #[inline(always)]
-    fn look<'a>(
+    fn probe_place<'a>(
         &mut self,
         site: &Site<'a, K, V, S>,
         moving: &Moving<'a, K, V, S>,
@@ -188,9 +188,9 @@ impl<K: Hash + Eq, V, S: BuildHasher> Copier<K, V, S> {
     ) -> MoveStep
         requires placed { IsPlacedAt window.old site.now }
         requires at { IsAt window.old moving.now }
-        requires can { CanLeadAt window.old site.now (looking moving.now) self.old }
+        requires can { CanStepAt window.old site.now (looking moving.now) self.old }
         ensures sees { Observes window.old window.new }
-        ensures looks { LooksOn window.old site.now moving.now self.old window.new self.new result }
+        ensures looks { ProbesOn window.old site.now moving.now self.old window.new self.new result }
     {
         let (hash, place) = (moving.hash, moving.place);
         let found = load_hint_at(moving.to, place.table, place.probe.i, window);
@@ -217,14 +217,14 @@ impl<K: Hash + Eq, V, S: BuildHasher> Copier<K, V, S> {
     ) -> Option<Halt>
         requires placed { IsPlacedAt window.old site.now }
         requires at { IsAt window.old first }
-        requires can { CanLeadAt window.old site.now (looking first) self.old }
+        requires can { CanStepAt window.old site.now (looking first) self.old }
         ensures sees { Observes window.old window.new }
         ensures leaves { Leaves window.old site.now (looking first.entry) self.old window.new
             self.new result }
     {
         let mut moving = first;
         loop {
-            match self.look(site, &moving, window) {
+            match self.probe_place(site, &moving, window) {
                 MoveStep::Next(next) => moving.place = next,
                 MoveStep::Left(left) => return left,
             }
@@ -240,7 +240,7 @@ impl<K: Hash + Eq, V, S: BuildHasher> Copier<K, V, S> {
         window: &mut Window<'a, K, V, S>,
     ) -> Option<Halt>
         requires placed { IsPlacedAt window.old site.now }
-        requires can { CanLeadAt window.old site.now
+        requires can { CanStepAt window.old site.now
             (settles.Carrying marked (carries.Hashing site.now.chunk.cursor.to)) self.old }
         ensures sees { Observes window.old window.new }
         ensures leaves { Leaves window.old site.now
@@ -269,7 +269,7 @@ impl<K: Hash + Eq, V, S: BuildHasher> Copier<K, V, S> {
         window: &mut Window<'a, K, V, S>,
     ) -> Option<Halt>
         requires placed { IsPlacedAt window.old site.now }
-        requires can { CanLeadAt window.old site.now (settles.Marking word) self.old }
+        requires can { CanStepAt window.old site.now (settles.Marking word) self.old }
         ensures sees { Observes window.old window.new }
         ensures leaves { Leaves window.old site.now (settles.Marking word) self.old window.new
             self.new result }
@@ -302,7 +302,7 @@ impl<K: Hash + Eq, V, S: BuildHasher> Copier<K, V, S> {
         window: &mut Window<'a, K, V, S>,
     ) -> Option<Halt>
         requires placed { IsPlacedAt window.old site.now }
-        requires can { CanLeadAt window.old site.now settles.Closing self.old }
+        requires can { CanStepAt window.old site.now settles.Closing self.old }
         ensures sees { Observes window.old window.new }
         ensures leaves { Leaves window.old site.now settles.Closing self.old window.new self.new
             result }
@@ -368,11 +368,11 @@ impl<K: Hash + Eq, V, S: BuildHasher> Copier<K, V, S> {
         mode: ResizeMode,
         window: &mut Window<'a, K, V, S>,
     ) -> (Copying, Answer)
-        requires standing { IsStandingChunk chunk }
-        requires can { CanLead window.old mode
+        requires valid { IsValidChunk chunk }
+        requires can { CanStep window.old mode
             (stop_in window.old (at_slot aim chunk settles.Looking) self.old) }
         ensures sees { Observes window.old window.new }
-        ensures standing { IsStandingCopying result.0 }
+        ensures valid { IsValidCopying result.0 }
         ensures fit { IsFit result.1 }
         ensures ends { Ends window.old mode (at_slot aim chunk settles.Looking) self.old window.new
             self.new result }

@@ -1,11 +1,11 @@
 //! The shared part of calls that insert: their machine's asks, performed by steps on the book.
 ghost use Rattle.papaya_map_book.specs.Windows.{IsIn};
-ghost use Rattle.papaya_map_change.specs.Window.LookingOn.{GoesOver};
-ghost use Rattle.papaya_map_change.specs.Window.Writing.{CanPut, CanWrite, Logs, MakesPart, Puts, Steps, Tries, Waits, Writes};
+ghost use Rattle.papaya_map_change.specs.Window.ProbingOn.{HasPassedOver};
+ghost use Rattle.papaya_map_change.specs.Window.Writing.{CanPut, CanWrite, StoresEntry, MakesPart, Puts, Steps, Tries, Waits, Writes};
 ghost use Rattle.papaya_map_change.specs.Window.Writing.{WritesOn};
 ghost use Rattle.std.specs.Prelude.{◌≡◌, ◌⊎◌, ℕ, ◌<◌, ◌^◌, IfErr, IfOk, None, Some};
 ghost use Rattle.papaya_call.specs.Machine.{ask_of as call_ask_of};
-ghost use Rattle.papaya_call.specs.ChainMachine.{IsStanding, ask_of, kind_of_ask};
+ghost use Rattle.papaya_call.specs.ChainMachine.{IsValid, ask_of, kind_of_ask};
 ghost use Rattle.papaya_call.specs.declared.chain.ask.Ask.TheVariants.{Call};
 ghost use Rattle.papaya_call.specs.declared.chain.machine.Phase.TheVariants.{Calling};
 ghost use Rattle.papaya_call.specs.Search.{IsSize};
@@ -18,7 +18,7 @@ ghost use Rattle.papaya_map_book.specs.Plays.{IsPutting};
 ghost use Rattle.papaya_map_lookup.specs.History.{key_of};
 ghost use Rattle.papaya_map_book.specs.Limits.{IsFull};
 ghost use Rattle.papaya_map_book.specs.PairParts.{key_in};
-ghost use Rattle.papaya_map_change.specs.Writing.{IsUnsaid, TellsTaken};
+ghost use Rattle.papaya_map_change.specs.Writing.{IsWithoutResult, IsTakenCount};
 ghost use Rattle.papaya_map_book.specs.declared.rule.entry.Named.TheVariants.{Pair as PairNamed};
 
 use crate::driver::Driver;
@@ -45,9 +45,9 @@ impl<'a, K: Hash + Eq + Drop, V: Drop, S: BuildHasher> Writer<'a, K, V, S> {
     /// Loads a word.
     pub fn load(&mut self, at: At, window: &mut Window<'a, K, V, S>) -> Answer
         requires waits { Waits window.old self.old (Load at) }
-        requires standing { IsStanding self.old.call.machine }
+        requires valid { IsValid self.old.call.machine }
         ensures steps { Steps window.old self.old window.new self.new result }
-        ensures tells { TellsTaken window.new.sight.log (call_ask_of self.old.call.machine.call)
+        ensures tells { IsTakenCount window.new.sight.log (call_ask_of self.old.call.machine.call)
             result }
     {
         Answer::Word(self.call.load(at, window))
@@ -56,9 +56,9 @@ impl<'a, K: Hash + Eq + Drop, V: Drop, S: BuildHasher> Writer<'a, K, V, S> {
     /// Tries to take the number of a further pair, in a map that has a limit on them.
     pub fn take(&self, words: (u64, u64), window: &mut Window<'a, K, V, S>) -> Answer
         requires waits { Waits window.old self.now (Exchange MadeWord words.0 words.1) }
-        requires standing { IsStanding self.now.call.machine }
+        requires valid { IsValid self.now.call.machine }
         ensures steps { Steps window.old self.now window.new self.now result }
-        ensures tells { TellsTaken window.new.sight.log (call_ask_of self.now.call.machine.call)
+        ensures tells { IsTakenCount window.new.sight.log (call_ask_of self.now.call.machine.call)
             result }
     {
         self.call.take(words, window)
@@ -90,7 +90,7 @@ impl<'a, K: Hash + Eq + Drop, V: Drop, S: BuildHasher> Writer<'a, K, V, S> {
     /// Returns the size of the table.
     pub fn size(&self, window: &Window<'a, K, V, S>) -> Answer
         requires waits { (t : ℕ) × Waits window.now self.now (SizeOf t) }
-        requires standing { IsStanding self.now.call.machine }
+        requires valid { IsValid self.now.call.machine }
         ensures steps { Steps window.now self.now window.now self.now result }
     {
         self.call.size()
@@ -99,7 +99,7 @@ impl<'a, K: Hash + Eq + Drop, V: Drop, S: BuildHasher> Writer<'a, K, V, S> {
     /// Returns whether the pair last loaded has a key that equals the call's.
     pub fn same(&self, window: &Window<'a, K, V, S>) -> Answer
         requires waits { (n : ℕ) × Waits window.now self.now (SameKey n) }
-        requires standing { IsStanding self.now.call.machine }
+        requires valid { IsValid self.now.call.machine }
         ensures steps { Steps window.now self.now window.now self.now result }
     {
         let Some(last) = &self.call.copier.last else {
@@ -117,18 +117,18 @@ impl<'a, K: Hash + Eq + Drop, V: Drop, S: BuildHasher> Writer<'a, K, V, S> {
 
     /// Moves a call that searches a table for its key past the places with other keys.
     #[inline(always)]
-    pub fn look_on(&mut self, window: &mut Window<'a, K, V, S>)
+    pub fn probe_on(&mut self, window: &mut Window<'a, K, V, S>)
         requires can { CanWrite window.old self.old }
-        requires standing { IsStanding self.old.call.machine }
+        requires valid { IsValid self.old.call.machine }
         requires calling { self.old.call.machine.phase ≡ Calling }
-        ensures over { GoesOver window.old self.old.call window.new self.new.call }
+        ensures over { HasPassedOver window.old self.old.call window.new self.new.call }
         ensures looks { WritesOn window.old self.old window.new self.new }
         ensures rest { self.new ≡ record self.old { call = self.new.call } }
     {
         let book = window.book;
         match &self.key {
-            Some(KeyPart::Own(key)) => self.call.look_on(key, window),
-            Some(KeyPart::Of(pair)) => self.call.look_on(book.key(book.pair(pair)), window),
+            Some(KeyPart::Own(key)) => self.call.probe_on(key, window),
+            Some(KeyPart::Of(pair)) => self.call.probe_on(book.key(book.pair(pair)), window),
             None => unreachable!(),
         }
     }
@@ -138,8 +138,8 @@ impl<'a, K: Hash + Eq + Drop, V: Drop, S: BuildHasher> Writer<'a, K, V, S> {
     pub fn make_part(&self) -> Answer
         requires asks { (ask_of self.now.call.machine ≡ Call MakeKey)
             ⊎ (ask_of self.now.call.machine ≡ Call MakeValue) }
-        requires standing { IsStanding self.now.call.machine }
-        ensures unsaid { IsUnsaid self.now.call.copier.given.done result }
+        requires valid { IsValid self.now.call.machine }
+        ensures unsaid { IsWithoutResult self.now.call.copier.given.done result }
         ensures makes { MakesPart ⟦<S as Keyed<K>>⟧.keys self.now result }
     {
         Answer::Made(0)
@@ -147,15 +147,15 @@ impl<'a, K: Hash + Eq + Drop, V: Drop, S: BuildHasher> Writer<'a, K, V, S> {
 
     /// Stores the pair of the call's key and the value, and returns it. On failure it returns the
     /// answer for the machine.
-    pub fn log_pair<R: Wait>(
+    pub fn store_pair<R: Wait>(
         &mut self,
         rt: &R,
         window: &Window<'a, K, V, S>,
     ) -> Result<Stored<K, V>, Answer>
         requires waits { Waits window.now self.old MakePair }
-        requires standing { IsStanding self.old.call.machine }
+        requires valid { IsValid self.old.call.machine }
         ensures key { IfOk result (λ q. (k : _) → self.old.key ≡ Some k → key_of q ≡ key_in k) }
-        ensures logs { Logs window.now self.old self.new result }
+        ensures stores { StoresEntry window.now self.old self.new result }
     {
         let Some(value) = self.value.take() else {
             return Err(Answer::Ok);
@@ -164,7 +164,7 @@ impl<'a, K: Hash + Eq + Drop, V: Drop, S: BuildHasher> Writer<'a, K, V, S> {
             unreachable!()
         };
         let lane = self.call.machine.call.hash;
-        match window.book.log_pair(rt, lane, key, value) {
+        match window.book.store_pair(rt, lane, key, value) {
             Ok(pair) => {
                 self.key = Some(KeyPart::Of(pair.again()));
                 Ok(self.hold(pair))
@@ -179,16 +179,16 @@ impl<'a, K: Hash + Eq + Drop, V: Drop, S: BuildHasher> Writer<'a, K, V, S> {
 
     /// Stores the pair of the value and the key of the pair last loaded, and returns it. On failure
     /// it returns the answer for the machine.
-    pub fn log_pair_of<R: Wait>(
+    pub fn store_pair_of<R: Wait>(
         &mut self,
         rt: &R,
         window: &Window<'a, K, V, S>,
     ) -> Result<Stored<K, V>, Answer>
         requires waits { (n : ℕ) × Waits window.now self.old (MakePairOf n) }
-        requires standing { IsStanding self.old.call.machine }
+        requires valid { IsValid self.old.call.machine }
         ensures key { IfOk result (λ q. (p : _) → self.old.call.copier.last ≡ Some p
             → key_of q ≡ key_of p) }
-        ensures logs { Logs window.now self.old self.new result }
+        ensures stores { StoresEntry window.now self.old self.new result }
     {
         let Some(value) = self.value.take() else {
             return Err(Answer::Ok);
@@ -199,7 +199,7 @@ impl<'a, K: Hash + Eq + Drop, V: Drop, S: BuildHasher> Writer<'a, K, V, S> {
         let lane = last.index() as u64;
         match window
             .book
-            .log_pair(rt, lane, KeyPart::Of(last.again()), value)
+            .store_pair(rt, lane, KeyPart::Of(last.again()), value)
         {
             Ok(pair) => Ok(self.hold(pair)),
             Err((_, value)) => {
@@ -229,7 +229,7 @@ impl<'a, K: Hash + Eq + Drop, V: Drop, S: BuildHasher> Writer<'a, K, V, S> {
         window: &mut Window<'a, K, V, S>,
     ) -> Answer
         requires waits { Waits window.old self.old (MakeTable len limit chunks) }
-        requires standing { IsStanding self.old.call.machine }
+        requires valid { IsValid self.old.call.machine }
         requires size { IsSize len limit }
         ensures steps { Steps window.old self.old window.new self.new result }
     {
@@ -256,7 +256,7 @@ impl<'a, K: Hash + Eq + Drop, V: Drop, S: BuildHasher> Writer<'a, K, V, S> {
     /// Tries to make the new table the root.
     pub fn open(&mut self, window: &mut Window<'a, K, V, S>) -> Answer
         requires waits { (old : ℕ) × (new : ℕ) × Waits window.old self.old (Exchange Root old new) }
-        requires standing { IsStanding self.old.call.machine }
+        requires valid { IsValid self.old.call.machine }
         ensures steps { Steps window.old self.old window.new self.new result }
     {
         let Some((table, mut seal)) = self.call.copier.fresh.take() else {
@@ -285,7 +285,7 @@ impl<'a, K: Hash + Eq + Drop, V: Drop, S: BuildHasher> Writer<'a, K, V, S> {
         requires asks { ask_of self.old.call.machine ≡ Call (Exchange (Slot number place)
             words.0 words.1) }
         requires kind { IsPutting (kind_of_ask self.old.call.machine) }
-        requires standing { IsStanding self.old.call.machine }
+        requires valid { IsValid self.old.call.machine }
         ensures tries { Tries window.old self.old (Some pair.now) window.new self.new result }
         ensures writes { Puts window.old self.old number place words.0 pair.now window.new self.new
             result }
@@ -309,7 +309,7 @@ impl<'a, K: Hash + Eq + Drop, V: Drop, S: BuildHasher> Writer<'a, K, V, S> {
     ) -> Answer
         requires waits { Waits window.old self.old (Exchange (Slot number place) words.0 words.1) }
         requires kind { kind_of_ask self.old.call.machine ≡ Some Bury }
-        requires standing { IsStanding self.old.call.machine }
+        requires valid { IsValid self.old.call.machine }
         ensures tries { Tries window.old self.old None window.new self.new result }
         ensures writes { Writes window.old self.old window.new self.new result }
     {

@@ -16,7 +16,7 @@ use Rattle.papaya_map_book.specs.Hashes.{hash_of}
 use Rattle.papaya_map_book.specs.Logs.{Stored}
 use Rattle.papaya_map_book.specs.Parts.{begun_of}
 use Rattle.papaya_map_book.specs.Sheets.{Sheet}
-use Rattle.papaya_map_book.specs.Windows.{Does, IsIn, IsLawful, IsLoggedAs, Sees}
+use Rattle.papaya_map_book.specs.Windows.{Does, IsIn, IsLawful, IsStoredAs, Sees}
 use Rattle.papaya_map_book.proofs.Logs.{prefix_trans}
 use Rattle.papaya_map_lookup.specs.Drivers.{own, past}
 use Rattle.papaya_map_lookup.specs.History.{Makes, history_of, key_of}
@@ -25,16 +25,16 @@ use Rattle.papaya_map_lookup.proofs.Histories.{history_since}
 use Rattle.papaya_map_lookup.proofs.KeptKeys.{key_at_stays}
 use Rattle.papaya_map_change.specs.Changes.{IsChangeOf}
 use Rattle.papaya_map_change.specs.Seeking.{Computes, Inserts}
-use Rattle.papaya_map_change.specs.Showings.{IsSamePair, WasHeld}
+use Rattle.papaya_map_change.specs.ClosureCalls.{IsSamePair, WasHeld}
 use Rattle.papaya_map_change.specs.Tries.{Offers, is_put}
 use Rattle.papaya_map_change.specs.Window.Ends.{HasTried}
 use Rattle.papaya_map_change.specs.Writing.{HasKeyAt}
 use Rattle.papaya_map_change.specs.declared.fast_path.Tried.{Tried}
 use Rattle.papaya_map_change.specs.declared.fast_path.ProbeHit.TheVariants.{Empty, Met as MetPair}
 use Rattle.papaya_map_change.proofs.Replacing.{live_full, met_key_there, met_same}
-use Rattle.papaya_map_change.proofs.Showings.{held_wider}
+use Rattle.papaya_map_change.proofs.ClosureCalls.{held_wider}
 use Rattle.papaya_map_change.proofs.Trading.{met_none, met_some}
-use Rattle.papaya_map_compute.specs.FastPath.{ComesTo, HasHeard, IsFoundAt}
+use Rattle.papaya_map_compute.specs.FastPath.{ComesTo, CanStartSince, IsFoundAt}
 use Rattle.papaya_map_compute.specs.declared.fast_path.Attempt.TheVariants.{Over, On}
 use Rattle.papaya_map_compute.specs.declared.fast_path.Start.TheVariants.{Filled, Replaced}
 use Rattle.papaya_map_compute.proofs.Found.{none_found, pair_found, pair_live, pair_placed}
@@ -111,8 +111,8 @@ module _ {K V S H : Type 0} (eq : K → K → Bool) (input : K → List (List �
           subst (λ (o : Option (Stored K V)). IsChangeOf (eq key) (history_of begun) (past then) o (Some q)) (met_none t.0 t.1) t.2
 
       pub starts_filled : {T : Type 0} (hash : ℕ) (value : V) (q : Stored K V) → hash ≡ hash_of input build write finish w.book.now.parts.hasher key
-          → IsLawful then → IsLoggedAs then key value q → (done : Operation V T) → done ≡ operation.Insert value
-          → HasHeard then key begun (Filled hash q) ((None, done) ∷ [])
+          → IsLawful then → IsStoredAs then key value q → (done : Operation V T) → done ≡ operation.Insert value
+          → CanStartSince then key begun (Filled hash q) ((None, done) ∷ [])
       starts_filled hash value q hashed lawful l done is =
           let there = found Computes (Offering (At at)) refl in (
             (
@@ -148,8 +148,8 @@ module _ {K V S H : Type 0} (eq : K → K → Bool) (input : K → List (List �
           (z.0, z.2, subst (λ (o : Option (Stored K V)). IsChangeOf (eq key) (history_of begun) (past then) o (Some q)) z.1 t.2)
 
       pub starts_replaced : {T : Type 0} (hash : ℕ) (value : V) (q : Stored K V) → hash ≡ hash_of input build write finish w.book.now.parts.hasher key
-          → IsLawful then → IsLoggedAs then (key_of met.stored) value q → (done : Operation V T) → done ≡ operation.Insert value
-          → HasHeard then key begun (Replaced key hash met q) ((Some met.stored, done) ∷ [])
+          → IsLawful then → IsStoredAs then (key_of met.stored) value q → (done : Operation V T) → done ≡ operation.Insert value
+          → CanStartSince then key begun (Replaced key hash met q) ((Some met.stored, done) ∷ [])
       starts_replaced hash value q hashed lawful l done is =
           let b = begun_of w.book.now.parts in let name = w.book.now.begun.book in let log = w.sight.log in let p = met.stored in
           let there = found Computes (Showing (record { place = met.place; word = met.word })) refl in

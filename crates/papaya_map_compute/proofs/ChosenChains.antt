@@ -16,10 +16,10 @@ use Rattle.papaya_map_compute.proofs.ChosenSlots.{machine_choice, machine_puts, 
 
 module _ (m : Machine) (answer : Answer) (order : IsInOrder m answer m.phase) where
   -- what it puts in the place of a pair was made for that slot
-  pub chain_puts : m.call.task ≡ Compute → calls.IsStanding m.call → PutsChosen m.call → PutsChosen (after m answer).call
-  chain_puts is standing puts = elim (machine_goes m answer order) [
+  pub chain_puts : m.call.task ≡ Compute → calls.IsValid m.call → PutsChosen m.call → PutsChosen (after m answer).call
+  chain_puts is valid puts = elim (machine_goes m answer order) [
     | inl waits ↦ subst PutsChosen (sym waits.call) puts
-    | inr (inl own) ↦ subst PutsChosen (sym own.call) (machine_puts m.call own.told is standing puts)
+    | inr (inl own) ↦ subst PutsChosen (sym own.call) (machine_puts m.call own.told is valid puts)
     | inr (inr (inl enters)) ↦ subst PutsChosen (sym enters.call) tt
     | inr (inr (inr (inl begins))) ↦ subst PutsChosen (sym begins.call) (puts_anew m.call begins.root is)
     | inr (inr (inr (inr ends))) ↦ subst PutsChosen (sym ends.call) tt

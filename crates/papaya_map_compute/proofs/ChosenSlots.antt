@@ -45,7 +45,7 @@ use Rattle.papaya_call.specs.declared.made.Made.{Made}
 use Rattle.papaya_call.specs.declared.made.Of.{Of}
 use Rattle.papaya_call.specs.declared.write.Write.{Write}
 use Rattle.papaya_call.specs.Compute.{fills, in_place_of, recalled, recalls}
-use Rattle.papaya_call.specs.Machine.{IsStanding, IsStandingState, absent, after, ask_of, asks}
+use Rattle.papaya_call.specs.Machine.{IsValid, IsValidState, absent, after, ask_of, asks}
 use Rattle.papaya_call.specs.Machine.{at_root, computes, goes_as, held_at_op, held_in, kind_asked}
 use Rattle.papaya_call.specs.Machine.{kind_of_ask, left, paired, paired_held, written}
 use Rattle.papaya_call.specs.Made.{grown, pair_ask, serves_at, told}
@@ -131,7 +131,7 @@ module _ (m : Machine) where
   abbrev on : Made → State → Machine
   on made stage = record m { task = Compute; made = made; state = stage }
 
-  puts_in : (made : Made) (stage : State) (answer : Answer) → IsStandingState Compute stage → PutsIn m.remembered.choice stage
+  puts_in : (made : Made) (stage : State) (answer : Answer) → IsValidState Compute stage → PutsIn m.remembered.choice stage
       → PutsChosen (after (on made stage) answer)
   puts_in made AtRoot (Word_read word) is h = root_puts m.remembered.choice m.remembered.fill word
   puts_in made AtRoot answer is h = tt
@@ -174,9 +174,9 @@ module _ (m : Machine) where
   puts_in made (Ended reply) answer is h = tt
 
   -- of a compute
-  pub machine_puts : (answer : Answer) → m.task ≡ Compute → IsStanding m → PutsChosen m → PutsChosen (after m answer)
-  machine_puts answer is standing h = subst (λ t. IsStandingState t m.state → PutsChosen (after (record m { task = t }) answer)) (sym is)
-      (λ s. puts_in m.made m.state answer s h) standing.state
+  pub machine_puts : (answer : Answer) → m.task ≡ Compute → IsValid m → PutsChosen m → PutsChosen (after m answer)
+  machine_puts answer is valid h = subst (λ t. IsValidState t m.state → PutsChosen (after (record m { task = t }) answer)) (sym is)
+      (λ s. puts_in m.made m.state answer s h) valid.state
 
 -- so does one that is told of the root as one that begins
 pub puts_anew : (m : Machine) (root : ℕ) → m.task ≡ Compute → PutsChosen (after (record m { state = AtRoot }) (Word_read root))
@@ -247,7 +247,7 @@ module _ (m : Machine) (t x old new : ℕ) where
       }
 
   -- in each stage
-  slot_in : (stage : State) → IsStandingState Compute stage → PutsIn m.remembered.choice stage
+  slot_in : (stage : State) → IsValidState Compute stage → PutsIn m.remembered.choice stage
       → asks m.made m.hash stage ≡ Ask_exchange (Slot t x) old new → kind_asked m.made stage ≡ Some kinds.Replace → 0 < old → ForSlot stage
   slot_in (Putting put) is puts e kind some = put_slot put puts e some
   slot_in (Burying removal) is puts e kind some = absurd cc
@@ -259,6 +259,6 @@ module _ (m : Machine) (t x old new : ℕ) where
   slot_in (Searching (Comparing at word)) is puts e kind some = absurd cc
   slot_in stage is puts e kind some = absurd cc
 
-  pub machine_slot : m.task ≡ Compute → IsStanding m → PutsChosen m → ask_of m ≡ Ask_exchange (Slot t x) old new → kind_of_ask m ≡ Some kinds.Replace
+  pub machine_slot : m.task ≡ Compute → IsValid m → PutsChosen m → ask_of m ≡ Ask_exchange (Slot t x) old new → kind_of_ask m ≡ Some kinds.Replace
       → 0 < old → IsForSlot m t x old new
-  machine_slot is standing puts e kind some = slot_in m.state (subst (λ (task : Task). IsStandingState task m.state) is standing.state) puts e kind some
+  machine_slot is valid puts e kind some = slot_in m.state (subst (λ (task : Task). IsValidState task m.state) is valid.state) puts e kind some

@@ -28,13 +28,13 @@ use Rattle.papaya_call.specs.declared.chain.ask.Answer.TheVariants as answers
 use Rattle.papaya_call.specs.declared.chain.ask.Ask.TheVariants.{Call}
 use Rattle.papaya_call.specs.declared.chain.machine.Machine.{Machine}
 use Rattle.papaya_call.specs.declared.chain.machine.Phase.TheVariants.{Calling}
-use Rattle.papaya_call.specs.ChainMachine.{IsStanding, after, ask_of}
+use Rattle.papaya_call.specs.ChainMachine.{IsValid, after, ask_of}
 use Rattle.papaya_call_law.specs.Goes.{IsInOrder}
 use Rattle.papaya_call_law.proofs.Names.{call_asks}
 use Rattle.papaya_call_law.proofs.Once.{chain_once}
 use Rattle.papaya_call_law.proofs.Replies.{chain_shows, chain_task}
 use Rattle.papaya_call_law.specs.Relies.{IsAtLimit, IsNumberAsk}
-use Rattle.papaya_call_law.specs.Says.{Agrees, HasShownNone, Inserts, IsAnswered, Makes, Removes, Said, ShowsPairs, StandsOn}
+use Rattle.papaya_call_law.specs.Says.{Agrees, HasCalledNone, Inserts, IsAnswered, Makes, Removes, ClosureResult, NamesPairs, ActsOn}
 use Rattle.papaya_call_law.proofs.Silent.{IsSilent, not_done, not_show}
 use Rattle.papaya_map_compute.specs.declared.slow_path.Computing.{Computing}
 use Rattle.papaya_map_book.specs.declared.rule.entry.Begun.{Begun}
@@ -47,14 +47,14 @@ use Rattle.papaya_map_book.specs.Limits.{HasNoRoom, IsSpent, tables_of}
 use Rattle.papaya_map_book.specs.Rule.{IsLawfulLog}
 use Rattle.papaya_map_lookup.specs.History.{history_of, key_of}
 use Rattle.papaya_map_book.specs.Logs.{Stored}
-use Rattle.papaya_map_change.specs.Showings.{HasNoNone, WasHeld}
-use Rattle.papaya_map_change.specs.Writing.{IsMemoryCapacityOrLimit, IsUnsaid, IsWritingOn, TellsTaken, answered as answered_writer, held_value}
+use Rattle.papaya_map_change.specs.ClosureCalls.{HasNoNone, WasHeld}
+use Rattle.papaya_map_change.specs.Writing.{IsMemoryCapacityOrLimit, IsWithoutResult, IsWritingOn, IsTakenCount, answered as answered_writer, held_value}
 use Rattle.papaya_map_lookup.proofs.Histories.{history_since}
 use Rattle.papaya_map_lookup.proofs.KeptKeys.{key_at_stays}
 use Rattle.papaya_map_change.proofs.OwnSays.{own_stood}
 use Rattle.papaya_map_change.proofs.StepsOfOwn.{own_order}
 use Rattle.papaya_map_change.proofs.Refusals.{refused_for, unsaid_cause, unsaid_room}
-use Rattle.papaya_map_change.proofs.Showings.{all_shown, held_wider}
+use Rattle.papaya_map_change.proofs.ClosureCalls.{all_shown, held_wider}
 use Rattle.papaya_map_change.proofs.Spent.{limit_spent, unsaid_limit}
 use Rattle.papaya_map_compute.proofs.AnsweredValues.{answered_on, answered_stays, silent_no_pair}
 use Rattle.papaya_map_compute.proofs.ChosenChains.{chain_choice, chain_puts}
@@ -117,13 +117,13 @@ left_by_task task kind (AddToShard by) may other = absurd (other.adds by refl)
 left_by_task task kind (Done reply) may other = absurd (other.done reply refl)
 
 -- is what any call asks that inserts
-pub left_to_write : (m : Machine) → IsStanding m → (ask : Ask) → ask_of m ≡ Call ask → IsOther ask → IsWriters ask
-left_to_write m standing ask asks other = left_by_task m.call.task (calls.kind_of_ask m.call) ask
-    (subst (λ (a : Ask). MayAsk m.call.task (calls.kind_of_ask m.call) a) (call_asks m ask asks).1 (asked_of_task m.call standing.call)) other
+pub left_to_write : (m : Machine) → IsValid m → (ask : Ask) → ask_of m ≡ Call ask → IsOther ask → IsWriters ask
+left_to_write m valid ask asks other = left_by_task m.call.task (calls.kind_of_ask m.call) ask
+    (subst (λ (a : Ask). MayAsk m.call.task (calls.kind_of_ask m.call) a) (call_asks m ask asks).1 (asked_of_task m.call valid.call)) other
 
 module _ {K V S H T : Type 0} (key : K) (made : List (Stored K V)) (said : List (Option (Stored K V) × Operation V T)) (x : Computing K V S T H) where
   -- what is at hand stays so, whatever else the writer does, while it keeps the value
-  pub holds_still : (w : Writer K V S H) → w.value ≡ x.writer.value → (stands : Said) → Holds key made said x stands
+  pub holds_still : (w : Writer K V S H) → w.value ≡ x.writer.value → (stands : ClosureResult) → Holds key made said x stands
       → Holds key made said (record x { writer = w }) stands
   holds_still w same (Agrees n agrees) h = h
   holds_still w same (Inserts None) h = (h.0, (h.1.0, ap held_value same ∙ h.1.1, h.1.2))
@@ -162,7 +162,7 @@ module _ {K V S H : Type 0} (eq : K → K → Bool) (input : K → List (List �
     held_later log' pre held h = held_wider eq (eq key) (history_of begun) (history_of begun) (history_of log) (history_of log')
         ([], append-nil (history_of begun)) (history_since log log' pre) held h
 
-    module _ (standing : IsStanding m) (ask : Ask) (asks : ask_of m ≡ Call ask) (is_silent : IsSilent ask) (answer : Answer) where
+    module _ (valid : IsValid m) (ask : Ask) (asks : ask_of m ≡ Call ask) (is_silent : IsSilent ask) (answer : Answer) where
       abbrev own : (m.phase ≡ Calling) × (calls.ask_of m.call ≡ ask)
       own = call_asks m ask asks
 
@@ -179,8 +179,8 @@ module _ {K V S H : Type 0} (eq : K → K → Bool) (input : K → List (List �
       never e = not_show m.call answer silent None (call_asks m ShowNone e).1
 
       -- whether it was shown that there is none
-      none_later : HasNoNone heard ⊎ HasShownNone m.call.remembered.fill m.call.state → HasNoNone heard
-          ⊎ HasShownNone (after m (answers.Call answer)).call.remembered.fill (after m (answers.Call answer)).call.state
+      none_later : HasNoNone heard ⊎ HasCalledNone m.call.remembered.fill m.call.state → HasNoNone heard
+          ⊎ HasCalledNone (after m (answers.Call answer)).call.remembered.fill (after m (answers.Call answer)).call.state
       none_later h = ⊎_elim (λ none. inl none) (λ shown. inr (chain_once m (answers.Call answer) order shown).1) h
 
       -- why it is refused: by what the answer says, or since no number is left for a pair
@@ -201,7 +201,7 @@ module _ {K V S H : Type 0} (eq : K → K → Bool) (input : K → List (List �
 
       -- it goes on after an answer to a silent ask
       pub goes_on : (log' : List (Event K V S)) → IsPrefix log log' → (w : Writer K V S H) → w.call.machine ≡ m → w.value ≡ x.writer.value
-          → IsUnsaid w.call.copier.given.done answer → TellsTaken log' (calls.ask_of m.call) answer → IsWritingOn eq hash b name key r.made begun log' w answer
+          → IsWithoutResult w.call.copier.given.done answer → IsTakenCount log' (calls.ask_of m.call) answer → IsWritingOn eq hash b name key r.made begun log' w answer
           → ComputingOn log' (record x { writer = w }) heard (Some answer)
       goes_on log' pre w same value unsaid tells on =
           let given = w.call.copier.given.done in
@@ -211,21 +211,21 @@ module _ {K V S H : Type 0} (eq : K → K → Bool) (input : K → List (List �
               made = r.made;
               writing = on.0;
               task_is = ap (λ (z : Machine). z.call.task) then ∙ ((chain_task m (answers.Call answer) order).0 ∙ r.task_is);
-              words = subst (λ (z : Machine). ShowsPairs z.call) (sym then) (chain_shows m (answers.Call answer) order r.words);
-              puts = subst (λ (z : Machine). PutsChosen z.call) (sym then) (chain_puts m (answers.Call answer) order r.task_is standing.call r.puts);
+              words = subst (λ (z : Machine). NamesPairs z.call) (sym then) (chain_shows m (answers.Call answer) order r.words);
+              puts = subst (λ (z : Machine). PutsChosen z.call) (sym then) (chain_puts m (answers.Call answer) order r.task_is valid.call r.puts);
               shown_placed = r.shown_placed;
               fill_placed = r.fill_placed;
               chosen_placed = r.chosen_placed;
               held = all_shown (HeldOn log) (HeldOn log') (held_later log' pre) heard r.held;
               none_once = r.none_once;
-              none_shown = subst (λ (z : Machine). HasNoNone heard ⊎ HasShownNone z.call.remembered.fill z.call.state) (sym then) (none_later r.none_shown);
+              none_shown = subst (λ (z : Machine). HasNoNone heard ⊎ HasCalledNone z.call.remembered.fill z.call.state) (sym then) (none_later r.none_shown);
               stood = λ stands h. holds_still key r.made heard x (answered_writer w answer) value stands
-                  (r.stood stands (own_stood m own.0 answer silent standing r.words stands (subst (λ (z : Machine). StandsOn z.call stands) then h)));
+                  (r.stood stands (own_stood m own.0 answer silent valid r.words stands (subst (λ (z : Machine). ActsOn z.call stands) then h)));
               newest = λ i n h.
                   ⊎_elim (λ waits. inl (subst (λ (z : Machine). IsAnswered z.call.state) (sym then) (waits_on waits)))
                   (λ newest. inr (newest_still x (answered_writer w answer) (ap held_value value) newest))
-                  (r.newest i n (own_stood m own.0 answer silent standing r.words (Makes (Some i) n)
-                  (subst (λ (z : Machine). StandsOn z.call (Makes (Some i) n)) then h)));
+                  (r.newest i n (own_stood m own.0 answer silent valid r.words (Makes (Some i) n)
+                  (subst (λ (z : Machine). ActsOn z.call (Makes (Some i) n)) then h)));
               of_slot = λ old new e. let h = r.of_slot old new
                   (chosen_before old new (subst (λ (z : Machine). z.call.remembered.choice ≡ Some (To_replace old new)) then e)) in
                   (h.0, h.1, key_at_stays eq input build write finish classes respects b log log' l' pre new.table new.index (key_of h.0) h.2);
@@ -245,6 +245,6 @@ module _ {K V S H : Type 0} (eq : K → K → Bool) (input : K → List (List �
 
       -- so it does where it was not asked how many numbers for pairs were taken
       pub goes_untold : (IsNumberAsk ask → ⊥) → (log' : List (Event K V S)) → IsPrefix log log' → (w : Writer K V S H) → w.call.machine ≡ m
-          → w.value ≡ x.writer.value → IsUnsaid w.call.copier.given.done answer → IsWritingOn eq hash b name key r.made begun log' w answer
+          → w.value ≡ x.writer.value → IsWithoutResult w.call.copier.given.done answer → IsWritingOn eq hash b name key r.made begun log' w answer
           → ComputingOn log' (record x { writer = w }) heard (Some answer)
       goes_untold other log' pre w same value unsaid on = goes_on log' pre w same value unsaid (λ number. absurd (other (subst IsNumberAsk own.1 number))) on

@@ -20,7 +20,7 @@ use Rattle.papaya_call.specs.ChainMachine.{ask_of}
 use Rattle.papaya_call_law.proofs.Names.{call_asks}
 use Rattle.papaya_call_law.proofs.Once.{aside_filled}
 use Rattle.papaya_call_law.proofs.Replies.{anew}
-use Rattle.papaya_call_law.specs.Says.{HasShownNone, IsAnswered, Makes}
+use Rattle.papaya_call_law.specs.Says.{HasCalledNone, IsAnswered, Makes}
 use Rattle.papaya_call_law.proofs.SaysOnce.{machine_shown}
 use Rattle.papaya_map_book.specs.declared.rule.entry.Begun.{Begun}
 use Rattle.papaya_map_book.specs.declared.rule.entry.Event.{Event}
@@ -36,9 +36,9 @@ use Rattle.papaya_map_lookup.proofs.KeptKeys.{key_at_stays}
 use Rattle.papaya_map_change.specs.declared.driver.Driver.{Driver}
 use Rattle.papaya_map_change.specs.Changing.{IsDriven}
 use Rattle.papaya_map_change.specs.Helping.{HasHelped}
-use Rattle.papaya_map_change.specs.Showings.{WasHeld}
+use Rattle.papaya_map_change.specs.ClosureCalls.{WasHeld}
 use Rattle.papaya_map_change.proofs.Helped.{helped_keeps, room_kept, spent_kept}
-use Rattle.papaya_map_change.proofs.Showings.{all_shown, held_wider}
+use Rattle.papaya_map_change.proofs.ClosureCalls.{all_shown, held_wider}
 use Rattle.papaya_map_compute.specs.declared.slow_path.Computing.{Computing}
 use Rattle.papaya_map_compute.specs.Computing.{IsComputing}
 use Rattle.papaya_map_compute.specs.Putting.{PutsChosen}
@@ -48,15 +48,15 @@ use Rattle.papaya_map_compute.proofs.ComputeGoes.{holds_still, newest_still}
 
 module _ (m m' : Machine) (tables : List ℕ) (given : List CapacityCause) (helped : HasHelped m m' tables given) where
   -- a closure that was shown that there is none has been shown it
-  shown_kept : HasShownNone m.call.remembered.fill m.call.state → HasShownNone m'.call.remembered.fill m'.call.state
+  shown_kept : HasCalledNone m.call.remembered.fill m.call.state → HasCalledNone m'.call.remembered.fill m'.call.state
   shown_kept shown = elim helped [
-    | inl same ↦ subst (λ (z : Machine). HasShownNone z.call.remembered.fill z.call.state) (sym same) shown
-    | inr (inl h) ↦ subst (λ (z : Call_machine). HasShownNone z.remembered.fill z.state) (sym h.call)
+    | inl same ↦ subst (λ (z : Machine). HasCalledNone z.call.remembered.fill z.call.state) (sym same) shown
+    | inr (inl h) ↦ subst (λ (z : Call_machine). HasCalledNone z.remembered.fill z.state) (sym h.call)
         (aside_filled m.call.remembered.fill m.call.state h.from h.left shown)
     | inr (inr (inl h)) ↦
-        subst (λ (z : Call_machine). HasShownNone z.remembered.fill z.state) (sym h.call)
+        subst (λ (z : Call_machine). HasCalledNone z.remembered.fill z.state) (sym h.call)
         (machine_shown (record m.call { state = AtRoot }) (Word_read h.root) (aside_filled m.call.remembered.fill m.call.state h.from h.left shown)).1
-    | inr (inr (inr h)) ↦ subst (λ (z : Call_machine). HasShownNone z.remembered.fill z.state) (sym h.call) tt
+    | inr (inr (inr h)) ↦ subst (λ (z : Call_machine). HasCalledNone z.remembered.fill z.state) (sym h.call) tt
   ]
 
   -- what it is to put in was made for its slot

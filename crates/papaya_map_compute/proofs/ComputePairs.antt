@@ -29,16 +29,16 @@ use Rattle.papaya_call.specs.declared.chain.ask.Answer.TheVariants as answers
 use Rattle.papaya_call.specs.declared.chain.ask.Ask.TheVariants.{Call}
 use Rattle.papaya_call.specs.declared.chain.machine.Machine.{Machine}
 use Rattle.papaya_call.specs.declared.chain.machine.Phase.TheVariants.{Calling}
-use Rattle.papaya_call.specs.ChainMachine.{IsStanding, after, ask_of}
+use Rattle.papaya_call.specs.ChainMachine.{IsValid, after, ask_of}
 use Rattle.papaya_call_law.specs.Goes.{IsInOrder}
 use Rattle.papaya_call_law.proofs.Names.{call_asks}
 use Rattle.papaya_call_law.proofs.Once.{chain_once}
 use Rattle.papaya_call_law.proofs.Replies.{chain_shows, chain_task}
 use Rattle.papaya_call_law.specs.Relies.{IsAtLimit, IsNumberAsk, MayRemove, ReliesStage}
-use Rattle.papaya_call_law.specs.Says.{Agrees, HasShownNone, Inserts, IsAnswered, IsSaidBy}
-use Rattle.papaya_call_law.specs.Says.{KeepsFill, Makes, MakesPair, Removes, Said, ShowsPairs}
-use Rattle.papaya_call_law.specs.Says.{StandsOn, show}
-use Rattle.papaya_call_law.specs.Told.{LoadedPairs}
+use Rattle.papaya_call_law.specs.Says.{Agrees, HasCalledNone, Inserts, IsAnswered, IsResultBy}
+use Rattle.papaya_call_law.specs.Says.{KeepsFill, Makes, MakesPair, Removes, ClosureResult, NamesPairs}
+use Rattle.papaya_call_law.specs.Says.{ActsOn, show}
+use Rattle.papaya_call_law.specs.TrueAnswers.{LoadedPairs}
 use Rattle.papaya_call_law.proofs.SaysSaid.{machine_said}
 use Rattle.papaya_map_compute.specs.declared.slow_path.Computing.{Computing}
 use Rattle.papaya_map_book.specs.declared.rule.entry.Begun.{Begun}
@@ -52,10 +52,10 @@ use Rattle.papaya_map_lookup.specs.Lookups.{coding_for, setting_for}
 use Rattle.papaya_map_lookup.proofs.KeptKeys.{met_key}
 use Rattle.papaya_map_lookup.proofs.Readings.{hashed_with}
 use Rattle.papaya_map_change.specs.declared.writer.Writer.{Writer}
-use Rattle.papaya_map_change.specs.Showings.{HasNoNone}
+use Rattle.papaya_map_change.specs.ClosureCalls.{HasNoNone}
 use Rattle.papaya_map_book.specs.PairParts.{key_in}
 use Rattle.papaya_map_book.specs.declared.book.pairs.KeyPart.{KeyPart}
-use Rattle.papaya_map_change.specs.Writing.{HasKey, HasKeyAt, IsMemoryCapacityOrLimit, IsUnlogged, IsUnsaid, IsWritingOn, held_value}
+use Rattle.papaya_map_change.specs.Writing.{HasKey, HasKeyAt, IsMemoryCapacityOrLimit, IsNotStored, IsWithoutResult, IsWritingOn, held_value}
 use Rattle.papaya_map_change.proofs.StepsOfOwn.{own_order}
 use Rattle.papaya_map_change.proofs.Refusals.{refused_for, unsaid_cause, unsaid_room}
 use Rattle.papaya_map_change.proofs.Spent.{unsaid_limit}
@@ -80,7 +80,7 @@ pair_no_number (MakePairOf n) makes number = number
 pair_no_number ask makes number = absurd makes
 
 -- an answer that logged no pair is no number
-unlogged_no_number : (answer : Answer) → IsUnlogged answer → (n : ℕ) → answer ≡ Made_number n → ⊥
+unlogged_no_number : (answer : Answer) → IsNotStored answer → (n : ℕ) → answer ≡ Made_number n → ⊥
 unlogged_no_number answer unlogged n e =
     ⊎_elim (λ k. ⊎_elim (λ i. let g = sym i ∙ e in cc g) (λ i. let g = sym i ∙ e in cc g) k) (λ i. let g = sym i ∙ e in cc g) unlogged
 
@@ -120,7 +120,7 @@ module _ (m : Machine) (answer : Answer) (ask : Ask) (asks : ask_of m ≡ Call a
 
 module _ {K V S T H : Type 0} (eq : K → K → Bool) (hash : S → K → ℕ) (b : Begun K V S) (name : Book) (key : K) (begun log : List (Event K V S))
     (x : Computing K V S T H) (heard : List (Option (Stored K V) × Operation V T)) (r : IsComputing eq hash b name key begun log x heard)
-    (standing : IsStanding x.writer.call.machine) where
+    (valid : IsValid x.writer.call.machine) where
   abbrev chain : Machine
   chain = x.writer.call.machine
 
@@ -140,10 +140,10 @@ module _ {K V S T H : Type 0} (eq : K → K → Bool) (hash : S → K → ℕ) (
 
   module _ (ask : Ask) (asks : ask_of chain ≡ Call ask) (makes : MakesPair ask) where
     goes_on : (made' : List (Stored K V)) (w : Writer K V S H) (chosen fill made : Option (Stored K V)) (answer : Answer) → w.call.machine ≡ chain
-        → IsUnsaid w.call.copier.given.done answer → IsWritingOn eq hash b name key made' begun log w answer → IsPlaced b (Some name) (pair_named chosen)
+        → IsWithoutResult w.call.copier.given.done answer → IsWritingOn eq hash b name key made' begun log w answer → IsPlaced b (Some name) (pair_named chosen)
         → IsPlaced b (Some name) (pair_named fill)
-        → ((stands : Said) → StandsOn (calls.after m answer) stands → Holds key made' heard (with_pairs w chosen fill made) stands)
-        → ((i n : ℕ) → StandsOn (calls.after m answer) (Makes (Some i) n) → IsAnswered (calls.after m answer).state
+        → ((stands : ClosureResult) → ActsOn (calls.after m answer) stands → Holds key made' heard (with_pairs w chosen fill made) stands)
+        → ((i n : ℕ) → ActsOn (calls.after m answer) (Makes (Some i) n) → IsAnswered (calls.after m answer).state
         ⊎ IsNewest (with_pairs w chosen fill made))
         → ((old : ℕ) (new : Of) → (calls.after m answer).remembered.choice ≡ Some (To_replace old new) → KeepsSlot made new)
         → On (with_pairs w chosen fill made) answer
@@ -157,19 +157,19 @@ module _ {K V S T H : Type 0} (eq : K → K → Bool) (hash : S → K → ℕ) (
             made = made';
             writing = on.0;
             task_is = ap (λ (z : Machine). z.call.task) then ∙ ((chain_task chain (answers.Call answer) led).0 ∙ r.task_is);
-            words = subst (λ (z : Machine). ShowsPairs z.call) (sym then) (chain_shows chain (answers.Call answer) led r.words);
-            puts = subst (λ (z : Machine). PutsChosen z.call) (sym then) (chain_puts chain (answers.Call answer) led r.task_is standing.call r.puts);
+            words = subst (λ (z : Machine). NamesPairs z.call) (sym then) (chain_shows chain (answers.Call answer) led r.words);
+            puts = subst (λ (z : Machine). PutsChosen z.call) (sym then) (chain_puts chain (answers.Call answer) led r.task_is valid.call r.puts);
             shown_placed = r.shown_placed;
             fill_placed = fills;
             chosen_placed = placed;
             held = r.held;
             none_once = r.none_once;
-            none_shown = subst (λ (z : Machine). HasNoNone heard ⊎ HasShownNone z.call.remembered.fill z.call.state) (sym then)
+            none_shown = subst (λ (z : Machine). HasNoNone heard ⊎ HasCalledNone z.call.remembered.fill z.call.state) (sym then)
                 (⊎_elim (λ none. inl none) (λ shown. inr (chain_once chain (answers.Call answer) led shown).1) r.none_shown);
-            stood = λ stands h. stood stands (subst (λ (z : Call_machine). StandsOn z stands) call_is h);
+            stood = λ stands h. stood stands (subst (λ (z : Call_machine). ActsOn z stands) call_is h);
             newest = λ i n h. ⊎_elim (λ waits. inl (subst (λ (z : Call_machine). IsAnswered z.state) (sym call_is) waits))
                 (λ (new : IsNewest (with_pairs w chosen fill made)). inr (record { shown = new.shown; made = new.made }))
-                (newest i n (subst (λ (z : Call_machine). StandsOn z (Makes (Some i) n)) call_is h));
+                (newest i n (subst (λ (z : Call_machine). ActsOn z (Makes (Some i) n)) call_is h));
             of_slot = λ old new e. of_slot old new (ap (λ (z : Call_machine). z.remembered.choice) (sym call_is) ∙ e);
             aborts = λ with e. absurd (no_abort chain answer ask asks makes with (ap ask_of (sym then) ∙ e));
             refuses = λ cause e. inl (refused chain answer ask asks makes IsMemoryCapacityOrLimit (λ c h. inl (unsaid_cause given answer unsaid c h))
@@ -184,7 +184,7 @@ module _ {K V S T H : Type 0} (eq : K → K → Bool) (hash : S → K → ℕ) (
         )
 
     -- what is at hand stays so, where the value does
-    still : (w : Writer K V S H) → held_value w.value ≡ held_value x.writer.value → (stands : Said) → Holds key r.made heard x stands
+    still : (w : Writer K V S H) → held_value w.value ≡ held_value x.writer.value → (stands : ClosureResult) → Holds key r.made heard x stands
         → Holds key r.made heard (with_pairs w x.chosen x.fill x.made) stands
     still w same (Agrees n agrees) h = h
     still w same (Inserts None) h = (h.0, (h.1.0, same ∙ h.1.1, h.1.2))
@@ -194,22 +194,22 @@ module _ {K V S T H : Type 0} (eq : K → K → Bool) (hash : S → K → ℕ) (
     still w same (Removes n) h = h
 
     -- no pair was made
-    pub unmade : (w : Writer K V S H) (answer : Answer) → w.call.machine ≡ chain → IsUnlogged answer → IsUnsaid w.call.copier.given.done answer
+    pub unmade : (w : Writer K V S H) (answer : Answer) → w.call.machine ≡ chain → IsNotStored answer → IsWithoutResult w.call.copier.given.done answer
         → held_value w.value ≡ held_value x.writer.value → IsWritingOn eq hash b name key r.made begun log w answer
         → On (with_pairs w x.chosen x.fill x.made) answer
     unmade w answer same unlogged unsaid kept on = goes_on r.made w x.chosen x.fill x.made answer same unsaid on r.chosen_placed r.fill_placed stood
         newest of_slot
       where
-        unsaid_now : (stands : Said) → IsSaidBy m answer stands → ⊥
+        unsaid_now : (stands : ClosureResult) → IsResultBy m answer stands → ⊥
         unsaid_now (Agrees n agrees) h = not_show chain answer ask asks makes (Some n) h.0
         unsaid_now (Inserts shown) h = not_show chain answer ask asks makes shown h.0
         unsaid_now (Makes shown n) h = unlogged_no_number answer unlogged n h.2
         unsaid_now (Removes n) h = not_show chain answer ask asks makes (Some n) h.0
 
-        before : (stands : Said) → StandsOn (calls.after m answer) stands → StandsOn m stands
-        before stands h = ⊎_elim (λ k. k) (λ k. absurd (unsaid_now stands k)) (machine_said m answer stands standing.call r.words h)
+        before : (stands : ClosureResult) → ActsOn (calls.after m answer) stands → ActsOn m stands
+        before stands h = ⊎_elim (λ k. k) (λ k. absurd (unsaid_now stands k)) (machine_said m answer stands valid.call r.words h)
 
-        stood : (stands : Said) → StandsOn (calls.after m answer) stands → Holds key r.made heard (with_pairs w x.chosen x.fill x.made) stands
+        stood : (stands : ClosureResult) → ActsOn (calls.after m answer) stands → Holds key r.made heard (with_pairs w x.chosen x.fill x.made) stands
         stood stands h = still w kept stands (r.stood stands (before stands h))
 
         waits_on : IsAnswered m.state → IsAnswered (calls.after m answer).state
@@ -219,7 +219,7 @@ module _ {K V S T H : Type 0} (eq : K → K → Bool) (hash : S → K → ℕ) (
             (λ i. subst (λ (a : Answer). IsAnswered (calls.after m a).state) (sym i) (answered_ok m waits))
             unlogged
 
-        newest : (i n : ℕ) → StandsOn (calls.after m answer) (Makes (Some i) n) → IsAnswered (calls.after m answer).state
+        newest : (i n : ℕ) → ActsOn (calls.after m answer) (Makes (Some i) n) → IsAnswered (calls.after m answer).state
             ⊎ IsNewest (with_pairs w x.chosen x.fill x.made)
         newest i n h = ⊎_elim (λ waits. inl (waits_on waits))
             (λ (new : IsNewest x). inr (record { shown = new.shown; made = (new.made.0, new.made.1, kept ∙ new.made.2) }))
@@ -250,16 +250,16 @@ module _ {K V S T H : Type 0} (eq : K → K → Bool) (hash : S → K → ℕ) (
         r.chosen_placed (on.0.calling.made_placed q (inl refl)) stood newest of_slot
       where
         fills : IsFilling m q.index
-        fills = machine_filling m q.index r.task_is standing.call r.words (call_asks chain MakePair asks).1
+        fills = machine_filling m q.index r.task_is valid.call r.words (call_asks chain MakePair asks).1
 
-        stood : (stands : Said) → StandsOn (calls.after m (Made_number q.index)) stands
+        stood : (stands : ClosureResult) → ActsOn (calls.after m (Made_number q.index)) stands
             → Holds key (q ∷ r.made) heard (with_pairs w x.chosen (Some q) x.made) stands
         stood stands h =
             let s = r.stood (Inserts None) fills.said in
-            subst (λ (z : Said). Holds key (q ∷ r.made) heard (with_pairs w x.chosen (Some q) x.made) z) (sym (fills.then stands h))
+            subst (λ (z : ClosureResult). Holds key (q ∷ r.made) heard (with_pairs w x.chosen (Some q) x.made) z) (sym (fills.then stands h))
             (q, refl, record { number = refl; made_is = inl refl; key_is = key_is; said_is = value_is s.1.0 None s.1.1 s.1.2 })
 
-        newest : (i n : ℕ) → StandsOn (calls.after m (Made_number q.index)) (Makes (Some i) n)
+        newest : (i n : ℕ) → ActsOn (calls.after m (Made_number q.index)) (Makes (Some i) n)
             → IsAnswered (calls.after m (Made_number q.index)).state ⊎ IsNewest (with_pairs w x.chosen (Some q) x.made)
         newest i n h = let e = fills.then (Makes (Some i) n) h in absurd (cc e)
 
@@ -277,7 +277,7 @@ module _ {K V S T H : Type 0} (eq : K → K → Bool) (hash : S → K → ℕ) (
     loaded = record { last = x.writer.call.copier.last; made = r.made }
 
     pub replaces : (n : ℕ) → IsReplacing m i n
-    replaces n = machine_replacing m n i r.task_is standing.call r.words (call_asks chain (MakePairOf i) asks).1
+    replaces n = machine_replacing m n i r.task_is valid.call r.words (call_asks chain (MakePairOf i) asks).1
 
     -- it met the pair whose place the new one is to take
     abbrev Meets : Write → Type 0
@@ -351,14 +351,14 @@ module _ {K V S T H : Type 0} (eq : K → K → Bool) (hash : S → K → ℕ) (
           fill_still : (j : ℕ) → Holds key r.made heard x (Makes None j) → Holds key (q ∷ r.made) heard (now_with p) (Makes None j)
           fill_still j h = (h.0, h.1, made_still key r.made heard q None j h.0 h.2)
 
-          stood : (stands : Said) → StandsOn (calls.after m (Made_number q.index)) stands → Holds key (q ∷ r.made) heard (now_with p) stands
+          stood : (stands : ClosureResult) → ActsOn (calls.after m (Made_number q.index)) stands → Holds key (q ∷ r.made) heard (now_with p) stands
           stood stands h = ⊎_elim
-              (λ e. subst (λ (z : Said). Holds key (q ∷ r.made) heard (now_with p) z) (sym e) (p, q, refl, number, refl, made_now))
-              (λ (a : KeepsFill m stands). subst (λ (z : Said). Holds key (q ∷ r.made) heard (now_with p) z) (sym a.1)
-              (fill_still a.0 (r.stood (Makes None a.0) (subst (λ (z : Said). StandsOn m z) a.1 a.2))))
+              (λ e. subst (λ (z : ClosureResult). Holds key (q ∷ r.made) heard (now_with p) z) (sym e) (p, q, refl, number, refl, made_now))
+              (λ (a : KeepsFill m stands). subst (λ (z : ClosureResult). Holds key (q ∷ r.made) heard (now_with p) z) (sym a.1)
+              (fill_still a.0 (r.stood (Makes None a.0) (subst (λ (z : ClosureResult). ActsOn m z) a.1 a.2))))
               (by.then stands h)
 
-          newest : (j n : ℕ) → StandsOn (calls.after m (Made_number q.index)) (Makes (Some j) n)
+          newest : (j n : ℕ) → ActsOn (calls.after m (Made_number q.index)) (Makes (Some j) n)
               → IsAnswered (calls.after m (Made_number q.index)).state ⊎ IsNewest (now_with p)
           newest j n h = inr (record { shown = shown; made = (q, refl, left ∙ had) })
 
@@ -381,7 +381,7 @@ module _ {K V S T H : Type 0} (eq : K → K → Bool) (input : K → List (List 
     (classes : IsEquivalence eq) (respects : (x y : K) → eq x y ≡ true → input x ≡ input y)
     (b : Begun K V S) (name : Book) (key : K) (begun log : List (Event K V S)) (x : Computing K V S T H)
     (heard : List (Option (Stored K V) × Operation V T)) (r : IsComputing eq (hash_of input build write finish) b name key begun log x heard)
-    (standing : IsStanding x.writer.call.machine) where
+    (valid : IsValid x.writer.call.machine) where
   -- the pair that was shown last and the one that was loaded last have one number
   pub one_number : (i : ℕ) → ask_of x.writer.call.machine ≡ Call (MakePairOf i) → (p last : Stored K V) → x.shown ≡ Some p
       → x.writer.call.copier.last ≡ Some last → p.index ≡ last.index
@@ -389,9 +389,9 @@ module _ {K V S T H : Type 0} (eq : K → K → Bool) (input : K → List (List 
       let hash = hash_of input build write finish in
       let hashed = hashed_with eq input build write finish classes respects b (eq key) (input key)
       (own_query eq input build write finish classes respects b name key) log r.writing.calling.lawful in
-      let s = was_shown eq hash b name key begun log x heard r standing i asks 0 in
-      let by = replaces eq hash b name key begun log x heard r standing i asks 0 in
-      let there = met eq hash b name key begun log x heard r standing i asks 0 in
+      let s = was_shown eq hash b name key begun log x heard r valid i asks 0 in
+      let by = replaces eq hash b name key begun log x heard r valid i asks 0 in
+      let there = met eq hash b name key begun log x heard r valid i asks 0 in
       let this : s.0 ≡ p = cc (s.1, shown) in
       let that : there.pair ≡ last = cc (there.last, last_is) in
       let number : i ≡ there.pair.index = sym by.number

@@ -15,10 +15,10 @@ use Rattle.papaya_call.specs.Machine as calls
 use Rattle.papaya_call.specs.declared.chain.ask.Ask.TheVariants.{Call}
 use Rattle.papaya_call.specs.declared.chain.machine.Machine.{Machine}
 use Rattle.papaya_call.specs.declared.chain.machine.Phase.TheVariants.{Calling}
-use Rattle.papaya_call.specs.ChainMachine.{IsStanding, ask_of, kind_of_ask}
+use Rattle.papaya_call.specs.ChainMachine.{IsValid, ask_of, kind_of_ask}
 use Rattle.papaya_call_law.proofs.Names.{call_asks}
-use Rattle.papaya_call_law.specs.Says.{IsSaidExchange, Makes}
-use Rattle.papaya_call_law.specs.Told.{IsOneOf}
+use Rattle.papaya_call_law.specs.Says.{IsResultExchange, Makes}
+use Rattle.papaya_call_law.specs.TrueAnswers.{IsOneOf}
 use Rattle.papaya_call_law.proofs.SaysOver.{machine_exchanges}
 use Rattle.papaya_map_compute.specs.declared.slow_path.Computing.{Computing}
 use Rattle.papaya_map_book.specs.declared.rule.entry.Begun.{Begun}
@@ -29,7 +29,7 @@ use Rattle.papaya_map_book.specs.Plays.{IsPutting}
 use Rattle.papaya_map_lookup.specs.History.{key_of}
 use Rattle.papaya_map_lookup.proofs.AskedPairs.{asked_kind}
 use Rattle.papaya_map_lookup.proofs.Readings.{hashed_with}
-use Rattle.papaya_map_change.specs.Writing.{HasKeyAt, MayStand}
+use Rattle.papaya_map_change.specs.Writing.{HasKeyAt, MayOverwrite}
 use Rattle.papaya_map_change.proofs.StepsOfOwn.{own_kind}
 use Rattle.papaya_map_change.proofs.Written.{own_query}
 use Rattle.papaya_map_book.specs.Logs.{Stored}
@@ -39,7 +39,7 @@ module _ {K V S T H : Type 0} (eq : K → K → Bool) (input : K → List (List 
     (classes : IsEquivalence eq) (respects : (x y : K) → eq x y ≡ true → input x ≡ input y) (b : Begun K V S) (name : Book) (key : K)
     (begun log : List (Event K V S)) (x : Computing K V S T H) (heard : List (Option (Stored K V) × Operation V T))
     (r : IsComputing eq (hash_of input build write finish) b name key begun log x heard)
-    (standing : IsStanding x.writer.call.machine) (t i old new : ℕ) (asks : ask_of x.writer.call.machine ≡ Call (Exchange (Slot t i) old new)) where
+    (valid : IsValid x.writer.call.machine) (t i old new : ℕ) (asks : ask_of x.writer.call.machine ≡ Call (Exchange (Slot t i) old new)) where
   abbrev m : Machine
   m = x.writer.call.machine
 
@@ -53,12 +53,12 @@ module _ {K V S T H : Type 0} (eq : K → K → Bool) (input : K → List (List 
       (own_query eq input build write finish classes respects b name key) log r.writing.calling.lawful).coding.hash_fits (Some key))
 
   -- the exchange is what its closure said
-  is_said : IsSaidExchange m.call (pair_of old) (pair_of new)
-  is_said = machine_exchanges m.call t i old new r.task_is fits standing.call own.1
+  is_said : IsResultExchange m.call (pair_of old) (pair_of new)
+  is_said = machine_exchanges m.call t i old new r.task_is fits valid.call own.1
 
   -- a pair that the call made, of the number that the new word names, which may stand there
   abbrev IsAtHand : Option (Stored K V) → Type 0
-  IsAtHand o = (q : Stored K V) × (o ≡ Some q) × (q.index ≡ pair_of new) × IsOneOf r.made q × MayStand log key t i old q
+  IsAtHand o = (q : Stored K V) × (o ≡ Some q) × (q.index ≡ pair_of new) × IsOneOf r.made q × MayOverwrite log key t i old q
 
   -- of the call's kind
   kind_is : (kind : StepKind) → kind_of_ask m ≡ Some kind → calls.kind_of_ask m.call ≡ Some kind
@@ -95,7 +95,7 @@ module _ {K V S T H : Type 0} (eq : K → K → Bool) (input : K → List (List 
       let some : 0 < old = ⊎_elim (λ (some : 0 < old). some)
       (λ (none : old ≤ 0). let zero : old ≡ 0 = omega (arith, none) in let f : false ≡ true = sym (full kind) ∙ ap (λ (n : ℕ). n == 0) zero in
       absurd (cc f)) (cases_lt 0 old) in
-      let slot = machine_slot m.call t i old new r.task_is standing.call r.puts own.1 kind some in
+      let slot = machine_slot m.call t i old new r.task_is valid.call r.puts own.1 kind some in
       let h = r.of_slot (pair_of old) slot.of slot.choice in
       let one : h.0 ≡ q = cc (h.1, has) in
       subst (λ (z : Stored K V). HasKeyAt log t i (key_of z)) one

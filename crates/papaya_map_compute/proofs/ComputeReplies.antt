@@ -17,9 +17,9 @@ use Rattle.papaya_call.specs.declared.chain.ask.Ask.TheVariants.{Call}
 use Rattle.papaya_call.specs.declared.chain.machine.Machine.{Machine}
 use Rattle.papaya_call.specs.ChainMachine.{ask_of, started}
 use Rattle.papaya_call_law.proofs.Names.{call_asks}
-use Rattle.papaya_call_law.specs.Told.{LoadedPairs}
+use Rattle.papaya_call_law.specs.TrueAnswers.{LoadedPairs}
 use Rattle.papaya_call_law.specs.Relies.{IsReply, change_of_reply}
-use Rattle.papaya_call_law.specs.Says.{Makes, Removes, Said, StandsOn, said_in, said_of_compute}
+use Rattle.papaya_call_law.specs.Says.{Makes, Removes, ClosureResult, ActsOn, result_in, result_of_compute}
 use Rattle.papaya_call_law.proofs.ReliesHeld.{ended_in, machine_replies}
 use Rattle.papaya_words_keys.specs.declared.results.Compute.{Compute as Computed}
 use Rattle.papaya_words_keys.specs.declared.results.Compute.TheVariants as computed
@@ -35,11 +35,11 @@ use Rattle.papaya_map_book.specs.Hashes.{hash_of}
 use Rattle.papaya_map_lookup.specs.History.{Change, changes_of, history_of, key_of}
 use Rattle.papaya_map_book.specs.Logs.{Member, Stored, exchanges_of, pair_named}
 use Rattle.papaya_map_book.specs.Rule.{IsLawfulLog, IsPlaced}
-use Rattle.papaya_map_change.specs.Showings.{AreOf, HasSaid, WasHeld, WasLast}
+use Rattle.papaya_map_change.specs.ClosureCalls.{AreOf, HasReturned, WasHeld, WasLast}
 use Rattle.papaya_map_change.proofs.Changing.{Coded, Wide}
 use Rattle.papaya_map_lookup.proofs.Histories.{changes-append, history_since}
 use Rattle.papaya_map_book.proofs.Logs.{prefix_trans}
-use Rattle.papaya_map_change.proofs.Showings.{all_shown, held_wider, shown_each}
+use Rattle.papaya_map_change.proofs.ClosureCalls.{all_shown, held_wider, shown_each}
 use Rattle.papaya_map_change.proofs.Written.{own_query}
 use Rattle.papaya_map_change.proofs.WritingSteps.{begins as begins_writing}
 
@@ -99,10 +99,10 @@ module _ {K V S T H : Type 0} (eq : K → K → Bool) (input : K → List (List 
   answers answer done = record { held = r.held; none_once = r.none_once; operated = done }
 
   -- what its reply stands on is at hand
-  at_hand : (reply : Reply) (said : Said) → ask_of m ≡ Call (Done reply) → said_of_compute reply ≡ Some said → Holds key r.made heard x said
+  at_hand : (reply : Reply) (said : ClosureResult) → ask_of m ≡ Call (Done reply) → result_of_compute reply ≡ Some said → Holds key r.made heard x said
   at_hand reply said e is = r.stood said (inl
-      (ap (λ t. said_in t m.call.state) r.task_is
-      ∙ (ap (said_in Compute) (ended_in m.call.made m.call.hash m.call.state reply (call_asks m (Done reply) e).1) ∙ is)))
+      (ap (λ t. result_in t m.call.state) r.task_is
+      ∙ (ap (result_in Compute) (ended_in m.call.made m.call.hash m.call.state reply (call_asks m (Done reply) e).1) ∙ is)))
 
   module _ (reply : Reply) (e : ask_of m ≡ Call (Done reply)) (old new : Option ℕ) (change : change_of_reply reply ≡ Some (old, new)) where
     changed : HasChanged eq (Some key) begun log x.writer.call.taken x.writer.call.put (old, new)
@@ -379,7 +379,7 @@ module _ {K V T : Type 0} (eq : K → K → Bool) (key : K) (older old new : Lis
 
   -- so it answers by a closure that was shown and answered these
   pub computed_by : {F : Type 0} (operates : F → Option (Stored K V) → Operation V T → F → Type 0) (first left : F)
-      (heard : List (Option (Stored K V) × Operation V T)) → HasSaid operates first heard left → (answer : Result (Computed K V T) Cause)
+      (heard : List (Option (Stored K V) × Operation V T)) → HasReturned operates first heard left → (answer : Result (Computed K V T) Cause)
       → IsReplied eq key old new heard answer → IsComputeBy eq key older new operates first answer
   computed_by operates first left heard has answer r =
       let s = replied_since heard answer r in
@@ -408,8 +408,8 @@ begins eq hash b name key log x l initial machine table pairs own value shown fi
   held = tt;
   none_once = tt;
   none_shown = inl tt;
-  stood = λ stands h. absurd (nothing_said (subst (λ (z : Machine). StandsOn z.call stands) machine h));
-  newest = λ i n h. absurd (nothing_said (subst (λ (z : Machine). StandsOn z.call (Makes (Some i) n)) machine h));
+  stood = λ stands h. absurd (nothing_said (subst (λ (z : Machine). ActsOn z.call stands) machine h));
+  newest = λ i n h. absurd (nothing_said (subst (λ (z : Machine). ActsOn z.call (Makes (Some i) n)) machine h));
   of_slot = λ old new e. let g = sym (ap (λ (z : Machine). z.call.remembered.choice) machine) ∙ e in absurd (cc g);
   aborts = λ with e. let g = sym (ap ask_of machine) ∙ e in absurd (cc g);
   refuses = λ cause e. let g = sym (ap ask_of machine) ∙ e in absurd (cc g);
@@ -417,7 +417,7 @@ begins eq hash b name key log x l initial machine table pairs own value shown fi
   spent = λ e. let g = sym (ap ask_of machine) ∙ e in absurd (cc g);
 }
   where
-    nothing_said : {stands : Said} → StandsOn (started Compute (hash b.hasher key) b.mode initial 0 b.limit).call stands → ⊥
+    nothing_said : {stands : ClosureResult} → ActsOn (started Compute (hash b.hasher key) b.mode initial 0 b.limit).call stands → ⊥
     nothing_said (inl e) = cc e
     nothing_said (inr (inl e)) = cc e
     nothing_said (inr (inr e)) = cc e

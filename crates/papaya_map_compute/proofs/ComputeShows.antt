@@ -20,7 +20,7 @@ use Rattle.papaya_call.specs.declared.chain.ask.Answer.TheVariants as answers
 use Rattle.papaya_call.specs.declared.chain.ask.Ask.TheVariants.{Call}
 use Rattle.papaya_call.specs.declared.chain.machine.Machine.{Machine}
 use Rattle.papaya_call.specs.declared.chain.machine.Phase.TheVariants.{Calling}
-use Rattle.papaya_call.specs.ChainMachine.{IsStanding, after, ask_of}
+use Rattle.papaya_call.specs.ChainMachine.{IsValid, after, ask_of}
 use Rattle.papaya_call_law.specs.Goes.{IsInOrder}
 use Rattle.papaya_call_law.proofs.Names.{call_asks}
 use Rattle.papaya_call_law.proofs.Once.{chain_offered, chain_once}
@@ -30,13 +30,13 @@ use Rattle.papaya_call.specs.declared.machine.State.TheVariants.{Offering, Pairi
 use Rattle.papaya_call.specs.declared.compute.Choice.TheVariants.{Replace as To_replace}
 use Rattle.papaya_call.specs.declared.made.Made.{Made}
 use Rattle.papaya_call.specs.declared.made.Of.{Of}
-use Rattle.papaya_call_law.specs.Says.{Agrees, HasShownNone, Inserts, IsAnswered, IsFilled}
-use Rattle.papaya_call_law.specs.Says.{IsSaidBy, KeepsFill, Makes, Removes, Said, StandsOn}
-use Rattle.papaya_call_law.specs.Says.{said_to_fill, show}
+use Rattle.papaya_call_law.specs.Says.{Agrees, HasCalledNone, Inserts, IsAnswered, IsFilled}
+use Rattle.papaya_call_law.specs.Says.{IsResultBy, KeepsFill, Makes, Removes, ClosureResult, ActsOn}
+use Rattle.papaya_call_law.specs.Says.{result_to_fill, show}
 use Rattle.papaya_words_law.specs.Code.{Coding}
 use Rattle.papaya_words_law.specs.Exchange.{Setting}
 use Rattle.papaya_call_law.specs.Relies.{IsAtLimit, WasAtMoment}
-use Rattle.papaya_call_law.specs.Told.{LoadedPairs}
+use Rattle.papaya_call_law.specs.TrueAnswers.{LoadedPairs}
 use Rattle.papaya_call_law.proofs.Makings.{IsPairAsk, pairing_asks}
 use Rattle.papaya_call_law.proofs.ReliesHeld as held
 use Rattle.papaya_call_law.proofs.ReliesHeld.{machine_offers, machine_unpaired}
@@ -57,7 +57,7 @@ use Rattle.papaya_map_book.specs.declared.keyed.Keyed as keyed
 use Rattle.papaya_map_book.specs.declared.window.Window.{Window}
 use Rattle.papaya_map_change.specs.Doing.{Answers}
 use Rattle.papaya_map_change.proofs.Doing.{idle}
-use Rattle.papaya_map_change.specs.Showings.{HasNoNone, IsNoneOnce, WasHeld}
+use Rattle.papaya_map_change.specs.ClosureCalls.{HasNoNone, IsNoneOnce, WasHeld}
 use Rattle.papaya_map_change.specs.Writing.{HasKeyAt, HasValue, IsWriting, held_value}
 use Rattle.papaya_map_change.proofs.Changing.{Coded, Wide, barren, quiet}
 use Rattle.papaya_map_change.proofs.StepsOfOwn.{own_order}
@@ -66,9 +66,9 @@ use Rattle.papaya_map_compute.proofs.AnsweredValues.{answered_none, answered_pai
 use Rattle.papaya_map_compute.proofs.ChosenChains.{chain_puts}
 use Rattle.papaya_map_compute.proofs.ChosenSlots.{machine_choice}
 use Rattle.papaya_map_compute.proofs.ComputeOwn.{own_aborted, own_step}
-use Rattle.papaya_map_compute.specs.Computing.{IsComputingOn, IsToShow}
+use Rattle.papaya_map_compute.specs.Computing.{IsComputingOn, IsToCall}
 use Rattle.papaya_map_lookup.proofs.Readings.{IsQuery, hashed_with}
-use Rattle.papaya_map_change.proofs.Showings.{own_held_then}
+use Rattle.papaya_map_change.proofs.ClosureCalls.{own_held_then}
 use Rattle.papaya_map_change.proofs.Written.{own_query}
 
 -- what the machine is told tells what the closure answered
@@ -113,7 +113,7 @@ module _ {K V T : Type 0} where
   inserted_once ((Some p, done) ∷ before) once v w (inr one) (inr other) = inserted_once before once v w one other
 
 -- a call that shows a pair, and has shown that there is none, remembers the pair that would fill
-filled_in : (made : Made) (hash : ℕ) (fill : Option ℕ) (stage : Stage) (n : ℕ) → calls.asks made hash stage ≡ ShowPair n → HasShownNone fill stage
+filled_in : (made : Made) (hash : ℕ) (fill : Option ℕ) (stage : Stage) (n : ℕ) → calls.asks made hash stage ≡ ShowPair n → HasCalledNone fill stage
     → IsFilled fill
 filled_in made hash fill (Offering gap) n e h = absurd h
 filled_in made hash fill (Pairing purpose) n e h = absurd (subst IsPairAsk e (pairing_asks made purpose))
@@ -124,9 +124,9 @@ filled_by : (fill : Option ℕ) → IsFilled fill → (n : ℕ) × (fill ≡ Som
 filled_by None h = absurd h
 filled_by (Some n) h = (n, refl)
 
-machine_filled : (m : Call_machine) (n : ℕ) → calls.ask_of m ≡ ShowPair n → HasShownNone m.remembered.fill m.state → (i : ℕ) × StandsOn m (Makes None i)
+machine_filled : (m : Call_machine) (n : ℕ) → calls.ask_of m ≡ ShowPair n → HasCalledNone m.remembered.fill m.state → (i : ℕ) × ActsOn m (Makes None i)
 machine_filled m n e shown = let fill = filled_by m.remembered.fill (filled_in m.made m.hash m.remembered.fill m.state n e shown) in
-    (fill.0, inr (inl (ap said_to_fill fill.1)))
+    (fill.0, inr (inl (ap result_to_fill fill.1)))
 
 -- what is shown has the number that was asked for
 module _ {K V : Type 0} (m : Call_machine) (held : Option (Stored K V)) (asks : calls.ask_of m ≡ show (number_of held)) where
@@ -153,7 +153,7 @@ module _ {K V S T H : Type 0} (key : K) (made : List (Stored K V)) (said : List 
   abbrev now_said : List (Option (Stored K V) × Operation V T)
   now_said = (held, done) ∷ said
 
-  abbrev Now : Said → Type 0
+  abbrev Now : ClosureResult → Type 0
   Now stands = Holds key made now_said shown_to stands
 
   -- a pair that was made stays so
@@ -164,7 +164,7 @@ module _ {K V S T H : Type 0} (key : K) (made : List (Stored K V)) (said : List 
   fill_still : (n : ℕ) → Holds key made said x (Makes None n) → Now (Makes None n)
   fill_still n h = (h.0, h.1, made_still None n h.0 h.2)
 
-  still : chosen_after held done x.chosen ≡ x.chosen → (stands : Said) → ((shown : Option ℕ) → stands ≡ Inserts shown → ⊥)
+  still : chosen_after held done x.chosen ≡ x.chosen → (stands : ClosureResult) → ((shown : Option ℕ) → stands ≡ Inserts shown → ⊥)
       → Holds key made said x stands → Now stands
   still same (Agrees n agrees) never h = h
   still same (Inserts shown) never h = absurd (never shown refl)
@@ -173,7 +173,7 @@ module _ {K V S T H : Type 0} (key : K) (made : List (Stored K V)) (said : List 
   still same (Removes n) never h = (h.0, same ∙ h.1, h.2, inr h.3)
 
   -- what the closure said just now is at hand
-  now : (m : Call_machine) → calls.ask_of m ≡ show (number_of held) → (stands : Said) → IsSaidBy m (Op (kind_of done)) stands → Now stands
+  now : (m : Call_machine) → calls.ask_of m ≡ show (number_of held) → (stands : ClosureResult) → IsResultBy m (Op (kind_of done)) stands → Now stands
   now m asks (Agrees n agrees) h = let e = h.1 in absurd (cc e)
   now m asks (Inserts None) h =
       let none = none_asked m held asks h.0 in let i = inserts done (op_is done kinds.Insert h.1) in
@@ -253,7 +253,7 @@ module _ {K V S H : Type 0} (eq : K → K → Bool) (input : K → List (List �
     asked shown value valued asks = record { calling = called shown asks; keyed = r.keyed; valued = valued; put_placed = r.put_placed }
 
   module _ {T : Type 0} (log : List (Event K V S)) (x : Computing K V S T H) (heard : List (Option (Stored K V) × Operation V T))
-      (r : Comp log x heard) (standing : IsStanding x.writer.call.machine) (held : Option (Stored K V)) (done : Operation V T)
+      (r : Comp log x heard) (valid : IsValid x.writer.call.machine) (held : Option (Stored K V)) (done : Operation V T)
       (asks : ask_of x.writer.call.machine ≡ Call (show (number_of held))) where
     abbrev chain : Machine
     chain = x.writer.call.machine
@@ -282,41 +282,41 @@ module _ {K V S H : Type 0} (eq : K → K → Bool) (input : K → List (List �
     order : IsInOrder chain (answers.Call (Op (kind_of done))) chain.phase
     order = own_order chain own_asks.0 (Op (kind_of done))
 
-    abbrev HoldsNow : Said → Type 0
+    abbrev HoldsNow : ClosureResult → Type 0
     HoldsNow stands = Holds key r.made ((held, done) ∷ heard) (shown_to key r.made heard x held done) stands
 
-    unpaired : (stands : Said) → StandsOn m stands → (shown : Option ℕ) → stands ≡ Inserts shown → ⊥
-    unpaired stands before shown e = machine_unpaired m shown (number_of held) own_asks.1 (subst (λ (s : Said). StandsOn m s) e before)
+    unpaired : (stands : ClosureResult) → ActsOn m stands → (shown : Option ℕ) → stands ≡ Inserts shown → ⊥
+    unpaired stands before shown e = machine_unpaired m shown (number_of held) own_asks.1 (subst (λ (s : ClosureResult). ActsOn m s) e before)
 
     -- where the choice stays
-    stood_same : chosen_after held done x.chosen ≡ x.chosen → (stands : Said) → StandsOn m' stands → HoldsNow stands
+    stood_same : chosen_after held done x.chosen ≡ x.chosen → (stands : ClosureResult) → ActsOn m' stands → HoldsNow stands
     stood_same same stands h =
         ⊎_elim (λ before. still key r.made heard x held done same stands (unpaired stands before) (r.stood stands before))
         (now key r.made heard x held done m own_asks.1 stands)
-        (machine_said m (Op (kind_of done)) stands standing.call r.words h)
+        (machine_said m (Op (kind_of done)) stands valid.call r.words h)
 
     -- where the pair that was shown is to go
-    stood_removed : (p : Stored K V) → held ≡ Some p → kind_of done ≡ kinds.Remove → (stands : Said) → StandsOn m' stands → HoldsNow stands
+    stood_removed : (p : Stored K V) → held ≡ Some p → kind_of done ≡ kinds.Remove → (stands : ClosureResult) → ActsOn m' stands → HoldsNow stands
     stood_removed p e removes_it stands h =
         let shows : calls.ask_of m ≡ ShowPair p.index = own_asks.1 ∙ ap (λ (o : Option (Stored K V)). show (number_of o)) e in
-        let removed : StandsOn (calls.after m (Op kinds.Remove)) stands = subst (λ (k : OpKind). StandsOn (calls.after m (Op k)) stands) removes_it h in
+        let removed : ActsOn (calls.after m (Op kinds.Remove)) stands = subst (λ (k : OpKind). ActsOn (calls.after m (Op k)) stands) removes_it h in
         let is : done ≡ operation.Remove = removes done removes_it in
         ⊎_elim
         (λ s. subst HoldsNow (sym s) (p, (λ j. chosen_after (e j) (is j) x.chosen), refl, inl (λ j. (sym e j, sym is j))))
-        (λ k. subst HoldsNow (sym k.1) (fill_still key r.made heard x held done k.0 (r.stood (Makes None k.0) (subst (λ (s : Said). StandsOn m s) k.1 k.2))))
+        (λ k. subst HoldsNow (sym k.1) (fill_still key r.made heard x held done k.0 (r.stood (Makes None k.0) (subst (λ (s : ClosureResult). ActsOn m s) k.1 k.2))))
         (machine_chosen m p.index stands r.task_is shows removed)
 
     -- what its machine stands on now is at hand
-    stood_by : (o : Option (Stored K V)) → held ≡ o → kind_of done ≡ kinds.Remove → (stands : Said) → StandsOn m' stands → HoldsNow stands
+    stood_by : (o : Option (Stored K V)) → held ≡ o → kind_of done ≡ kinds.Remove → (stands : ClosureResult) → ActsOn m' stands → HoldsNow stands
     stood_by None e removes_it = stood_same (λ j. chosen_after (e j) done x.chosen)
     stood_by (Some p) e removes_it = stood_removed p e removes_it
 
-    stood_now : (stands : Said) → StandsOn chain'.call stands → HoldsNow stands
+    stood_now : (stands : ClosureResult) → ActsOn chain'.call stands → HoldsNow stands
     stood_now stands h = ⊎_elim (stood_by held refl) stood_same (chosen_same key r.made heard x held done) stands
-        (subst (λ (z : Call_machine). StandsOn z stands) steps h)
+        (subst (λ (z : Call_machine). ActsOn z stands) steps h)
 
     -- whether it was shown that there is none, and how often
-    none_by : (o : Option (Stored K V)) → held ≡ o → (HasNoNone ((o, done) ∷ heard) ⊎ HasShownNone chain'.call.remembered.fill chain'.call.state)
+    none_by : (o : Option (Stored K V)) → held ≡ o → (HasNoNone ((o, done) ∷ heard) ⊎ HasCalledNone chain'.call.remembered.fill chain'.call.state)
         × IsNoneOnce ((o, done) ∷ heard)
     none_by None e =
         let shows : ask_of chain ≡ Call ShowNone = asks ∙ ap (λ (o : Option (Stored K V)). Call (show (number_of o))) e in (
@@ -357,15 +357,15 @@ module _ {K V S H : Type 0} (eq : K → K → Bool) (input : K → List (List �
     answered_now : IsAnswered m'.state → IsAnswered chain'.call.state
     answered_now waits = subst (λ (z : Call_machine). IsAnswered z.state) (sym steps) waits
 
-    removed_none : (p : Stored K V) → held ≡ Some p → kind_of done ≡ kinds.Remove → (i n : ℕ) → StandsOn m' (Makes (Some i) n) → ⊥
+    removed_none : (p : Stored K V) → held ≡ Some p → kind_of done ≡ kinds.Remove → (i n : ℕ) → ActsOn m' (Makes (Some i) n) → ⊥
     removed_none p e removes_it i n h =
         let shows : calls.ask_of m ≡ ShowPair p.index = own_asks.1 ∙ ap (λ (o : Option (Stored K V)). show (number_of o)) e in
-        let removed : StandsOn (calls.after m (Op kinds.Remove))
-        (Makes (Some i) n) = subst (λ (k : OpKind). StandsOn (calls.after m (Op k)) (Makes (Some i) n)) removes_it h in
+        let removed : ActsOn (calls.after m (Op kinds.Remove))
+        (Makes (Some i) n) = subst (λ (k : OpKind). ActsOn (calls.after m (Op k)) (Makes (Some i) n)) removes_it h in
         ⊎_elim (λ is. cc is) (λ (a : KeepsFill m (Makes (Some i) n)). let is = a.1 in cc is)
         (machine_chosen m p.index (Makes (Some i) n) r.task_is shows removed)
 
-    newest_by : (o : Option (Stored K V)) → held ≡ o → (kind : OpKind) → kind_of done ≡ kind → (i n : ℕ) → StandsOn m' (Makes (Some i) n) → IsAnswered m'.state
+    newest_by : (o : Option (Stored K V)) → held ≡ o → (kind : OpKind) → kind_of done ≡ kind → (i n : ℕ) → ActsOn m' (Makes (Some i) n) → IsAnswered m'.state
     newest_by None e kind is i n h = answered_none m (kind_of done) (own_asks.1 ∙ ap (λ (o : Option (Stored K V)). show (number_of o)) e)
     newest_by (Some p) e kinds.Insert is i n h = answered_pair m p.index (kind_of done) r.task_is (λ f. let g = sym is ∙ f in cc g)
         (own_asks.1 ∙ ap (λ (o : Option (Stored K V)). show (number_of o)) e)
@@ -373,8 +373,8 @@ module _ {K V S H : Type 0} (eq : K → K → Bool) (input : K → List (List �
     newest_by (Some p) e (kinds.Abort with) is i n h = answered_pair m p.index (kind_of done) r.task_is (λ f. let g = sym is ∙ f in cc g)
         (own_asks.1 ∙ ap (λ (o : Option (Stored K V)). show (number_of o)) e)
 
-    newest_now : (i n : ℕ) → StandsOn chain'.call (Makes (Some i) n) → IsAnswered chain'.call.state
-    newest_now i n h = answered_now (newest_by held refl (kind_of done) refl i n (subst (λ (z : Call_machine). StandsOn z (Makes (Some i) n)) steps h))
+    newest_now : (i n : ℕ) → ActsOn chain'.call (Makes (Some i) n) → IsAnswered chain'.call.state
+    newest_now i n h = answered_now (newest_by held refl (kind_of done) refl i n (subst (λ (z : Call_machine). ActsOn z (Makes (Some i) n)) steps h))
 
     slot_now : (old : ℕ) (new : Of) → chain'.call.remembered.choice ≡ Some (To_replace old new) → (q : Stored K V) × (x.made ≡ Some q)
         × HasKeyAt log new.table new.index (key_of q)
@@ -389,7 +389,7 @@ module _ {K V S H : Type 0} (eq : K → K → Bool) (input : K → List (List �
     spared_now (Some p) e = λ v member. ⊎_elim (λ none. absurd (none_unsaid heard none (operation.Insert v) member))
         (λ shown. spared_in v member (machine_filled m p.index (own_asks.1 ∙ ap (λ (o : Option (Stored K V)). show (number_of o)) e) shown)) r.none_shown
       where
-        spared_in : (v : V) → Member (None, operation.Insert v) heard → (n : ℕ) × StandsOn m (Makes None n) → (q : Stored K V) × (x.fill ≡ Some q)
+        spared_in : (v : V) → Member (None, operation.Insert v) heard → (n : ℕ) × ActsOn m (Makes None n) → (q : Stored K V) × (x.fill ≡ Some q)
             × (q.value.value ≡ v)
         spared_in v member n = let h = r.stood (Makes None n.0) n.1 in (h.0, h.1, inserted_once heard r.none_once h.0.value.value v h.2.said_is member)
 
@@ -406,7 +406,7 @@ module _ {K V S H : Type 0} (eq : K → K → Bool) (input : K → List (List �
         writing = asked r.made log x.writer r.writing (kind_of done) (number_of held) (value_after done x.writer.value) (valued_in done) asks;
         task_is = (chain_task chain (answers.Call (Op (kind_of done))) order).0 ∙ r.task_is;
         words = chain_shows chain (answers.Call (Op (kind_of done))) order r.words;
-        puts = chain_puts chain (answers.Call (Op (kind_of done))) order r.task_is standing.call r.puts;
+        puts = chain_puts chain (answers.Call (Op (kind_of done))) order r.task_is valid.call r.puts;
         shown_placed = placed;
         fill_placed = r.fill_placed;
         chosen_placed = chosen_in done held placed;
@@ -465,7 +465,7 @@ module _ {K V S H : Type 0} (eq : K → K → Bool) (input : K → List (List �
         )
 
     -- what it is to show was the map's, and lies in the logs
-    pub shown_held : (held : Option (Stored K V)) → IsToShow x held → WasHeld eq (eq key) (history_of begun) (history_of log) held
+    pub shown_held : (held : Option (Stored K V)) → IsToCall x held → WasHeld eq (eq key) (history_of begun) (history_of log) held
         × IsPlaced b (Some name) (pair_named held)
     shown_held None h = (none_held h.0, tt)
     shown_held (Some p) h = (

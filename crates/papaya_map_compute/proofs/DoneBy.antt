@@ -9,12 +9,12 @@ use Rattle.papaya_words_keys.specs.declared.results.Compute.{Compute as Computed
 use Rattle.papaya_words_keys.specs.declared.results.Compute.TheVariants.{Inserted, Updated, Removed, Aborted}
 use Rattle.papaya_map_book.specs.Logs.{Member, Stored}
 use Rattle.papaya_map_lookup.specs.History.{Change}
-use Rattle.papaya_map_change.specs.Showings.{AreShown, HasSaid, WasHeld, WasLast}
-use Rattle.papaya_map_change.proofs.Showings.{all_shown, held_wider, said_only}
+use Rattle.papaya_map_change.specs.ClosureCalls.{AreRefsTo, HasReturned, WasHeld, WasLast}
+use Rattle.papaya_map_change.proofs.ClosureCalls.{all_shown, held_wider, said_only}
 use Rattle.papaya_map_compute.specs.ComputeAnswers.{IsOperated, changes}
 use Rattle.papaya_map_compute.specs.Computing.{value_in}
 use Rattle.papaya_map_compute.specs.Deciding.{AsksRule, HasNoRemoval, IsDecided, IsDecidedOf, Wishes, WishesOf, answer_of, puts}
-use Rattle.papaya_map_compute.specs.Operating.{HasEnded, Shows}
+use Rattle.papaya_map_compute.specs.Operating.{HasEnded, CallsClosure}
 use Rattle.papaya_map_compute.specs.declared.deciding.Decided.{Decided}
 use Rattle.papaya_map_compute.specs.declared.deciding.Decided.TheVariants.{Put, Replaced, Left}
 use Rattle.papaya_map_compute.specs.declared.operating.Ended.{Ended}
@@ -23,14 +23,14 @@ use Rattle.papaya_map_compute.proofs.FastPath.{once}
 
 module _ {K V F : Type 0} (decides : F → Option V → Option V → F → Type 0) where
   -- behind the references to a pair there is its value
-  shown_value : (shown : Option (Bor K × Bor V)) (held : Option (Stored K V)) → AreShown shown held → option_map (λ e. e.1.now) shown ≡ value_in held
+  shown_value : (shown : Option (Bor K × Bor V)) (held : Option (Stored K V)) → AreRefsTo shown held → option_map (λ e. e.1.now) shown ≡ value_in held
   shown_value None None are = refl
   shown_value (Some entry) (Some p) are = ap (λ v. Some v) are.1
   shown_value None (Some p) are = absurd are
   shown_value (Some entry) None are = absurd are
 
-  wishes : (first : F) (heard : List (Option (Stored K V) × Operation V (Unit {0}))) (left : F) → HasSaid (Shows (AsksRule decides)) first heard left
-      → HasSaid (Wishes decides) first heard left
+  wishes : (first : F) (heard : List (Option (Stored K V) × Operation V (Unit {0}))) (left : F) → HasReturned (CallsClosure (AsksRule decides)) first heard left
+      → HasReturned (Wishes decides) first heard left
   wishes first [] left has = has
   wishes first ((held, done) ∷ before) left has = (
     has.0,
@@ -39,7 +39,7 @@ module _ {K V F : Type 0} (decides : F → Option V → Option V → F → Type 
   )
 
   -- a rule removes no pair
-  none_removed : (first left : F) (heard : List (Option (Stored K V) × Operation V (Unit {0}))) → HasSaid (Wishes decides) first heard left
+  none_removed : (first left : F) (heard : List (Option (Stored K V) × Operation V (Unit {0}))) → HasReturned (Wishes decides) first heard left
       → HasNoRemoval heard
   none_removed first left heard has held m = let e : operation.Remove ≡ operation.Remove
       → ⊥ = said_only (Wishes decides) (λ op. op ≡ operation.Remove → ⊥) stays first heard left has held operation.Remove m in e refl
@@ -59,8 +59,8 @@ refused_as (Ok (Aborted t)) current spare cause e = absurd (cc e)
 refused_as (Err other) current spare cause e = let same : other ≡ cause = cc e in ap (λ (z : Cause). Err z) same
 
 module _ {K V F : Type 0} (eq : K → K → Bool) (key : K) (old new : List (Change K (Stored K V))) (decides : F → Option V → Option V → F → Type 0)
-    (first left : F) (ended : Ended K V (Unit {0})) (h : HasEnded eq key old new (Shows (AsksRule decides)) first left ended) where
-  said : HasSaid (Wishes decides) first h.heard left
+    (first left : F) (ended : Ended K V (Unit {0})) (h : HasEnded eq key old new (CallsClosure (AsksRule decides)) first left ended) where
+  said : HasReturned (Wishes decides) first h.heard left
   said = wishes decides first h.heard left h.has_said
 
   removes : HasNoRemoval h.heard

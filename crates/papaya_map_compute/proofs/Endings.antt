@@ -9,7 +9,7 @@ use Rattle.papaya_words_keys.specs.declared.results.Compute.{Compute as Computed
 use Rattle.papaya_words_keys.specs.declared.results.Compute.TheVariants.{Aborted}
 use Rattle.papaya_map_book.specs.Logs.{Stored}
 use Rattle.papaya_map_lookup.specs.History.{Change}
-use Rattle.papaya_map_change.specs.Showings.{WasLast}
+use Rattle.papaya_map_change.specs.ClosureCalls.{WasLast}
 use Rattle.papaya_map_compute.specs.ComputeAnswers.{IsOperated}
 use Rattle.papaya_map_compute.specs.Computing.{IsReplied, IsSpared, value_in}
 use Rattle.papaya_map_compute.specs.Operating.{HasEnded, IsLeft, at_once}

@@ -19,15 +19,15 @@ use Rattle.papaya_map_book.proofs.Windows.{observed, sees_trans}
 use Rattle.papaya_map_lookup.specs.Drivers.{own, past}
 use Rattle.papaya_map_lookup.specs.History.{Change, Makes, changes_by, key_of}
 use Rattle.papaya_map_change.specs.Changes.{IsChangeOf}
-use Rattle.papaya_map_change.specs.Showings.{AreOf, IsNoneOnce, IsSamePair, WasHeld}
+use Rattle.papaya_map_change.specs.ClosureCalls.{AreOf, IsNoneOnce, IsSamePair, WasHeld}
 use Rattle.papaya_map_change.specs.Writing.{IsMemoryOrCapacity}
 use Rattle.papaya_map_change.specs.Seeking.{met_by}
-use Rattle.papaya_map_change.specs.Window.Ends.{Ends, TellsWhy}
+use Rattle.papaya_map_change.specs.Window.Ends.{Ends, HasCause}
 use Rattle.papaya_map_change.specs.declared.fast_path.ProbeHit.{ProbeHit}
 use Rattle.papaya_map_change.proofs.Doing.{idles}
 use Rattle.papaya_map_change.proofs.Logged.{makes_since}
 use Rattle.papaya_map_lookup.specs.declared.lookup.Met.{Met}
-use Rattle.papaya_map_compute.specs.FastPath.{ComesTo, DoesAtOnce, IfOn, IfOver, IsAtOnce, IsLed, IsOnItsWay}
+use Rattle.papaya_map_compute.specs.FastPath.{ComesTo, DoesAtOnce, IfOn, IfOver, IsAtOnce, IsSearchEnd, IsOnItsWay}
 use Rattle.papaya_map_compute.specs.ComputeAnswers.{IsOperated, changes}
 use Rattle.papaya_map_compute.specs.declared.fast_path.Start.{Start}
 use Rattle.papaya_map_compute.specs.Computing.{IsReplied}
@@ -152,7 +152,7 @@ module _ {K V S H A C : Type 0} {d : keyed.Ghosts S K H} (changed : Result A Cau
           (subst (λ (z : Attempt C (Result A Cause)). IfOver z (λ a. Makes (changed a) (own first) (own w) (past w))) is c.made);
     }
 
-    pub over_tells : (initial : ℕ) (given : List CapacityCause) → TellsWhy initial w given (λ cause. answer ≡ Err cause)
+    pub over_tells : (initial : ℕ) (given : List CapacityCause) → HasCause initial w given (λ cause. answer ≡ Err cause)
     over_tells initial given = record {
       crowded = λ e. no_room (c.refused Capacity (is ∙ ap (λ z. Over z) e));
       spent = λ e. no_limit (c.refused Limit (is ∙ ap (λ z. Over z) e));
@@ -172,7 +172,7 @@ module _ {K V S H A C : Type 0} {d : keyed.Ghosts S K H} (changed : Result A Cau
 
 -- A call that was shown once what the search found, and has answered: it is right where that follows of what it replies.
 module _ {K V S T H O : Type 0} {d : keyed.Ghosts S K H} (w mid then : Window K V S H d) (looked : Observes w mid) (key : K) (hash : ℕ) (table : Sheet)
-    (turn : ProbeHit (Met K V)) (led : IsLed mid key hash w.sight.log table turn) (says : O → Option (Stored K V) → Operation V T → O → Type 0)
+    (turn : ProbeHit (Met K V)) (led : IsSearchEnd mid key hash w.sight.log table turn) (says : O → Option (Stored K V) → Operation V T → O → Type 0)
     (first left : O) (done : Operation V T) (said : says first (met_by turn) done left) where
   pub comes_once : (is_right : Result (Computed K V T) Cause → Type 0)
       → ((answer : Result (Computed K V T) Cause) → IsReplied d.keys.eq key (past w) (past then) ((met_by turn, done) ∷ []) answer → is_right answer)

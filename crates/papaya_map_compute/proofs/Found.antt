@@ -23,9 +23,9 @@ use Rattle.papaya_map_book.specs.Sheets.{Sheet}
 use Rattle.papaya_map_lookup.specs.History.{history_of}
 use Rattle.papaya_map_lookup.proofs.Readings.{IsQuery, hashed_with}
 use Rattle.papaya_map_change.specs.Seeking.{Computes, IsSeekingAt, seeker_at}
-use Rattle.papaya_map_change.specs.Showings.{WasHeld}
+use Rattle.papaya_map_change.specs.ClosureCalls.{WasHeld}
 use Rattle.papaya_map_change.proofs.Changing.{Coded, Wide}
-use Rattle.papaya_map_change.proofs.Showings.{own_held_then}
+use Rattle.papaya_map_change.proofs.ClosureCalls.{own_held_then}
 use Rattle.papaya_map_change.proofs.Written.{own_query}
 
 module _ {K V S H : Type 0} (eq : K → K → Bool) (input : K → List (List ℕ)) (build : S → H) (write : H → List ℕ → H) (finish : H → ℕ)

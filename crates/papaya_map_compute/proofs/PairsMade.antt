@@ -22,12 +22,12 @@ use Rattle.papaya_call.specs.declared.made.Number.{Number}
 use Rattle.papaya_call.specs.declared.made.Number.TheVariants.{Wanted, Free, Taken}
 use Rattle.papaya_call.specs.declared.write.Write.{Write}
 use Rattle.papaya_call.specs.Compute.{fills, in_place_of}
-use Rattle.papaya_call.specs.Machine.{IsStanding, IsStandingState, after, ask_of, asks, made_to_pair, paired, paired_held}
+use Rattle.papaya_call.specs.Machine.{IsValid, IsValidState, after, ask_of, asks, made_to_pair, paired, paired_held}
 use Rattle.papaya_call.specs.Made.{grown, number_ask, of_ask, own_ask, pair_ask, paired as pair_done}
 use Rattle.papaya_call.specs.Write.{made_of}
-use Rattle.papaya_call_law.specs.Says.{Inserts, IsAnswered, KeepsFill, Makes, MakesPair, Said}
-use Rattle.papaya_call_law.specs.Says.{ShowsIn, ShowsPairs, StandsOn, said_in, said_to_choose}
-use Rattle.papaya_call_law.specs.Says.{said_to_fill, shown_by}
+use Rattle.papaya_call_law.specs.Says.{Inserts, IsAnswered, KeepsFill, Makes, MakesPair, ClosureResult}
+use Rattle.papaya_call_law.specs.Says.{NamesPairIn, NamesPairs, ActsOn, result_in, result_to_choose}
+use Rattle.papaya_call_law.specs.Says.{result_to_fill, shown_by}
 use Rattle.papaya_call_law.proofs.Makings.{pair_made}
 use Rattle.papaya_call_law.proofs.SaysSaid.{shown_pair}
 
@@ -65,8 +65,8 @@ replaced_old Taken made old i e = by_old (old == 0) refl e
 
 -- It makes a pair for an absent key: no pair that its closure was shown before comes again.
 pub record IsFilling (m : Machine) (n : ℕ) : Type 0 where
-  pub said : StandsOn m (Inserts None)
-  pub then : (stands : Said) → StandsOn (after m (Made_number n)) stands → stands ≡ Makes None n
+  pub said : ActsOn m (Inserts None)
+  pub then : (stands : ClosureResult) → ActsOn (after m (Made_number n)) stands → stands ≡ Makes None n
   pub choice : (after m (Made_number n)).remembered.choice ≡ None
 
 -- It makes one in the place of the pair of this number, of what its closure answered just now or before.
@@ -74,8 +74,8 @@ pub record IsReplacing (m : Machine) (i n : ℕ) : Type 0 where
   pub write : Write
   pub number : pair_of write.old ≡ i
   pub purpose : (m.state ≡ Pairing (Replace write)) ⊎ (m.state ≡ Pairing (Again write))
-  pub said : StandsOn m (Inserts (Some i)) ⊎ ((j : ℕ) × StandsOn m (Makes (Some i) j) × (IsAnswered m.state → ⊥))
-  pub then : (stands : Said) → StandsOn (after m (Made_number n)) stands → (stands ≡ Makes (Some i) n) ⊎ KeepsFill m stands
+  pub said : ActsOn m (Inserts (Some i)) ⊎ ((j : ℕ) × ActsOn m (Makes (Some i) j) × (IsAnswered m.state → ⊥))
+  pub then : (stands : ClosureResult) → ActsOn (after m (Made_number n)) stands → (stands ≡ Makes (Some i) n) ⊎ KeepsFill m stands
   pub choice : (after m (Made_number n)).remembered.choice ≡ Some (To_replace i (made_of write n))
 
 module _ (m : Machine) (n : ℕ) where
@@ -84,21 +84,21 @@ module _ (m : Machine) (n : ℕ) where
   on stage = record m { task = Compute; state = stage }
 
   -- the parts of what it stands on
-  abbrev IsOf : State → Option ℕ → Option Choice → Said → Type 0
-  IsOf stage fill choice said = (said_in Compute stage ≡ Some said) ⊎ (said_to_fill fill ≡ Some said) ⊎ (said_to_choose choice ≡ Some said)
+  abbrev IsOf : State → Option ℕ → Option Choice → ClosureResult → Type 0
+  IsOf stage fill choice said = (result_in Compute stage ≡ Some said) ⊎ (result_to_fill fill ≡ Some said) ⊎ (result_to_choose choice ≡ Some said)
 
-  fill_over : (gap : Gap) (said : Said) → IsOf (fills gap n) (Some n) None said → said ≡ Makes None n
+  fill_over : (gap : Gap) (said : ClosureResult) → IsOf (fills gap n) (Some n) None said → said ≡ Makes None n
   fill_over NoRoot said (inl e) = absurd (cc e)
   fill_over (At place) said (inl e) = let is : Makes None n ≡ said = cc e in sym is
   fill_over (After t) said (inl e) = absurd (cc e)
   fill_over gap said (inr (inl e)) = let is : Makes None n ≡ said = cc e in sym is
   fill_over gap said (inr (inr e)) = absurd (cc e)
 
-  keeps_fill : (stage : State) (fill : Option ℕ) → m.remembered.fill ≡ fill → (said : Said) → said_to_fill fill ≡ Some said → KeepsFill (on stage) said
+  keeps_fill : (stage : State) (fill : Option ℕ) → m.remembered.fill ≡ fill → (said : ClosureResult) → result_to_fill fill ≡ Some said → KeepsFill (on stage) said
   keeps_fill stage None is said e = absurd (cc e)
-  keeps_fill stage (Some i) is said e = let same : Makes None i ≡ said = cc e in (i, sym same, inr (inl (ap said_to_fill is ∙ e)))
+  keeps_fill stage (Some i) is said e = let same : Makes None i ≡ said = cc e in (i, sym same, inr (inl (ap result_to_fill is ∙ e)))
 
-  replace_over : (stage : State) (write : Write) (said : Said) → 0 < write.old
+  replace_over : (stage : State) (write : Write) (said : ClosureResult) → 0 < write.old
       → IsOf (Putting (record { write = write; pair = n })) m.remembered.fill (Some (To_replace (pair_of write.old) (made_of write n))) said
       → (said ≡ Makes (Some (pair_of write.old)) n) ⊎ KeepsFill (on stage) said
   replace_over stage write said some (inl e) = let is : Makes (shown_by write.old) n ≡ said = cc e in
@@ -112,20 +112,20 @@ module _ (m : Machine) (n : ℕ) where
     Then G = record m { task = Compute; made = made_to_pair G; remembered = paired_held G m.remembered purpose n; state = paired G purpose n }
 
   filling : (gap : Gap) → (G : Grown) → G ≡ Pair (pair_done m.made)
-      → ((stands : Said) → StandsOn (Then (Pairing (Fill gap)) (Fill gap) G) stands → stands ≡ Makes None n)
+      → ((stands : ClosureResult) → ActsOn (Then (Pairing (Fill gap)) (Fill gap) G) stands → stands ≡ Makes None n)
       × ((paired_held G m.remembered (Fill gap) n).choice ≡ None)
   filling gap (On made) is = absurd (cc is)
   filling gap (Pair made) is = (fill_over gap, refl)
 
   replacing : (write : Write) → 0 < write.old → (G : Grown) → G ≡ Pair (pair_done m.made)
-      → ((stands : Said) → StandsOn (Then (Pairing (Replace write)) (Replace write) G) stands → (stands ≡ Makes (Some (pair_of write.old)) n)
+      → ((stands : ClosureResult) → ActsOn (Then (Pairing (Replace write)) (Replace write) G) stands → (stands ≡ Makes (Some (pair_of write.old)) n)
       ⊎ KeepsFill (on (Pairing (Replace write))) stands)
       × ((paired_held G m.remembered (Replace write) n).choice ≡ Some (To_replace (pair_of write.old) (made_of write n)))
   replacing write some (On made) is = absurd (cc is)
   replacing write some (Pair made) is = ((λ stands. replace_over (Pairing (Replace write)) write stands some), refl)
 
   replacing_again : (write : Write) → 0 < write.old → (G : Grown) → G ≡ Pair (pair_done m.made)
-      → ((stands : Said) → StandsOn (Then (Pairing (Again write)) (Again write) G) stands → (stands ≡ Makes (Some (pair_of write.old)) n)
+      → ((stands : ClosureResult) → ActsOn (Then (Pairing (Again write)) (Again write) G) stands → (stands ≡ Makes (Some (pair_of write.old)) n)
       ⊎ KeepsFill (on (Pairing (Again write))) stands)
       × ((paired_held G m.remembered (Again write) n).choice ≡ Some (To_replace (pair_of write.old) (made_of write n)))
   replacing_again write some (On made) is = absurd (cc is)
@@ -135,7 +135,7 @@ module _ (m : Machine) (n : ℕ) where
   made_for : (purpose : Purpose) → MakesPair (pair_ask m.made (in_place_of purpose)) → grown m.made (in_place_of purpose) ≡ Pair (pair_done m.made)
   made_for purpose makes = pair_made m.made (in_place_of purpose) makes
 
-  filling_in : (stage : State) → IsStandingState Compute stage → ShowsIn m.remembered.choice stage → asks m.made m.hash stage ≡ MakePair
+  filling_in : (stage : State) → IsValidState Compute stage → NamesPairIn m.remembered.choice stage → asks m.made m.hash stage ≡ MakePair
       → IsFilling (on stage) n
   filling_in (Pairing (Fill gap)) is shows e =
       let f = filling gap (grown m.made 0) (made_for (Fill gap) (subst MakesPair (sym e) tt)) in record { said = inl refl; then = f.0; choice = f.1 }
@@ -149,11 +149,11 @@ module _ (m : Machine) (n : ℕ) where
   filling_in (Searching (Comparing at word)) is shows e = absurd (cc e)
   filling_in stage is shows e = absurd (cc e)
 
-  pub machine_filling : m.task ≡ Compute → IsStanding m → ShowsPairs m → ask_of m ≡ MakePair → IsFilling m n
-  machine_filling is standing shows e = subst (λ (t : Task). IsStandingState t m.state → IsFilling (record m { task = t }) n) (sym is)
-      (λ s. filling_in m.state s shows e) standing.state
+  pub machine_filling : m.task ≡ Compute → IsValid m → NamesPairs m → ask_of m ≡ MakePair → IsFilling m n
+  machine_filling is valid shows e = subst (λ (t : Task). IsValidState t m.state → IsFilling (record m { task = t }) n) (sym is)
+      (λ s. filling_in m.state s shows e) valid.state
 
-  replacing_in : (i : ℕ) (stage : State) → IsStandingState Compute stage → ShowsIn m.remembered.choice stage → asks m.made m.hash stage ≡ MakePairOf i
+  replacing_in : (i : ℕ) (stage : State) → IsValidState Compute stage → NamesPairIn m.remembered.choice stage → asks m.made m.hash stage ≡ MakePairOf i
       → IsReplacing (on stage) i n
   replacing_in i (Pairing (Fill gap)) is shows e = absurd ((replaced_old m.made.number m.made 0 i e).1 refl)
   replacing_in i (Pairing (Replace write)) is shows e =
@@ -169,7 +169,7 @@ module _ (m : Machine) (n : ℕ) where
         write = write;
         number = refl;
         purpose = inr refl;
-        said = inr (new.pair, inr (inr (ap said_to_choose chosen)), λ waits. waits);
+        said = inr (new.pair, inr (inr (ap result_to_choose chosen)), λ waits. waits);
         then = f.0;
         choice = f.1;
       })
@@ -180,6 +180,6 @@ module _ (m : Machine) (n : ℕ) where
   replacing_in i (Searching (Comparing at word)) is shows e = absurd (cc e)
   replacing_in i stage is shows e = absurd (cc e)
 
-  pub machine_replacing : (i : ℕ) → m.task ≡ Compute → IsStanding m → ShowsPairs m → ask_of m ≡ MakePairOf i → IsReplacing m i n
-  machine_replacing i is standing shows e = subst (λ (t : Task). IsStandingState t m.state → IsReplacing (record m { task = t }) i n) (sym is)
-      (λ s. replacing_in i m.state s shows e) standing.state
+  pub machine_replacing : (i : ℕ) → m.task ≡ Compute → IsValid m → NamesPairs m → ask_of m ≡ MakePairOf i → IsReplacing m i n
+  machine_replacing i is valid shows e = subst (λ (t : Task). IsValidState t m.state → IsReplacing (record m { task = t }) i n) (sym is)
+      (λ s. replacing_in i m.state s shows e) valid.state

@@ -13,8 +13,8 @@ use Rattle.papaya_words_law.specs.Code.{Coding}
 use Rattle.papaya_words_law.specs.Exchange.{Exchange, Setting, run, start}
 use Rattle.papaya_words_law.specs.Later.{IsOfKey}
 use Rattle.papaya_call_law.specs.Relies.{ReliesChoice, ReliesFill}
-use Rattle.papaya_call_law.specs.Says.{Makes, Removes, Said, StandsOn}
-use Rattle.papaya_call_law.specs.Told.{IsOneOf, LoadedPairs}
+use Rattle.papaya_call_law.specs.Says.{Makes, Removes, ClosureResult, ActsOn}
+use Rattle.papaya_call_law.specs.TrueAnswers.{IsOneOf, LoadedPairs}
 use Rattle.papaya_call_law.proofs.ReliesLearnPairs.{wanted_relies}
 use Rattle.papaya_map_book.specs.declared.rule.entry.Begun.{Begun}
 use Rattle.papaya_map_book.specs.declared.rule.entry.Event.{Event}
@@ -25,7 +25,7 @@ use Rattle.papaya_map_book.proofs.Logs.{exchanges_of-append}
 use Rattle.papaya_map_lookup.specs.History.{history_of, key_of}
 use Rattle.papaya_map_lookup.specs.Lookups.{coding_for, setting_for}
 use Rattle.papaya_map_change.specs.Changing.{IsCalling}
-use Rattle.papaya_map_change.specs.Showings.{WasHeld}
+use Rattle.papaya_map_change.specs.ClosureCalls.{WasHeld}
 use Rattle.papaya_map_change.specs.Writing.{HasKey, HasKeyAt, HasValue, held_value}
 use Rattle.papaya_map_change.proofs.Changing.{mode_is}
 use Rattle.papaya_map_compute.specs.declared.slow_path.Computing.{Computing}
@@ -114,7 +114,7 @@ module _ {K V S : Type 0} (eq : K → K → Bool) (hash : S → K → ℕ) (b : 
         abbrev with_fill : Remembered
         with_fill = record { fill = Some q.index; choice = None }
 
-        fills_only : {stands : Said} → StandsOn (resumed_at h b.mode initial b.limit with_fill).call stands → stands ≡ Makes None q.index
+        fills_only : {stands : ClosureResult} → ActsOn (resumed_at h b.mode initial b.limit with_fill).call stands → stands ≡ Makes None q.index
         fills_only (inl e) = absurd (cc e)
         fills_only (inr (inl e)) = cc e
         fills_only (inr (inr e)) = absurd (cc e)
@@ -139,10 +139,10 @@ module _ {K V S : Type 0} (eq : K → K → Bool) (hash : S → K → ℕ) (b : 
           none_once = tt;
           none_shown = inr (rw machine tt);
           stood = λ stands s.
-              let is : stands ≡ Makes None q.index = fills_only (subst (λ (z : Machine). StandsOn z.call stands) machine s) in
+              let is : stands ≡ Makes None q.index = fills_only (subst (λ (z : Machine). ActsOn z.call stands) machine s) in
               subst (Holds key (q ∷ []) (Heard None) x) (sym is) (q, fill, record { number = refl; made_is = inl refl; key_is = key_is; said_is = inl refl });
           newest = λ i n s. let is : Makes (Some i) n ≡ Makes None q.index = fills_only
-              (subst (λ (z : Machine). StandsOn z.call (Makes (Some i) n)) machine s) in absurd (cc is);
+              (subst (λ (z : Machine). ActsOn z.call (Makes (Some i) n)) machine s) in absurd (cc is);
           of_slot = λ old new e. let f = sym (ap (λ (z : Machine). z.call.remembered.choice) machine) ∙ e in absurd (cc f);
           aborts = λ with e. let f = sym (ap ask_of machine) ∙ e in absurd (cc f);
           refuses = λ cause e. let f = sym (ap ask_of machine) ∙ e in absurd (cc f);
@@ -161,7 +161,7 @@ module _ {K V S : Type 0} (eq : K → K → Bool) (hash : S → K → ℕ) (b : 
         abbrev with_choice : Remembered
         with_choice = record { fill = None; choice = Some (To_replace p.index of) }
 
-        chooses_only : {stands : Said} → StandsOn (resumed_at h b.mode initial b.limit with_choice).call stands → stands ≡ Makes (Some p.index) q.index
+        chooses_only : {stands : ClosureResult} → ActsOn (resumed_at h b.mode initial b.limit with_choice).call stands → stands ≡ Makes (Some p.index) q.index
         chooses_only (inl e) = absurd (cc e)
         chooses_only (inr (inl e)) = absurd (cc e)
         chooses_only (inr (inr e)) = cc e
@@ -190,7 +190,7 @@ module _ {K V S : Type 0} (eq : K → K → Bool) (hash : S → K → ℕ) (b : 
           none_once = tt;
           none_shown = inl tt;
           stood = λ stands s.
-              let is : stands ≡ Makes (Some p.index) q.index = chooses_only (subst (λ (z : Machine). StandsOn z.call stands) machine s) in
+              let is : stands ≡ Makes (Some p.index) q.index = chooses_only (subst (λ (z : Machine). ActsOn z.call stands) machine s) in
               subst (Holds key (q ∷ []) (Heard (Some p)) x) (sym is)
               (p, q, chosen, refl, made, record { number = refl; made_is = inl refl; key_is = key_is; said_is = inl refl });
           newest = λ i n s. inr (record { shown = shown ∙ sym chosen; made = (q, made, value_is) });
@@ -210,7 +210,7 @@ module _ {K V S : Type 0} (eq : K → K → Bool) (hash : S → K → ℕ) (b : 
       abbrev to_remove : Remembered
       to_remove = record { fill = None; choice = Some (To_remove p.index) }
 
-      removes_only : {stands : Said} → StandsOn (resumed_at h b.mode initial b.limit to_remove).call stands → stands ≡ Removes p.index
+      removes_only : {stands : ClosureResult} → ActsOn (resumed_at h b.mode initial b.limit to_remove).call stands → stands ≡ Removes p.index
       removes_only (inl e) = absurd (cc e)
       removes_only (inr (inl e)) = absurd (cc e)
       removes_only (inr (inr e)) = cc e
@@ -234,10 +234,10 @@ module _ {K V S : Type 0} (eq : K → K → Bool) (hash : S → K → ℕ) (b : 
         none_once = tt;
         none_shown = inl tt;
         stood = λ stands s.
-            let is : stands ≡ Removes p.index = removes_only (subst (λ (z : Machine). StandsOn z.call stands) machine s) in
+            let is : stands ≡ Removes p.index = removes_only (subst (λ (z : Machine). ActsOn z.call stands) machine s) in
             subst (Holds key [] ((Some p, operation.Remove) ∷ []) x) (sym is) (p, chosen, refl, inl refl);
         newest = λ i n s. let is : Makes (Some i) n ≡ Removes p.index = removes_only
-            (subst (λ (z : Machine). StandsOn z.call (Makes (Some i) n)) machine s) in absurd (cc is);
+            (subst (λ (z : Machine). ActsOn z.call (Makes (Some i) n)) machine s) in absurd (cc is);
         of_slot = λ old new e. let f = sym (ap (λ (z : Machine). z.call.remembered.choice) machine) ∙ e in absurd (cc f);
         aborts = λ with e. let f = sym (ap ask_of machine) ∙ e in absurd (cc f);
         refuses = λ cause e. let f = sym (ap ask_of machine) ∙ e in absurd (cc f);

@@ -10,7 +10,7 @@ use Rattle.papaya_words_keys.specs.declared.results.Compute.TheVariants.{Inserte
 use Rattle.papaya_map_change.specs.Changes.{IsChangeOf}
 use Rattle.papaya_map_lookup.specs.History.{Change, key_of}
 use Rattle.papaya_map_book.specs.Logs.{Member, Stored}
-use Rattle.papaya_map_change.specs.Showings.{AllShown, AreOf, HasSaid, IsNoneOnce, IsSamePair, WasHeld, WasLast}
+use Rattle.papaya_map_change.specs.ClosureCalls.{AllArguments, AreOf, HasReturned, IsNoneOnce, IsSamePair, WasHeld, WasLast}
 use Rattle.papaya_map_change.specs.Writing.{IsMemoryCapacityOrLimit}
 
 -- Whether the compute changed the map.
@@ -60,7 +60,7 @@ module _ {K V T : Type 0} (eq : K → K → Bool) (key : K)
       → Type 0) (first : F) (answer : Result (Computed K V T) Refused) : Type 0 where
     pub said : List (Option (Stored K V) × Operation V T)
     pub left : F
-    pub has_said : HasSaid operates first said left
-    pub held : AllShown (WasHeld eq (eq key) old new) said
+    pub has_said : HasReturned operates first said left
+    pub held : AllArguments (WasHeld eq (eq key) old new) said
     pub none_once : IsNoneOnce said
     pub operated : IsOperated said answer

@@ -20,8 +20,8 @@ use Rattle.papaya_map_book.specs.Parts.{begun_of}
 use Rattle.papaya_map_book.specs.Windows.{Sees}
 use Rattle.papaya_map_compute.specs.declared.slow_path.Computing.{Computing}
 use Rattle.papaya_map_compute.specs.declared.slow_path.ComputeStep.{ComputeStep}
-use Rattle.papaya_map_compute.specs.declared.slow_path.ComputeStep.TheVariants.{Answered, Shows, Replied}
-use Rattle.papaya_map_compute.specs.Computing.{IsToShow}
+use Rattle.papaya_map_compute.specs.declared.slow_path.ComputeStep.TheVariants.{Answered, CallsClosure, Replied}
+use Rattle.papaya_map_compute.specs.Computing.{IsToCall}
 use Rattle.papaya_map_compute.specs.Computing as computing
 use Rattle.papaya_call.specs.Machine.{ask_of as call_ask_of}
 use Rattle.papaya_map_change.specs.Doing.{Answers, has_changed}
@@ -54,7 +54,7 @@ module _ {K V S T H : Type 0} {d : keyed.Ghosts S K H} where
 
   -- The compute's machine received this answer, and if that set it aside, the call has helped the
   -- copy.
-  pub record IsTold (w : Window K V S H d) (x : Computing K V S T H) (answer : Answer)
+  pub record HasAnswered (w : Window K V S H d) (x : Computing K V S T H) (answer : Answer)
       (w' : Window K V S H d) (x' : Computing K V S T H) : Type 0 where
     pub helps : Helps w (after x.writer.call.machine (Told answer)) w' x'.writer.call
     pub still : (after x.writer.call.machine (Told answer)).phase ≡ Calling → w' ≡ w
@@ -77,20 +77,20 @@ module _ {K V S T H : Type 0} {d : keyed.Ghosts S K H} where
       w.book.now.begun.book key w.sight.log w.sight.log x []
 
   -- The compute's next turn: it gets an answer, its closure is to be called, or it has replied.
-  abbrev pub Turns : Window K V S H d → Computing K V S T H → Window K V S H d
+  abbrev pub TakesStep : Window K V S H d → Computing K V S T H → Window K V S H d
       → Computing K V S T H → ComputeStep K V → Type 0
-  Turns w x w' x' (Answered answer) = Computes w x w' x' (Some answer)
+  TakesStep w x w' x' (Answered answer) = Computes w x w' x' (Some answer)
       × Answers (call_ask_of x.writer.call.machine.call) (Some answer) w w'
-  Turns w x w' x' (Shows shown) = IsToShow x shown × (w' ≡ w) × (x' ≡ x)
-  Turns w x w' x' Replied = Computes w x w' x' None
+  TakesStep w x w' x' (CallsClosure shown) = IsToCall x shown × (w' ≡ w) × (x' ≡ x)
+  TakesStep w x w' x' Replied = Computes w x w' x' None
       × Answers (call_ask_of x.writer.call.machine.call) None w w'
 
   -- The compute has taken this turn, and its machine is the same.
-  pub record HasTurned (w : Window K V S H d) (x : Computing K V S T H) (w' : Window K V S H d)
+  pub record HasStepped (w : Window K V S H d) (x : Computing K V S T H) (w' : Window K V S H d)
       (x' : Computing K V S T H) (turn : ComputeStep K V) : Type 0 where
     pub sees : Sees w w'
     pub machine : x'.writer.call.machine ≡ x.writer.call.machine
-    pub turns : Turns w x w' x' turn
+    pub turns : TakesStep w x w' x' turn
 
 module _ {K V S T H : Type 0} where
   -- For some window of such a map, some compute is under way.
@@ -99,9 +99,9 @@ module _ {K V S T H : Type 0} where
 
   -- Whatever has been observed of the map: the closure was called with `shown` and returned `done`,
   -- and each compute under way goes on with this answer and no step.
-  abbrev pub Hears : Keys K S → Computing K V S T H → Option (Stored K V) → Operation V T
+  abbrev pub RecordsResult : Keys K S → Computing K V S T H → Option (Stored K V) → Operation V T
       → Computing K V S T H → Answer → Type 0
-  Hears keys x shown done x' answer = (w : Window K V S H (record { keys = keys }))
+  RecordsResult keys x shown done x' answer = (w : Window K V S H (record { keys = keys }))
       → Answers (call_ask_of x.writer.call.machine.call) (Some answer) w w
-      × computing.Hears keys.eq keys.hash (begun_of w.book.now.parts) w.book.now.begun.book
+      × computing.RecordsResult keys.eq keys.hash (begun_of w.book.now.parts) w.book.now.begun.book
       w.sight.log x shown done x' answer

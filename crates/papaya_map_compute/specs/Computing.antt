@@ -24,8 +24,8 @@ use Rattle.papaya_call.specs.declared.made.Of.{Of}
 use Rattle.papaya_call.specs.Machine.{IsFit}
 use Rattle.papaya_call.specs.declared.chain.ask.Ask.TheVariants.{Call}
 use Rattle.papaya_call.specs.ChainMachine.{ask_of}
-use Rattle.papaya_call_law.specs.Says.{Agrees, HasShownNone, Inserts, IsAnswered, Makes, Removes, Said, ShowsPairs, StandsOn, show}
-use Rattle.papaya_call_law.specs.Told.{IsOneOf}
+use Rattle.papaya_call_law.specs.Says.{Agrees, HasCalledNone, Inserts, IsAnswered, Makes, Removes, ClosureResult, NamesPairs, ActsOn, show}
+use Rattle.papaya_call_law.specs.TrueAnswers.{IsOneOf}
 use Rattle.papaya_words_keys.specs.declared.results.Compute.{Compute as Computed}
 use Rattle.papaya_map_compute.specs.declared.slow_path.Computing.{Computing}
 use Rattle.papaya_map_book.specs.declared.rule.entry.Begun.{Begun}
@@ -36,7 +36,7 @@ use Rattle.papaya_map_book.specs.declared.book.pairs.ValuePart.{ValuePart}
 use Rattle.papaya_map_book.specs.declared.book.pairs.ValuePart.TheVariants as values
 use Rattle.papaya_map_book.specs.Limits.{HasNoRoom, IsSpent, tables_of}
 use Rattle.papaya_map_book.specs.Rule.{IsPlaced}
-use Rattle.papaya_map_change.specs.Showings.{AllShown, HasNoNone, IsNoneOnce, WasHeld, WasLast}
+use Rattle.papaya_map_change.specs.ClosureCalls.{AllArguments, HasNoNone, IsNoneOnce, WasHeld, WasLast}
 use Rattle.papaya_map_change.specs.Changes.{key_kept}
 use Rattle.papaya_map_change.specs.Writing.{HasKeyAt, IsWriting, answered as answered_writer, held_value}
 use Rattle.papaya_map_compute.specs.ComputeAnswers.{IsOperated, IsRefusedBy}
@@ -97,8 +97,8 @@ number_of None = None
 number_of (Some p) = Some p.index
 
 -- The closure is to be called with `shown`: with `None`, or with the pair last loaded.
-abbrev pub IsToShow : {K V S H T : Type 0} → Computing K V S T H → Option (Stored K V) → Type 0
-IsToShow x shown = (ask_of x.writer.call.machine ≡ Call (show (number_of shown)))
+abbrev pub IsToCall : {K V S H T : Type 0} → Computing K V S T H → Option (Stored K V) → Type 0
+IsToCall x shown = (ask_of x.writer.call.machine ≡ Call (show (number_of shown)))
     × MatchOption shown (Unit {0}) (λ p. x.writer.call.copier.last ≡ Some p)
 
 -- The ask is one that every inserting call makes, and neither for a pair nor for an exchange of a
@@ -129,7 +129,7 @@ module _ {K V S T H : Type 0} (key : K) (made : List (Stored K V))
     (said : List (Option (Stored K V) × Operation V T)) (x : Computing K V S T H) where
   -- If the machine relies on an answer of the closure, the closure returned it, and the compute
   -- holds the pair with which the closure was called and what was made of its result.
-  abbrev pub Holds : Said → Type 0
+  abbrev pub Holds : ClosureResult → Type 0
   Holds (Agrees n agrees) = ⊥
   Holds (Inserts None) = (x.shown ≡ None) × ((v : V)
       × (held_value x.writer.value ≡ Some v)
@@ -153,7 +153,7 @@ module _ {K V S T H : Type 0} (m : Machine) (x : Computing K V S T H) where
   -- If the machine relies on a pair that was made to replace another, then `IsNewest` holds, unless
   -- a pair is being made of the closure's last result or the call is over.
   abbrev pub HasNewest : Type 0
-  HasNewest = (i n : ℕ) → StandsOn m (Makes (Some i) n) → IsAnswered m.state ⊎ IsNewest x
+  HasNewest = (i n : ℕ) → ActsOn m (Makes (Some i) n) → IsAnswered m.state ⊎ IsNewest x
 
   -- The pair that the machine remembers to put in place of another has the key that is in the slot
   -- for which it was made.
@@ -172,7 +172,7 @@ IsSpared {K = K} {V = V} fill heard = (v : V) → Member (None, operation.Insert
 pub record IsReplied {K V T : Type 0} (eq : K → K → Bool) (key : K)
     (old new : List (Change K (Stored K V))) (heard : List (Option (Stored K V) × Operation V T))
     (answer : Result (Computed K V T) Refused) : Type 0 where
-  pub held : AllShown (WasHeld eq (eq key) old new) heard
+  pub held : AllArguments (WasHeld eq (eq key) old new) heard
   pub none_once : IsNoneOnce heard
   pub operated : IsOperated eq key old new heard answer
 
@@ -184,16 +184,16 @@ module _ {K V S H T : Type 0} (eq : K → K → Bool) (hash : S → K → ℕ) (
     pub made : List (Stored K V)
     pub writing : IsWriting eq hash b name key made begun log x.writer
     pub task_is : x.writer.call.machine.call.task ≡ Compute
-    pub words : ShowsPairs x.writer.call.machine.call
+    pub words : NamesPairs x.writer.call.machine.call
     pub puts : PutsChosen x.writer.call.machine.call
     pub shown_placed : IsPlaced b (Some name) (pair_named x.shown)
     pub fill_placed : IsPlaced b (Some name) (pair_named x.fill)
     pub chosen_placed : IsPlaced b (Some name) (pair_named x.chosen)
-    pub held : AllShown (WasHeld eq (eq key) (history_of begun) (history_of log)) heard
+    pub held : AllArguments (WasHeld eq (eq key) (history_of begun) (history_of log)) heard
     pub none_once : IsNoneOnce heard
-    pub none_shown : HasNoNone heard ⊎ HasShownNone x.writer.call.machine.call.remembered.fill
+    pub none_shown : HasNoNone heard ⊎ HasCalledNone x.writer.call.machine.call.remembered.fill
         x.writer.call.machine.call.state
-    pub stood : (stands : Said) → StandsOn x.writer.call.machine.call stands
+    pub stood : (stands : ClosureResult) → ActsOn x.writer.call.machine.call stands
         → Holds key made heard x stands
     pub newest : HasNewest x.writer.call.machine.call x
     pub of_slot : IsOfItsSlot x.writer.call.machine.call x log
@@ -235,9 +235,9 @@ module _ {K V S H T : Type 0} (eq : K → K → Bool) (hash : S → K → ℕ) (
 
   -- Each compute that was under way goes on with this answer; its closure was called with `shown`,
   -- and returned `done`.
-  abbrev pub Hears : List (Event K V S) → Computing K V S T H → Option (Stored K V) → Operation V T
+  abbrev pub RecordsResult : List (Event K V S) → Computing K V S T H → Option (Stored K V) → Operation V T
       → Computing K V S T H → Answer → Type 0
-  Hears log x shown done x' answer = (key : K) (begun : List (Event K V S))
+  RecordsResult log x shown done x' answer = (key : K) (begun : List (Event K V S))
       (heard : List (Option (Stored K V) × Operation V T)) → IsComputing key begun log x heard
       → IsComputingOn key begun log x' ((shown, done) ∷ heard) (Some answer)
 

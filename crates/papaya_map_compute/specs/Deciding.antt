@@ -8,7 +8,7 @@ use Rattle.papaya_call.specs.declared.answers.Operation.TheVariants as operation
 use Rattle.papaya_map_book.specs.Logs.{Member, Stored}
 use Rattle.papaya_map_lookup.specs.History.{Change, key_of}
 use Rattle.papaya_map_change.specs.Changes.{IsChangeOf}
-use Rattle.papaya_map_change.specs.Showings.{AllShown, HasSaid, IsNoneOnce, WasHeld, WasLast}
+use Rattle.papaya_map_change.specs.ClosureCalls.{AllArguments, HasReturned, IsNoneOnce, WasHeld, WasLast}
 use Rattle.papaya_map_change.specs.Writing.{IsMemoryCapacityOrLimit}
 use Rattle.papaya_words_keys.specs.declared.results.Compute.{Compute as Computed}
 use Rattle.papaya_words_keys.specs.declared.results.Compute.TheVariants.{Inserted, Updated, Removed, Aborted}
@@ -86,7 +86,7 @@ module _ {K V : Type 0} (eq : K → K → Bool) (key : K)
   -- was called with `None` at most once.
   pub record IsDoneBy (heard : List (Option (Stored K V) × Operation V (Unit {0})))
       (answer : Result (Decided V) Refused) : Type 0 where
-    pub held : AllShown (WasHeld eq (eq key) old new) heard
+    pub held : AllArguments (WasHeld eq (eq key) old new) heard
     pub none_once : IsNoneOnce heard
     pub decided : IsDecidedOf heard answer
 
@@ -94,5 +94,5 @@ module _ {K V : Type 0} (eq : K → K → Bool) (key : K)
   pub record IsDecided {F : Type 0} (decides : F → Option V → Option V → F → Type 0)
       (first left : F) (answer : Result (Decided V) Refused) : Type 0 where
     pub heard : List (Option (Stored K V) × Operation V (Unit {0}))
-    pub has_said : HasSaid (Wishes decides) first heard left
+    pub has_said : HasReturned (Wishes decides) first heard left
     pub done : IsDoneBy heard answer

@@ -8,7 +8,7 @@ use Rattle.papaya_call.specs.declared.answers.Operation.{Operation}
 use Rattle.papaya_call.specs.declared.answers.Operation.TheVariants as operation
 use Rattle.papaya_call.specs.declared.machine.State.{State}
 use Rattle.papaya_call.specs.declared.chain.machine.Phase.TheVariants.{Calling}
-use Rattle.papaya_call.specs.ChainMachine.{IsStanding}
+use Rattle.papaya_call.specs.ChainMachine.{IsValid}
 use Rattle.papaya_words_keys.specs.declared.results.Compute.{Compute as Computed}
 use Rattle.papaya_map_book.specs.declared.keyed.Keyed as keyed
 use Rattle.papaya_map_book.specs.declared.rule.entry.Event.{Event}
@@ -24,13 +24,13 @@ use Rattle.papaya_map_lookup.specs.declared.lookup.Met.{Met}
 use Rattle.papaya_map_change.specs.Doing.{has_changed}
 use Rattle.papaya_map_change.specs.Seeking.{Seeker, leads, met_by}
 use Rattle.papaya_map_change.specs.Window.Seeking.{IsSeekingAt}
-use Rattle.papaya_map_change.specs.Showings.{AllShown, HasSaid, WasHeld}
+use Rattle.papaya_map_change.specs.ClosureCalls.{AllArguments, HasReturned, WasHeld}
 use Rattle.papaya_map_change.specs.Writing.{HasKeyAt}
 use Rattle.papaya_map_change.specs.declared.fast_path.ProbeHit.{ProbeHit}
 use Rattle.papaya_map_compute.specs.declared.fast_path.Attempt.{Attempt}
 use Rattle.papaya_map_compute.specs.declared.fast_path.Attempt.TheVariants.{Over, On}
 use Rattle.papaya_map_compute.specs.declared.fast_path.Start.{Start}
-use Rattle.papaya_map_compute.specs.declared.fast_path.Start.TheVariants.{Anew, Filled, Replaced}
+use Rattle.papaya_map_compute.specs.declared.fast_path.Start.TheVariants.{Beginning, Filled, Replaced}
 use Rattle.papaya_map_compute.specs.declared.fast_path.Start.TheVariants.{Removing}
 use Rattle.papaya_map_compute.specs.declared.slow_path.Computing.{Computing}
 use Rattle.papaya_map_compute.specs.Computing as computing
@@ -49,7 +49,7 @@ IfOn (On x) P = P x
 
 -- The compute has changed nothing yet, is not set aside, and is on a map of this initial capacity.
 pub record IsAhead {K V S T H : Type 0} (initial : ℕ) (x : Computing K V S T H) : Type 0 where
-  pub standing : IsStanding x.writer.call.machine
+  pub valid : IsValid x.writer.call.machine
   pub calling : x.writer.call.machine.phase ≡ Calling
   pub initial_is : x.writer.call.machine.call.initial ≡ initial
   pub unchanged : has_changed x.writer.call.machine ≡ false
@@ -79,7 +79,7 @@ module _ {K V S H : Type 0} {d : keyed.Ghosts S K H} where
       → IsSeekingAt who w key begun state (met_by turn) table
 
   -- The same on a map without a limit on pairs, where `hash` is the hash of the key.
-  pub record IsLed (w : Window K V S H d) (key : K) (hash : ℕ) (begun : List (Event K V S))
+  pub record IsSearchEnd (w : Window K V S H d) (key : K) (hash : ℕ) (begun : List (Event K V S))
       (table : Sheet) (turn : ProbeHit (Met K V)) : Type 0 where
     pub hashed : hash ≡ d.keys.hash w.book.now.parts.hasher key
     pub limit : w.book.now.parts.limit ≡ None
@@ -111,7 +111,7 @@ module _ {K V S T H : Type 0} {d : keyed.Ghosts S K H} where
   -- A machine of this key whose closure had the calls in `heard` can start from `start`.
   abbrev pub CanStart : Window K V S H d → K → Start K V
       → List (Option (Stored K V) × Operation V T) → Type 0
-  CanStart w key (Anew own) heard = (own ≡ key) × (heard ≡ [])
+  CanStart w key (Beginning own) heard = (own ≡ key) × (heard ≡ [])
   CanStart w key (Filled hash pair) heard = IsMade w key hash pair × (key_of pair ≡ key)
       × (heard ≡ ((None, operation.Insert pair.value.value) ∷ []))
   CanStart w key (Replaced own hash met pair) heard = (own ≡ key) × IsMade w key hash pair
@@ -122,17 +122,17 @@ module _ {K V S T H : Type 0} {d : keyed.Ghosts S K H} where
 
   -- The same, and whatever the closure was called with, the map had at some point since the log
   -- `begun`.
-  abbrev pub HasHeard : Window K V S H d → K → List (Event K V S) → Start K V
+  abbrev pub CanStartSince : Window K V S H d → K → List (Event K V S) → Start K V
       → List (Option (Stored K V) × Operation V T) → Type 0
-  HasHeard w key begun start heard = CanStart w key start heard × IsPrefix begun w.sight.log
-      × AllShown (WasHeld d.keys.eq (d.keys.eq key) (history_of begun) (past w)) heard
+  CanStartSince w key begun start heard = CanStart w key start heard × IsPrefix begun w.sight.log
+      × AllArguments (WasHeld d.keys.eq (d.keys.eq key) (history_of begun) (past w)) heard
 
   -- From this start the machine goes on as `x`, for each key, log and calls with which it can
   -- start.
   abbrev pub GoesFrom : (w : Window K V S H d) → Start K V → (w' : Window K V S H d)
       → Computing K V S T H → Type 0
   GoesFrom w start w' x = (key : K) (begun : List (Event K V S))
-      (heard : List (Option (Stored K V) × Operation V T)) → HasHeard w key begun start heard
+      (heard : List (Option (Stored K V) × Operation V T)) → CanStartSince w key begun start heard
       → computing.IsUnderWay d.keys.eq d.keys.hash (begun_of w'.book.now.parts)
       w'.book.now.begun.book key begun w'.sight.log x heard
 
@@ -154,7 +154,7 @@ module _ {K V S T H : Type 0} {d : keyed.Ghosts S K H} where
   abbrev pub GoesOnce : (w w' : Window K V S H d) → K → Sheet → ProbeHit (Met K V) → Operation V T
       → Start K V → Type 0
   GoesOnce w w' key table turn done start = (begun : List (Event K V S))
-      → IsFoundAt w key begun table turn → HasHeard w' key begun start ((met_by turn, done) ∷ [])
+      → IsFoundAt w key begun table turn → CanStartSince w' key begun start ((met_by turn, done) ∷ [])
 
   -- How the fast path ends if the closure was called once, with what the search found, and returned
   -- `done`.
@@ -169,4 +169,4 @@ module _ {K V S T H : Type 0} {d : keyed.Ghosts S K H} where
       → (F → Option (Stored K V) → Operation V T → F → Type 0) → (first left : F)
       → Start K V → Type 0
   IsOnItsWay w w' key says first left start = (heard : List (Option (Stored K V) × Operation V T))
-      × HasHeard w' key w.sight.log start heard × HasSaid says first heard left
+      × CanStartSince w' key w.sight.log start heard × HasReturned says first heard left

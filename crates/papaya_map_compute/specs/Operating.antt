@@ -6,7 +6,7 @@ use Rattle.papaya_call.specs.declared.answers.Operation.{Operation}
 use Rattle.papaya_call.specs.declared.answers.Operation.TheVariants as operation
 use Rattle.papaya_map_book.specs.Logs.{Member, Stored}
 use Rattle.papaya_map_lookup.specs.History.{Change}
-use Rattle.papaya_map_change.specs.Showings.{AreShown, HasSaid, WasLast}
+use Rattle.papaya_map_change.specs.ClosureCalls.{AreRefsTo, HasReturned, WasLast}
 use Rattle.papaya_words_keys.specs.declared.results.Compute.{Compute as Computed}
 use Rattle.papaya_words_keys.specs.declared.results.Compute.TheVariants.{Aborted}
 use Rattle.papaya_map_compute.specs.Computing.{IsReplied, value_in}
@@ -14,9 +14,9 @@ use Rattle.papaya_map_compute.specs.declared.operating.Ended.{Ended}
 
 module _ {K V T : Type 0} where
   -- The operator is called with references to an entry, or with `None`.
-  abbrev pub Shows : {O : Type 0} → (O → Option (Bor K × Bor V) → Operation V T → O → Type 0) → O
+  abbrev pub CallsClosure : {O : Type 0} → (O → Option (Bor K × Bor V) → Operation V T → O → Type 0) → O
       → Option (Stored K V) → Operation V T → O → Type 0
-  Shows operates f held done g = (shown : Option (Bor K × Bor V)) × AreShown shown held
+  CallsClosure operates f held done g = (shown : Option (Bor K × Bor V)) × AreRefsTo shown held
       × operates f shown done g
 
   -- A compute that ended on its fast path, where the key's value was `current`, if it had one.
@@ -41,6 +41,6 @@ pub record HasEnded {K V T O : Type 0} (eq : K → K → Bool) (key : K)
     (says : O → Option (Stored K V) → Operation V T → O → Type 0) (first left : O)
     (ended : Ended K V T) : Type 0 where
   pub heard : List (Option (Stored K V) × Operation V T)
-  pub has_said : HasSaid says first heard left
+  pub has_said : HasReturned says first heard left
   pub replied : IsReplied eq key old new heard ended.answer
   pub is_left : (with : T) → ended.answer ≡ Ok (Aborted with) → IsLeft ended with heard

@@ -15,7 +15,7 @@ use Rattle.papaya_map_book.specs.declared.window.Window.{Window}
 use Rattle.papaya_map_book.specs.Logs.{Stored}
 use Rattle.papaya_map_book.specs.Parts.{begun_of}
 use Rattle.papaya_map_lookup.specs.History.{history_of}
-use Rattle.papaya_map_change.specs.Showings.{WasHeld}
+use Rattle.papaya_map_change.specs.ClosureCalls.{WasHeld}
 use Rattle.papaya_map_compute.specs.declared.slow_path.Computing.{Computing}
 use Rattle.papaya_map_compute.specs.Computing as computing
 

@@ -3,17 +3,17 @@
 //!
 //! A rule is called with a value alone, so the fast path reads no key of a pair, and returns the
 //! outcome without a `Compute`. The slow path is that of all computes.
-ghost use Rattle.papaya_map_change.specs.Window.Ends.{Ends, TellsWhy};
+ghost use Rattle.papaya_map_change.specs.Window.Ends.{Ends, HasCause};
 ghost use Rattle.std.specs.Prelude.{◌≡◌, None, Some, Option, Ok, Err};
 ghost use Rattle.std.specs.Int.{IsPowerOfTwo};
 ghost use Rattle.papaya_map_lookup.specs.Drivers.{past};
 ghost use Rattle.papaya_map_book.specs.Windows.{IsLawful, Observes};
 ghost use Rattle.papaya_map_change.specs.declared.fast_path.ProbeHit.TheVariants.{Empty, Met as MetPair};
 ghost use Rattle.papaya_map_compute.specs.Deciding.{AsksRule, IsDecided, answer_of, outcome_of, puts};
-ghost use Rattle.papaya_map_compute.specs.FastPath.{ComesTo, IsLed, IsOnItsWay};
-ghost use Rattle.papaya_map_compute.specs.Operating.{Shows};
+ghost use Rattle.papaya_map_compute.specs.FastPath.{ComesTo, IsSearchEnd, IsOnItsWay};
+ghost use Rattle.papaya_map_compute.specs.Operating.{CallsClosure};
 
-use crate::fast_path::{Attempt, Start, log_by_waiting, look};
+use crate::fast_path::{Attempt, Start, search_root, store_by_waiting};
 use crate::operating::{Operator, slow};
 use papaya_call::answers::Operation;
 use papaya_call::search::Place;
@@ -138,12 +138,12 @@ fn decide_absent<'a, R: Wait, K: Hash + Eq + Drop, V: Drop, S: BuildHasher, D: R
     rule: &mut D,
 ) -> Attempt<Start<K, V>, Result<Decided<'a, V>, Refused>>
     requires callable { D.callable rule.old }
-    requires led { (begun : _) × IsLed window.old key hash begun table.now (Empty at) }
+    requires led { (begun : _) × IsSearchEnd window.old key hash begun table.now (Empty at) }
     ensures callable { D.callable rule.new }
-    ensures comes { (since : _) → IsLed window.old key hash since.sight.log table.now (Empty at)
+    ensures comes { (since : _) → IsSearchEnd window.old key hash since.sight.log table.now (Empty at)
         → Observes since window.old → ComesTo puts (IsDecided K.eq key (past since)
         (past window.new) D.decides rule.old rule.new) (IsOnItsWay since window.new key
-        (Shows (AsksRule D.decides)) rule.old rule.new) since window.new result }
+        (CallsClosure (AsksRule D.decides)) rule.old rule.new) since window.new result }
 {
     let Some(value) = rule.absent() else {
         return Attempt::Over(Ok(Decided::Left {
@@ -155,7 +155,7 @@ fn decide_absent<'a, R: Wait, K: Hash + Eq + Drop, V: Drop, S: BuildHasher, D: R
         Tried::Put(pair) => Attempt::Over(Ok(Decided::Put(value_of(window.book, &pair)))),
         Tried::Lost(pair) => Attempt::On(Start::Filled { hash, pair }),
         Tried::Back((key, value)) => {
-            match log_by_waiting(means.rt, window.book, hash, KeyPart::Own(key), value) {
+            match store_by_waiting(means.rt, window.book, hash, KeyPart::Own(key), value) {
                 Some(pair) => Attempt::On(Start::Filled { hash, pair }),
                 None => Attempt::Over(Err(Refused::Memory)),
             }
@@ -176,12 +176,12 @@ fn decide_present<'a, R: Wait, K: Hash + Eq + Drop, V: Drop, S: BuildHasher, D: 
     rule: &mut D,
 ) -> Attempt<Start<K, V>, Result<Decided<'a, V>, Refused>>
     requires callable { D.callable rule.old }
-    requires led { (begun : _) × IsLed window.old key hash begun table.now (MetPair live) }
+    requires led { (begun : _) × IsSearchEnd window.old key hash begun table.now (MetPair live) }
     ensures callable { D.callable rule.new }
-    ensures comes { (since : _) → IsLed window.old key hash since.sight.log table.now
+    ensures comes { (since : _) → IsSearchEnd window.old key hash since.sight.log table.now
         (MetPair live.entry) → Observes since window.old → ComesTo puts (IsDecided K.eq key
         (past since) (past window.new) D.decides rule.old rule.new) (IsOnItsWay since window.new
-        key (Shows (AsksRule D.decides)) rule.old rule.new) since window.new result }
+        key (CallsClosure (AsksRule D.decides)) rule.old rule.new) since window.new result }
 {
     let book = window.book;
     let old = book.value(live.pair());
@@ -202,7 +202,7 @@ fn decide_present<'a, R: Wait, K: Hash + Eq + Drop, V: Drop, S: BuildHasher, D: 
         Tried::Back(value) => {
             let by = &live.met().stored;
             let (lane, of) = (by.index() as u64, KeyPart::Of(by.again()));
-            match log_by_waiting(means.rt, book, lane, of, value) {
+            match store_by_waiting(means.rt, book, lane, of, value) {
                 Some(pair) => Attempt::On(Start::Replaced {
                     key,
                     hash,
@@ -229,18 +229,18 @@ fn decide_fast<'a, R: Wait, K: Hash + Eq + Drop, V: Drop, S: BuildHasher, D: Rul
     requires lawful { IsLawful window.old }
     ensures callable { D.callable rule.new }
     ensures comes { ComesTo puts (IsDecided K.eq key (past window.old) (past window.new) D.decides
-        rule.old rule.new) (IsOnItsWay window.old window.new key (Shows (AsksRule D.decides))
+        rule.old rule.new) (IsOnItsWay window.old window.new key (CallsClosure (AsksRule D.decides))
         rule.old rule.new) window.old window.new result }
 {
     let hash = hash(&window.book.parts.hasher, &key);
-    let Some(spot) = look(window, &key, hash) else {
-        return Attempt::On(Start::Anew(key));
+    let Some(spot) = search_root(window, &key, hash) else {
+        return Attempt::On(Start::Beginning(key));
     };
     let table = spot.table;
     match spot.turn {
         ProbeHit::Empty(at) => decide_absent(means, window, key, hash, table, at, rule),
         ProbeHit::Met(live) => decide_present(means, window, key, hash, table, live, rule),
-        _ => Attempt::On(Start::Anew(key)),
+        _ => Attempt::On(Start::Beginning(key)),
     }
 }
 
@@ -258,12 +258,12 @@ fn decide_slow<'a, R: Wait, K: Hash + Eq + Drop, V: Drop, S: BuildHasher, D: Rul
     requires callable { D.callable rule.old }
     requires initial { IsPowerOfTwo means.now.initial }
     requires can { (since : _) × (key : K) × (first : D) × IsOnItsWay since window.old key
-        (Shows (AsksRule D.decides)) first rule.old start }
+        (CallsClosure (AsksRule D.decides)) first rule.old start }
     ensures ends { Ends (puts result) window.old window.new }
-    ensures tells { TellsWhy means.now.initial window.new given.new.done
+    ensures tells { HasCause means.now.initial window.new given.new.done
         (λ cause. result ≡ Err cause) }
     ensures decided { (since : _) (key : K) (first : D) → IsOnItsWay since window.old key
-        (Shows (AsksRule D.decides)) first rule.old start → IsDecided K.eq key (past since)
+        (CallsClosure (AsksRule D.decides)) first rule.old start → IsDecided K.eq key (past since)
         (past window.new) D.decides first rule.new result }
 {
     let ended = slow::<ByRule, R, K, V, S, (), D>(means, window, given, start, rule);
@@ -287,7 +287,7 @@ pub fn decide<'a, R: Wait, K: Hash + Eq + Drop, V: Drop, S: BuildHasher, D: Rule
     requires callable { D.callable rule.old }
     requires initial { IsPowerOfTwo initial }
     ensures ends { Ends (puts result) window.old window.new }
-    ensures tells { TellsWhy initial window.new given.new.done (λ cause. result ≡ Err cause) }
+    ensures tells { HasCause initial window.new given.new.done (λ cause. result ≡ Err cause) }
     ensures decided { IsDecided K.eq key (past window.old) (past window.new) D.decides rule.old
         rule.new result }
 {

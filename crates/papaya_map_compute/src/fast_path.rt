@@ -4,13 +4,13 @@
 ghost use Rattle.std.specs.Prelude.{◌≡◌, Some, IfSome, List, Option};
 ghost use Rattle.std.specs.Int.{IsPowerOfTwo};
 ghost use Rattle.papaya_call.specs.declared.answers.Operation.{Operation};
-ghost use Rattle.papaya_map_book.specs.Books.{IsLoggedAs};
+ghost use Rattle.papaya_map_book.specs.Books.{IsStoredAs};
 ghost use Rattle.papaya_map_book.specs.Logs.{Stored};
 ghost use Rattle.papaya_map_book.specs.PairParts.{IsKeyPartIn, key_in};
 ghost use Rattle.papaya_map_book.specs.Windows.{IsLawful, Observes};
-ghost use Rattle.papaya_map_change.specs.Showings.{AreOf};
+ghost use Rattle.papaya_map_change.specs.ClosureCalls.{AreOf};
 ghost use Rattle.papaya_map_change.specs.declared.fast_path.ProbeHit.TheVariants.{Empty, Met as MetPair};
-ghost use Rattle.papaya_map_compute.specs.FastPath.{DoesAtOnce, HasHeard, IsLed, StartsAt};
+ghost use Rattle.papaya_map_compute.specs.FastPath.{DoesAtOnce, CanStartSince, IsSearchEnd, StartsAt};
 
 use crate::slow_path::Computing;
 use papaya_call::answers::Operation;
@@ -43,7 +43,7 @@ pub enum Attempt<C, A> {
 #[derive(Drop)]
 pub enum Start<K, V> {
     /// From the beginning: its closure was not called yet.
-    Anew(K),
+    Beginning(K),
     /// With this pair, made after its closure was called with `None`.
     Filled {
         hash: u64,
@@ -67,7 +67,7 @@ pub enum Start<K, V> {
 /// Searches the root for a compute. Returns `None` if there is no root, or if there is a limit:
 /// there each pair needs a number, which the machine takes.
 #[inline(always)]
-pub fn look<'a, K: Hash + Eq, V, S: BuildHasher>(
+pub fn search_root<'a, K: Hash + Eq, V, S: BuildHasher>(
     window: &mut Window<'a, K, V, S>,
     key: &K,
     hash: u64,
@@ -75,7 +75,7 @@ pub fn look<'a, K: Hash + Eq, V, S: BuildHasher>(
     requires lawful { IsLawful window.old }
     requires hashed { hash ≡ ⟦<S as Hashed<K>>⟧.hash window.old.book.now.parts.hasher key.now }
     ensures looked { Observes window.old window.new }
-    ensures led { (spot : _) → result ≡ Some spot → IsLed window.new key.now hash
+    ensures led { (spot : _) → result ≡ Some spot → IsSearchEnd window.new key.now hash
         window.old.sight.log spot.table.now spot.turn }
 {
     if window.book.parts.limit.is_some() {
@@ -92,12 +92,12 @@ pub fn machine_of<'a, K: Hash + Eq + Drop, V: Drop, S: BuildHasher, T: Drop>(
 ) -> Computing<'a, K, V, S, T>
     requires initial { IsPowerOfTwo initial }
     requires can { (key : K) × (begun : _) × (heard : List (Option (Stored K V) × Operation V T))
-        × HasHeard window.old key begun start heard }
+        × CanStartSince window.old key begun start heard }
     ensures looked { Observes window.old window.new }
     ensures starts { StartsAt initial window.old start window.new result }
 {
     match start {
-        Start::Anew(key) => {
+        Start::Beginning(key) => {
             window.learn();
             Computing::new(window, initial, key)
         }
@@ -118,7 +118,7 @@ pub fn machine_of<'a, K: Hash + Eq + Drop, V: Drop, S: BuildHasher, T: Drop>(
 /// memory runs out.
 #[cold]
 #[inline(never)]
-pub(crate) fn log_by_waiting<R: Wait, K: Hash + Eq + Drop, V: Drop, S: BuildHasher>(
+pub(crate) fn store_by_waiting<R: Wait, K: Hash + Eq + Drop, V: Drop, S: BuildHasher>(
     rt: &R,
     book: &Book<K, V, S>,
     lane: u64,
@@ -126,9 +126,9 @@ pub(crate) fn log_by_waiting<R: Wait, K: Hash + Eq + Drop, V: Drop, S: BuildHash
     value: V,
 ) -> Option<Stored<K, V>>
     requires { IsKeyPartIn book.now key }
-    ensures { IfSome result (IsLoggedAs book.now (key_in key) value) }
+    ensures { IfSome result (IsStoredAs book.now (key_in key) value) }
 {
-    book.log_pair(rt, lane, key, ValuePart::Own(value)).ok()
+    book.store_pair(rt, lane, key, ValuePart::Own(value)).ok()
 }
 
 /// Does what the closure returned for an absent key, at the empty place that a search has found.
@@ -142,7 +142,7 @@ pub fn fill<'a, R: Wait, K: Hash + Eq + Drop, V: Drop, S: BuildHasher, T: Drop>(
     at: Place,
     operation: Operation<V, T>,
 ) -> Attempt<Start<K, V>, Result<Compute<'a, K, V, T>, Refused>>
-    requires led { (begun : _) × IsLed window.old key hash begun table.now (Empty at) }
+    requires led { (begun : _) × IsSearchEnd window.old key hash begun table.now (Empty at) }
     ensures does { DoesAtOnce window.old window.new key table.now (Empty at) operation result }
 {
     match operation {
@@ -154,7 +154,7 @@ pub fn fill<'a, R: Wait, K: Hash + Eq + Drop, V: Drop, S: BuildHasher, T: Drop>(
                 }
                 Tried::Lost(pair) => Attempt::On(Start::Filled { hash, pair }),
                 Tried::Back((key, value)) => {
-                    match log_by_waiting(means.rt, window.book, hash, KeyPart::Own(key), value) {
+                    match store_by_waiting(means.rt, window.book, hash, KeyPart::Own(key), value) {
                         Some(pair) => Attempt::On(Start::Filled { hash, pair }),
                         None => Attempt::Over(Err(Refused::Memory)),
                     }
@@ -179,7 +179,7 @@ pub fn renew<'a, R: Wait, K: Hash + Eq + Drop, V: Drop, S: BuildHasher, T: Drop>
     old: (&'a K, &'a V),
     operation: Operation<V, T>,
 ) -> Attempt<Start<K, V>, Result<Compute<'a, K, V, T>, Refused>>
-    requires led { (begun : _) × IsLed window.old key hash begun table.now (MetPair live) }
+    requires led { (begun : _) × IsSearchEnd window.old key hash begun table.now (MetPair live) }
     requires shown { AreOf old live.stored }
     ensures does { DoesAtOnce window.old window.new key table.now (MetPair live.entry) operation
         result }
@@ -200,7 +200,7 @@ pub fn renew<'a, R: Wait, K: Hash + Eq + Drop, V: Drop, S: BuildHasher, T: Drop>
                 Tried::Back(value) => {
                     let by = &live.met().stored;
                     let (lane, of) = (by.index() as u64, KeyPart::Of(by.again()));
-                    match log_by_waiting(means.rt, window.book, lane, of, value) {
+                    match store_by_waiting(means.rt, window.book, lane, of, value) {
                         Some(pair) => Attempt::On(Start::Replaced {
                             key,
                             hash,

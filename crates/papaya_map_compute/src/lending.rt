@@ -1,10 +1,10 @@
 //! Computes whose closure borrows the pair only for the time of its call. So the closure's type
 //! names no lifetime, and other crates can make such a call for keys of any type.
-ghost use Rattle.papaya_map_change.specs.Window.Ends.{Ends, TellsWhy};
+ghost use Rattle.papaya_map_change.specs.Window.Ends.{Ends, HasCause};
 ghost use Rattle.std.specs.Prelude.{◌≡◌, Err};
 ghost use Rattle.std.specs.Fn.{Called};
 ghost use Rattle.std.specs.Int.{IsPowerOfTwo};
-ghost use Rattle.papaya_map_change.specs.Showings.{Operates};
+ghost use Rattle.papaya_map_change.specs.ClosureCalls.{Operates};
 ghost use Rattle.papaya_map_compute.specs.ComputeAnswers.{IsComputeBy, changes};
 ghost use Rattle.papaya_map_lookup.specs.Drivers.{past};
 
@@ -59,7 +59,7 @@ pub fn compute_lent<
     requires callable { F.IsAlwaysCallable f }
     requires initial { IsPowerOfTwo initial }
     ensures ends { Ends (changes result) window.old window.new }
-    ensures tells { TellsWhy initial window.new given.new.done (λ cause. result ≡ Err cause) }
+    ensures tells { HasCause initial window.new given.new.done (λ cause. result ≡ Err cause) }
     ensures computed { IsComputeBy K.eq key (past window.old) (past window.new) (Operates F.FnMut) f
         result }
 {

@@ -7,13 +7,13 @@ ghost use Rattle.papaya_map_book.specs.Books.{IsIn};
 ghost use Rattle.papaya_map_book.specs.Logs.{pair_named};
 ghost use Rattle.papaya_map_book.specs.Windows.{IsLawful};
 ghost use Rattle.papaya_call.specs.declared.answers.Operation.{Operation};
-ghost use Rattle.papaya_map_change.specs.Window.Ends.{Ends, TellsWhy};
+ghost use Rattle.papaya_map_change.specs.Window.Ends.{Ends, HasCause};
 ghost use Rattle.papaya_map_compute.specs.ComputeAnswers.{changes};
 ghost use Rattle.papaya_map_compute.specs.FastPath.{ComesTo, IsOnItsWay};
-ghost use Rattle.papaya_map_compute.specs.Operating.{HasEnded, Shows, at_once};
+ghost use Rattle.papaya_map_compute.specs.Operating.{HasEnded, CallsClosure, at_once};
 ghost use Rattle.papaya_map_lookup.specs.Drivers.{past};
 
-use crate::fast_path::{Attempt, Start, fill, look, machine_of, renew};
+use crate::fast_path::{Attempt, Start, fill, machine_of, renew, search_root};
 use crate::slow_path::ComputeStep as Next;
 use papaya_call::answers::Operation;
 use papaya_map_book::book::Book;
@@ -58,7 +58,7 @@ pub struct Ended<'a, K, V, T> {
 }
 
 /// Calls the operator with the pair of this token, or with `None`, and returns what it returns.
-fn show<'a, A: Operator<'a, K, V, T, O>, K: Hash + Eq, V, S: BuildHasher, T, O>(
+fn call_closure<'a, A: Operator<'a, K, V, T, O>, K: Hash + Eq, V, S: BuildHasher, T, O>(
     book: &'a Book<K, V, S>,
     shown: &Option<Stored<K, V>>,
     op: &mut O,
@@ -66,7 +66,7 @@ fn show<'a, A: Operator<'a, K, V, T, O>, K: Hash + Eq, V, S: BuildHasher, T, O>(
     requires callable { A.callable op.old }
     requires placed { IsIn book.now (pair_named shown.now) }
     ensures callable { A.callable op.new }
-    ensures shows { Shows A.operates op.old shown.now result op.new }
+    ensures shows { CallsClosure A.operates op.old shown.now result op.new }
 {
     match shown {
         None => A::operate(op, None),
@@ -100,13 +100,13 @@ fn fast<
     requires lawful { IsLawful window.old }
     ensures callable { A.callable op.new }
     ensures comes { ComesTo changes (λ answer. HasEnded K.eq key (past window.old) (past window.new)
-        (Shows A.operates) op.old op.new (at_once answer result.1)) (IsOnItsWay window.old
-        window.new key (Shows A.operates) op.old op.new) window.old window.new result.0 }
+        (CallsClosure A.operates) op.old op.new (at_once answer result.1)) (IsOnItsWay window.old
+        window.new key (CallsClosure A.operates) op.old op.new) window.old window.new result.0 }
 {
     let book = window.book;
     let hash = hash(&book.parts.hasher, &key);
-    let Some(spot) = look(window, &key, hash) else {
-        return (Attempt::On(Start::Anew(key)), None);
+    let Some(spot) = search_root(window, &key, hash) else {
+        return (Attempt::On(Start::Beginning(key)), None);
     };
     let table = spot.table;
     match spot.turn {
@@ -121,7 +121,7 @@ fn fast<
             let renewed = renew(means, window, key, hash, table, live, old, again);
             (renewed, Some(old.1))
         }
-        _ => (Attempt::On(Start::Anew(key)), None),
+        _ => (Attempt::On(Start::Beginning(key)), None),
     }
 }
 
@@ -147,22 +147,22 @@ pub(crate) fn slow<
     requires callable { A.callable op.old }
     requires initial { IsPowerOfTwo means.now.initial }
     requires can { (since : _) × (key : K) × (first : O) × IsOnItsWay since window.old key
-        (Shows A.operates) first op.old start }
+        (CallsClosure A.operates) first op.old start }
     ensures ends { Ends (changes result.answer) window.old window.new }
-    ensures tells { TellsWhy means.now.initial window.new given.new.done
+    ensures tells { HasCause means.now.initial window.new given.new.done
         (λ cause. result.answer ≡ Err cause) }
     ensures ended { (since : _) (key : K) (first : O) → IsOnItsWay since window.old key
-        (Shows A.operates) first op.old start → HasEnded K.eq key (past since) (past window.new)
-        (Shows A.operates) first op.new result }
+        (CallsClosure A.operates) first op.old start → HasEnded K.eq key (past since) (past window.new)
+        (CallsClosure A.operates) first op.new result }
 {
     let book = window.book;
     let mut computing = machine_of(window, means.initial, start);
     for _ in means.rt.forever() {
         match computing.turn(means, window) {
             Next::Answered(answer) => computing.advance(means, answer, window),
-            Next::Shows(shown) => {
-                let operation = show::<A, K, V, S, T, O>(book, &shown, op);
-                let answer = computing.hear(shown, operation);
+            Next::CallsClosure(shown) => {
+                let operation = call_closure::<A, K, V, S, T, O>(book, &shown, op);
+                let answer = computing.record_result(shown, operation);
                 computing.advance(means, answer, window);
             }
             Next::Replied => {
@@ -206,9 +206,9 @@ pub(crate) fn compute<
     requires callable { A.callable op.old }
     requires initial { IsPowerOfTwo initial }
     ensures ends { Ends (changes result.answer) window.old window.new }
-    ensures tells { TellsWhy initial window.new given.new.done
+    ensures tells { HasCause initial window.new given.new.done
         (λ cause. result.answer ≡ Err cause) }
-    ensures ended { HasEnded K.eq key (past window.old) (past window.new) (Shows A.operates) op.old
+    ensures ended { HasEnded K.eq key (past window.old) (past window.new) (CallsClosure A.operates) op.old
         op.new result }
 {
     window.learn();

@@ -4,19 +4,19 @@ ghost use Rattle.papaya_map_book.specs.declared.rule.entry.Named.TheVariants.{Pa
 ghost use Rattle.papaya_map_book.specs.Windows.{Does, IsIn as IsInWindow, IsLawful, Observes, Sees};
 ghost use Rattle.papaya_map_book.specs.Books.{IsIn};
 ghost use Rattle.papaya_map_book.specs.Logs.{pair_named};
-ghost use Rattle.papaya_map_compute.specs.Computes.{CanCompute, CanTake, Computes, HasReplied, HasTurned, Hears, IsAnyCompute, IsBegun, IsTold, Replies};
+ghost use Rattle.papaya_map_compute.specs.Computes.{CanCompute, CanTake, Computes, HasReplied, HasStepped, RecordsResult, IsAnyCompute, IsBegun, HasAnswered, Replies};
 ghost use Rattle.std.specs.Prelude.{◌≡◌, ◌⊎◌, ℕ, ◌<◌, ◌^◌, true, None, Some, Ok, option_map};
 ghost use Rattle.std.specs.Int.{IsPowerOfTwo};
 ghost use Rattle.papaya_call.specs.Compute.{IsRemembered};
 ghost use Rattle.papaya_call.specs.Machine.{IsFitAsk};
-ghost use Rattle.papaya_call.specs.ChainMachine.{IsStanding, ask_of, kind_of_ask};
+ghost use Rattle.papaya_call.specs.ChainMachine.{IsValid, ask_of, kind_of_ask};
 ghost use Rattle.papaya_call.specs.declared.chain.ask.Ask.TheVariants.{Call};
 ghost use Rattle.papaya_call.specs.declared.chain.machine.Phase.TheVariants.{Calling};
 ghost use Rattle.papaya_call.specs.declared.ask.StepKind.TheVariants.{Claim, Replace};
 ghost use Rattle.papaya_call.specs.declared.call.Reply.TheVariants.{Inserted, Removed, Replaced};
 ghost use Rattle.papaya_call.specs.declared.ask.Ask.TheVariants.{Done, Exchange, MakePair, MakePairOf, ShowPair};
 ghost use Rattle.papaya_call.specs.declared.ask.At.TheVariants.{Slot};
-ghost use Rattle.papaya_map_compute.specs.Computing.{IsKept, IsToShow, IsWriters, chosen_after, pair_for, value_in};
+ghost use Rattle.papaya_map_compute.specs.Computing.{IsKept, IsToCall, IsWriters, chosen_after, pair_for, value_in};
 ghost use Rattle.papaya_map_compute.specs.ComputeAnswers.{changes};
 ghost use Rattle.papaya_map_change.specs.Doing.{has_changed, was_made};
 ghost use Rattle.papaya_map_change.specs.Writing.{HasKeyAt};
@@ -62,7 +62,7 @@ pub enum ComputeStep<K, V> {
     /// Its machine asked for something, and has this answer.
     Answered(Answer),
     /// Its closure is to be called with this pair, or with `None`.
-    Shows(Option<Stored<K, V>>),
+    CallsClosure(Option<Stored<K, V>>),
     /// It has replied.
     Replied,
 }
@@ -109,7 +109,7 @@ fn resume<'a, K: Hash + Eq, V, S: BuildHasher>(
     requires remembered { IsRemembered remembered }
     ensures machine { result.machine ≡ resumed_at hash book.now.parts.mode initial
         book.now.parts.limit remembered }
-    ensures standing { IsStanding result.machine }
+    ensures valid { IsValid result.machine }
     ensures table { (result.table ≡ None) × (result.copier.fresh ≡ None) }
     ensures pairs { (result.copier.last ≡ None) × (result.copier.kept ≡ None)
         × (result.taken ≡ None) × (result.put ≡ None) }
@@ -302,11 +302,15 @@ impl<'a, K: Hash + Eq + Drop, V: Drop, S: BuildHasher, T: Drop> Computing<'a, K,
     }
 
     /// Records that the closure was called with this, and returned this operation.
-    pub fn hear(&mut self, shown: Option<Stored<K, V>>, operation: Operation<V, T>) -> Answer
-        requires standing { IsStanding self.old.writer.call.machine }
-        requires shows { IsToShow self.old shown }
+    pub fn record_result(
+        &mut self,
+        shown: Option<Stored<K, V>>,
+        operation: Operation<V, T>,
+    ) -> Answer
+        requires valid { IsValid self.old.writer.call.machine }
+        requires shows { IsToCall self.old shown }
         ensures machine { self.new.writer.call.machine ≡ self.old.writer.call.machine }
-        ensures hears { Hears ⟦<S as Keyed<K>>⟧.keys self.old shown operation self.new result }
+        ensures hears { RecordsResult ⟦<S as Keyed<K>>⟧.keys self.old shown operation self.new result }
     {
         self.chosen = chosen_after(&shown, &operation, self.chosen.take());
         self.shown = shown;
@@ -320,9 +324,9 @@ impl<'a, K: Hash + Eq + Drop, V: Drop, S: BuildHasher, T: Drop> Computing<'a, K,
         answer: Answer,
         window: &mut Window<'a, K, V, S>,
     )
-        requires standing { IsStanding self.old.writer.call.machine }
+        requires valid { IsValid self.old.writer.call.machine }
         requires can { CanTake window.old self.old answer }
-        ensures told { IsTold window.old self.old answer window.new self.new }
+        ensures told { HasAnswered window.old self.old answer window.new self.new }
     {
         self.writer.call.answer(answer);
         self.writer.call.help(means, window);
@@ -332,12 +336,12 @@ impl<'a, K: Hash + Eq + Drop, V: Drop, S: BuildHasher, T: Drop> Computing<'a, K,
     /// returned last.
     fn make_pair<R: Wait>(&mut self, rt: &R, window: &Window<'a, K, V, S>) -> Answer
         requires can { CanCompute window.now self.old }
-        requires standing { IsStanding self.old.writer.call.machine }
+        requires valid { IsValid self.old.writer.call.machine }
         requires asks { ask_of self.old.writer.call.machine ≡ Call MakePair }
         ensures machine { self.new.writer.call.machine ≡ self.old.writer.call.machine }
         ensures computes { Computes window.now self.old window.now self.new (Some result) }
     {
-        match self.writer.log_pair(rt, window) {
+        match self.writer.store_pair(rt, window) {
             Ok(pair) => {
                 let number = pair.index() as u64;
                 self.fill = Some(pair);
@@ -351,7 +355,7 @@ impl<'a, K: Hash + Eq + Drop, V: Drop, S: BuildHasher, T: Drop> Computing<'a, K,
     /// and of the value that it returned.
     fn make_pair_of<R: Wait>(&mut self, rt: &R, window: &Window<'a, K, V, S>) -> Answer
         requires can { CanCompute window.now self.old }
-        requires standing { IsStanding self.old.writer.call.machine }
+        requires valid { IsValid self.old.writer.call.machine }
         requires asks { (n : ℕ) × (ask_of self.old.writer.call.machine ≡ Call (MakePairOf n)) }
         ensures machine { self.new.writer.call.machine ≡ self.old.writer.call.machine }
         ensures computes { Computes window.now self.old window.now self.new (Some result) }
@@ -361,7 +365,7 @@ impl<'a, K: Hash + Eq + Drop, V: Drop, S: BuildHasher, T: Drop> Computing<'a, K,
         };
         window.book.parts.pairs.agrees(shown, last);
         let chosen = shown.again();
-        match self.writer.log_pair_of(rt, window) {
+        match self.writer.store_pair_of(rt, window) {
             Ok(pair) => {
                 let number = pair.index() as u64;
                 self.chosen = Some(chosen);
@@ -381,7 +385,7 @@ impl<'a, K: Hash + Eq + Drop, V: Drop, S: BuildHasher, T: Drop> Computing<'a, K,
         window: &mut Window<'a, K, V, S>,
     ) -> Answer
         requires can { CanCompute window.old self.old }
-        requires standing { IsStanding self.old.writer.call.machine }
+        requires valid { IsValid self.old.writer.call.machine }
         requires asks { ask_of self.old.writer.call.machine ≡ Call (Exchange
             (Slot number place) words.0 words.1) }
         requires kind { (kind_of_ask self.old.writer.call.machine ≡ Some Claim)
@@ -407,7 +411,7 @@ impl<'a, K: Hash + Eq + Drop, V: Drop, S: BuildHasher, T: Drop> Computing<'a, K,
         window: &mut Window<'a, K, V, S>,
     ) -> Answer
         requires can { CanCompute window.old self.old }
-        requires standing { IsStanding self.old.writer.call.machine }
+        requires valid { IsValid self.old.writer.call.machine }
         requires asks { ask_of self.old.writer.call.machine ≡ Call (Exchange
             (Slot number place) words.0 words.1) }
         ensures sees { Sees window.old window.new }
@@ -429,7 +433,7 @@ impl<'a, K: Hash + Eq + Drop, V: Drop, S: BuildHasher, T: Drop> Computing<'a, K,
         window: &mut Window<'a, K, V, S>,
     ) -> Answer
         requires can { CanCompute window.old self.old }
-        requires standing { IsStanding self.old.writer.call.machine }
+        requires valid { IsValid self.old.writer.call.machine }
         requires asks { (ask_of self.old.writer.call.machine ≡ Call ask) × IsWriters ask }
         requires fit { IsFitAsk ask }
         ensures sees { Observes window.old window.new }
@@ -458,16 +462,16 @@ impl<'a, K: Hash + Eq + Drop, V: Drop, S: BuildHasher, T: Drop> Computing<'a, K,
         window: &mut Window<'a, K, V, S>,
     ) -> ComputeStep<K, V>
         requires can { CanCompute window.old self.old }
-        requires standing { IsStanding self.old.writer.call.machine }
+        requires valid { IsValid self.old.writer.call.machine }
         requires calling { self.old.writer.call.machine.phase ≡ Calling }
-        ensures turned { HasTurned window.old self.old window.new self.new result }
+        ensures turned { HasStepped window.old self.old window.new self.new result }
     {
         let Ask::Call(ask) = self.writer.call.machine.ask() else {
             unreachable!()
         };
         match ask {
-            CallAsk::ShowNone => ComputeStep::Shows(None),
-            CallAsk::ShowPair(_) => ComputeStep::Shows(Some(self.to_show())),
+            CallAsk::ShowNone => ComputeStep::CallsClosure(None),
+            CallAsk::ShowPair(_) => ComputeStep::CallsClosure(Some(self.to_show())),
             CallAsk::MakePair => ComputeStep::Answered(self.make_pair(means.rt, window)),
             CallAsk::MakePairOf(_) => ComputeStep::Answered(self.make_pair_of(means.rt, window)),
             CallAsk::Exchange(At::Slot(number, place), old, new) => {
@@ -487,7 +491,7 @@ impl<'a, K: Hash + Eq + Drop, V: Drop, S: BuildHasher, T: Drop> Computing<'a, K,
 
     /// Returns the result of a compute that put a pair in.
     fn inserted(&self, window: &Window<'a, K, V, S>) -> Compute<'a, K, V, T>
-        requires standing { IsStanding self.now.writer.call.machine }
+        requires valid { IsValid self.now.writer.call.machine }
         requires can { CanCompute window.now self.now }
         requires done { (n : ℕ) × (ask_of self.now.writer.call.machine
             ≡ Call (Done (Inserted n))) }
@@ -507,7 +511,7 @@ impl<'a, K: Hash + Eq + Drop, V: Drop, S: BuildHasher, T: Drop> Computing<'a, K,
 
     /// Returns the result of a compute that replaced a pair.
     fn updated(&self, window: &Window<'a, K, V, S>) -> Compute<'a, K, V, T>
-        requires standing { IsStanding self.now.writer.call.machine }
+        requires valid { IsValid self.now.writer.call.machine }
         requires can { CanCompute window.now self.now }
         requires done { (m : ℕ) × (n : ℕ) × (ask_of self.now.writer.call.machine
             ≡ Call (Done (Replaced m n))) }
@@ -531,7 +535,7 @@ impl<'a, K: Hash + Eq + Drop, V: Drop, S: BuildHasher, T: Drop> Computing<'a, K,
 
     /// Returns the result of a compute that removed a pair.
     fn removed(&self, window: &Window<'a, K, V, S>) -> Compute<'a, K, V, T>
-        requires standing { IsStanding self.now.writer.call.machine }
+        requires valid { IsValid self.now.writer.call.machine }
         requires can { CanCompute window.now self.now }
         requires done { (n : ℕ) × (ask_of self.now.writer.call.machine
             ≡ Call (Done (Removed n))) }
@@ -561,7 +565,7 @@ impl<'a, K: Hash + Eq + Drop, V: Drop, S: BuildHasher, T: Drop> Computing<'a, K,
 
     /// Returns the result of a compute that has replied.
     pub fn replied(&mut self, window: &Window<'a, K, V, S>) -> Result<Compute<'a, K, V, T>, Refused>
-        requires standing { IsStanding self.old.writer.call.machine }
+        requires valid { IsValid self.old.writer.call.machine }
         requires can { CanCompute window.now self.old }
         requires done { (reply : _) × (ask_of self.old.writer.call.machine
             ≡ Call (Done reply)) }

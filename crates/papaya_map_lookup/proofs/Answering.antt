@@ -20,9 +20,9 @@ use Rattle.papaya_call.specs.declared.machine.Machine.{Machine}
 use Rattle.papaya_words_law.specs.Exchange.{Exchange}
 use Rattle.papaya_words_law.specs.Hints.{IsHint}
 use Rattle.papaya_words_law.specs.Invariant.{named}
-use Rattle.papaya_call.specs.Machine.{IsStandingState, after, ask_of, kind_of_ask, started}
+use Rattle.papaya_call.specs.Machine.{IsValidState, after, ask_of, kind_of_ask, started}
 use Rattle.papaya_call_law.specs.Relies.{IsModeOf}
-use Rattle.papaya_call_law.specs.Told.{IsTold, LoadedPairs, nothing_loaded, or_last, told_of}
+use Rattle.papaya_call_law.specs.TrueAnswers.{IsTrueOf, LoadedPairs, nothing_loaded, or_last, told_of}
 use Rattle.papaya_call_law.proofs.FurtherWords.{key_word}
 use Rattle.papaya_call_law.proofs.ReliesLearnPairs.{wanted_relies}
 use Rattle.papaya_words_law.proofs.OneMap.{sound}
@@ -85,7 +85,7 @@ module _ {K V S H : Type 0} (eq : K → K → Bool) (input : K → List (List �
     pub fewer : left_of (after m answer).state < left_of m.state
 
   module _ (log log' : List (Event K V S)) (pre : IsPrefix log log') (l' : IsLawfulLog eq hash b log') (m : Machine) (table : Option (Bor Sheet))
-      (pair : Option (Stored K V)) (r : Rested log m table pair) (stands : IsStandingState Get m.state) where
+      (pair : Option (Stored K V)) (r : Rested log m table pair) (stands : IsValidState Get m.state) where
     -- the word at a place was loaded
     as_loaded : (at : At) (word : ℕ) → ask_of m ≡ Load at → word_in eq hash b log' at ≡ word
         → On log' (after m (Word word)) (told_of (state_of log') at r.loaded)
@@ -98,7 +98,7 @@ module _ {K V S H : Type 0} (eq : K → K → Bool) (input : K → List (List �
           is = on.is;
           relies = learned eq input build write finish classes respects b matches query lawful begun log' l' m r.loaded on
               (Word word) (told_of (state_of log') at r.loaded)
-              (subst (λ (a : Ask). IsTold (setting eq input build write finish classes respects b matches query lawful log')
+              (subst (λ (a : Ask). IsTrueOf (setting eq input build write finish classes respects b matches query lawful log')
               (coding eq input build write finish classes respects b matches query lawful) None (state_of log') (kind_of_ask m) r.loaded a
               (Word word) [] (told_of (state_of log') at r.loaded)) (sym asks) (ap Word (sym read), refl, refl));
         }
@@ -151,7 +151,7 @@ module _ {K V S H : Type 0} (eq : K → K → Bool) (input : K → List (List �
             loaded = r.loaded;
             task_is = r.task_is;
             relies = learned eq input build write finish classes respects b matches query lawful begun log' l' m r.loaded on (Word n) r.loaded
-                (subst (λ (a : Ask). IsTold g c None (state_of log') (kind_of_ask m) r.loaded a (Word n) [] r.loaded) (sym asks)
+                (subst (λ (a : Ask). IsTrueOf g c None (state_of log') (kind_of_ask m) r.loaded a (Word n) [] r.loaded) (sym asks)
                 ((n, hint, refl), (refl, refl)));
             holds_table = held_on log log' pre t (table_of (after m (Word n)).state) step.table table
                 (subst (λ o. HoldsTable log o table) step.names r.holds_table);

@@ -21,7 +21,7 @@ use Rattle.papaya_call.specs.declared.made.Made.{Made}
 use Rattle.papaya_call.specs.declared.made.Of.{Of}
 use Rattle.papaya_call.specs.declared.write.Write.{Write}
 use Rattle.papaya_call.specs.Made.{serves_at}
-use Rattle.papaya_call.specs.Machine.{HasClosure, IsComputer, IsStandingState, IsWriter, ask_of, asks, kind_asked, kind_of_ask, served_kind}
+use Rattle.papaya_call.specs.Machine.{HasClosure, IsComputer, IsValidState, IsWriter, ask_of, asks, kind_asked, kind_of_ask, served_kind}
 use Rattle.papaya_call.specs.Write.{put_ask, served_ask, served_of, serves, write_kind}
 use Rattle.papaya_call_law.proofs.Makings.{IsPairAsk, pair_asks, pairing_asks}
 use Rattle.papaya_call_law.proofs.NewWords.{pair_of-live_word}
@@ -89,7 +89,7 @@ no_computer (Insert replace) r w = r
 no_computer RemoveIf r w = r
 no_computer Compute r w = w
 
-served_in_stage : (task : Task) (hash : ℕ) (made : Made) (stage : Stage) → IsStandingState task stage → IsWriter task → (t x old new : ℕ)
+served_in_stage : (task : Task) (hash : ℕ) (made : Made) (stage : Stage) → IsValidState task stage → IsWriter task → (t x old new : ℕ)
     → asks made hash stage ≡ Ask_exchange (Slot t x) old new → IsServed made t x old (pair_of new)
 served_in_stage task hash made AtRoot s w t x old new e = absurd cc
 served_in_stage task hash made Making s w t x old new e = absurd cc
@@ -111,7 +111,7 @@ served_in_stage task hash made (Leaving u) s w t x old new e = absurd cc
 served_in_stage task hash made (Growing u) s w t x old new e = absurd cc
 served_in_stage task hash made (Ended reply) s w t x old new e = absurd cc
 
-pub asked_served : (m : Machine) → IsStandingState m.task m.state → IsWriter m.task → (t x old new : ℕ) → ask_of m ≡ Ask_exchange (Slot t x) old new
+pub asked_served : (m : Machine) → IsValidState m.task m.state → IsWriter m.task → (t x old new : ℕ) → ask_of m ≡ Ask_exchange (Slot t x) old new
     → IsServed m.made t x old (pair_of new)
 asked_served m s w t x old new e = served_in_stage m.task m.hash m.made m.state s w t x old new e
 

@@ -27,10 +27,10 @@ use Rattle.papaya_words_law.specs.Allows.{AllAllowed}
 use Rattle.papaya_words_law.specs.Code.{Coding}
 use Rattle.papaya_words_law.specs.Exchange.{Exchange, Setting, start}
 use Rattle.papaya_words_law.specs.View.{Foreign, Here, Leaving as View_leaving, held, view}
-use Rattle.papaya_call.specs.Machine.{IsStandingState, after, ask_of, asks, goes_as, kind_of_ask, passes}
+use Rattle.papaya_call.specs.Machine.{IsValidState, after, ask_of, asks, goes_as, kind_of_ask, passes}
 use Rattle.papaya_call_law.specs.Relies.{ReliesStage, WasAtMoment}
 use Rattle.papaya_call.specs.Search.{IsSize, at_yes}
-use Rattle.papaya_call_law.specs.Told.{IsTold, LoadedPairs}
+use Rattle.papaya_call_law.specs.TrueAnswers.{IsTrueOf, LoadedPairs}
 use Rattle.papaya_words_law.specs.Code.{IsHashed}
 use Rattle.papaya_call_law.proofs.ReliesLearnLook.{compared}
 use Rattle.papaya_call_law.proofs.ReliesLearnPlaces.{ReliesProbed}
@@ -74,7 +74,7 @@ module _ {K P : Type 0} (g : Setting K P) (c : Coding K P) (hashed : IsHashed g 
 
   module _ (hash initial : ℕ) (mode : ResizeMode) (made : Made) (remembered : Remembered) where
     -- the lookup stands where it compares; the pair is the one that it was told of last
-    pub yes_found : (s : Stage) → IsStandingState Get s → ReliesStage g c begun since k loaded Get s → (n : ℕ) (same : Bool)
+    pub yes_found : (s : Stage) → IsValidState Get s → ReliesStage g c begun since k loaded Get s → (n : ℕ) (same : Bool)
         → ((p : P) → loaded.last ≡ Some p → same ≡ g.same k (g.key p)) → asks made hash s ≡ SameKey n → (m : ℕ)
         → (after (lookup hash initial mode made remembered s) (Yes same)).state ≡ Ended (Found m) → WasLast
     yes_found AtRoot stands r n same is e m f = absurd cc
@@ -102,7 +102,7 @@ module _ {K V S H : Type 0} (eq : K → K → Bool) (input : K → List (List �
     (classes : IsEquivalence eq) (respects : (x y : K) → eq x y ≡ true → input x ≡ input y)
     (b : Begun K V S) (matches : K → Bool) (query : List (List ℕ)) (lawful : IsQuery eq input matches query) (begun : List (Exchange (Stored K V)))
     (log : List (Event K V S)) (m : Machine) (table : Option (Bor Sheet)) (pair : Option (Stored K V))
-    (r : Rested eq input build write finish classes respects b matches query lawful begun log m table pair) (stands : IsStandingState Get m.state) where
+    (r : Rested eq input build write finish classes respects b matches query lawful begun log m table pair) (stands : IsValidState Get m.state) where
   abbrev hash : S → K → ℕ
   hash = hash_of input build write finish
 
@@ -156,10 +156,10 @@ module _ {K V S H : Type 0} (eq : K → K → Bool) (input : K → List (List �
       let is : came.0.value ≡ sheet = came.2 in
       let many : slots ≡ g.size t = slots_is ∙ sym (all.0 ∙ ap (λ (z : Sheet). length z.slots) is) in
       let places : limit + 1 ≡ g.places t = ap (λ n. n + 1) limit_is ∙ sym (all.1 ∙ ap (λ (z : Sheet). z.limit + 1) is) in
-      let told : IsTold g c None (state_of log) (kind_of_ask m) r.loaded (SizeOf t) (Size slots limit) []
+      let told : IsTrueOf g c None (state_of log) (kind_of_ask m) r.loaded (SizeOf t) (Size slots limit) []
       r.loaded = ((limit, places, ap (λ n. Size n limit) many), (refl, refl)) in
       let further = learned eq input build write finish classes respects b matches query lawful begun log r.lawful m r.loaded on (Size slots limit) r.loaded
-      (subst (λ (a : Ask). IsTold g c None (state_of log) (kind_of_ask m) r.loaded a (Size slots limit) [] r.loaded) (sym e) told) in
+      (subst (λ (a : Ask). IsTrueOf g c None (state_of log) (kind_of_ask m) r.loaded a (Size slots limit) [] r.loaded) (sym e) told) in
       let step = size_step m.hash m.initial m.mode m.made m.remembered m.state (stands) t slots limit size.few e in
       let get = of_get m r.task_is in
       let to : (after m (Size slots limit)).state ≡ (after (lookup m.hash m.initial m.mode m.made m.remembered m.state) (Size slots limit)).state = ap
@@ -186,9 +186,9 @@ module _ {K V S H : Type 0} (eq : K → K → Bool) (input : K → List (List �
   same_read n p same has is e =
       let matched : (q : Stored K V) → r.loaded.last ≡ Some q
       → same ≡ g.same None (g.key q) = λ q e'. let one : p ≡ q = cc (has, r.holds_pair.0, e') in is ∙ ap (λ (z : Stored K V). matches (key_of z)) one in
-      let told : IsTold g c None (state_of log) (kind_of_ask m) r.loaded (SameKey n) (Yes same) [] r.loaded = (λ p e' f. ap Yes (matched p e'), (refl, refl)) in
+      let told : IsTrueOf g c None (state_of log) (kind_of_ask m) r.loaded (SameKey n) (Yes same) [] r.loaded = (λ p e' f. ap Yes (matched p e'), (refl, refl)) in
       let further = learned eq input build write finish classes respects b matches query lawful begun log r.lawful m r.loaded on (Yes same) r.loaded
-      (subst (λ (a : Ask). IsTold g c None (state_of log) (kind_of_ask m) r.loaded a (Yes same) [] r.loaded) (sym e) told) in
+      (subst (λ (a : Ask). IsTrueOf g c None (state_of log) (kind_of_ask m) r.loaded a (Yes same) [] r.loaded) (sym e) told) in
       let step = yes_step m.hash m.initial m.mode m.made m.remembered m.state (stands) n same e in
       let t = step.0 in
       let get = of_get m r.task_is in

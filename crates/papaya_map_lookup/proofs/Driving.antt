@@ -18,7 +18,7 @@ use Rattle.papaya_words_law.specs.Code.{Coding, code}
 use Rattle.papaya_words_law.specs.Invariant.{named}
 use Rattle.papaya_words_law.specs.Grows.{Agrees}
 use Rattle.papaya_call_law.specs.Relies.{Relies}
-use Rattle.papaya_call_law.specs.Told.{IsAsked, IsOneOf, IsOwnWord, IsTold, IsWritten, LoadedPairs, word_of}
+use Rattle.papaya_call_law.specs.TrueAnswers.{IsAsked, IsOneOf, IsOwnWord, IsTrueOf, IsWritten, LoadedPairs, word_of}
 use Rattle.papaya_words_law.proofs.Alike.{alike_back, allows_alike}
 use Rattle.papaya_words_law.proofs.Further.{key_agrees, key_alike}
 use Rattle.papaya_call_law.proofs.FurtherWords.{key_word}
@@ -189,12 +189,12 @@ module _ {K V S H : Type 0} (eq : K → K → Bool) (input : K → List (List �
 
     -- it is told of the log's words, with which the log grew
     pub relying_told : (answer : Answer) (loaded' : LoadedPairs (Stored K V))
-        → IsTold (wide log') coded k (state_of log) (kind_of_ask m) loaded (ask_of m) answer more loaded' → IsRelying log' (after m answer) loaded'
+        → IsTrueOf (wide log') coded k (state_of log) (kind_of_ask m) loaded (ask_of m) answer more loaded' → IsRelying log' (after m answer) loaded'
     relying_told answer loaded' told =
         let first : AllAllowed (wide log') start (begun ++ r.since) = allowed_first (wide log') (begun ++ r.since) more start
         (subst (AllAllowed (wide log') start) (sym (append_assoc begun r.since more)) may_longer) in
-        let told' : IsTold (wide log') coded k (run (begun ++ r.since) start) (kind_of_ask m) loaded (ask_of m) answer more loaded' =
-        subst (λ (z : List (Exchange (Stored K V))). IsTold (wide log') coded k (run z start) (kind_of_ask m) loaded (ask_of m) answer more loaded')
+        let told' : IsTrueOf (wide log') coded k (run (begun ++ r.since) start) (kind_of_ask m) loaded (ask_of m) answer more loaded' =
+        subst (λ (z : List (Exchange (Stored K V))). IsTrueOf (wide log') coded k (run z start) (kind_of_ask m) loaded (ask_of m) answer more loaded')
         (sym r.is) told in
         let all = machine_learns (wide log') coded (hashed_with eq input build write finish classes respects b matches query lawful log' l') begun
         r.since first k m loaded carried answer more loaded' told' in

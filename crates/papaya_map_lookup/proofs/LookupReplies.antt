@@ -18,9 +18,9 @@ use Rattle.papaya_call.specs.declared.search.Search.TheVariants.{Sizing, Looking
 use Rattle.papaya_call.specs.declared.made.Made.{Made}
 use Rattle.papaya_words_law.specs.Code.{Coding}
 use Rattle.papaya_words_law.specs.Exchange.{Exchange, Setting}
-use Rattle.papaya_call.specs.Machine.{IsStandingState, ask_of, asks}
+use Rattle.papaya_call.specs.Machine.{IsValidState, ask_of, asks}
 use Rattle.papaya_call_law.specs.Relies.{IsReply, ReliesStage, WasAtMoment}
-use Rattle.papaya_call_law.specs.Told.{LoadedPairs}
+use Rattle.papaya_call_law.specs.TrueAnswers.{LoadedPairs}
 use Rattle.papaya_map_book.specs.Sheets.{Sheet}
 use Rattle.papaya_map_book.specs.declared.rule.entry.Begun.{Begun}
 use Rattle.papaya_map_book.specs.declared.rule.entry.Event.{Event}
@@ -35,7 +35,7 @@ use Rattle.papaya_map_lookup.proofs.Moments.{IsHistory, matched_history}
 use Rattle.papaya_map_lookup.proofs.Readings.{IsQuery, coding, setting}
 
 -- a machine that has replied is at its end
-done_state : (made : Made) (hash : ℕ) (s : Stage) → IsStandingState Get s → (reply : Reply) → asks made hash s ≡ Done reply → s ≡ Ended reply
+done_state : (made : Made) (hash : ℕ) (s : Stage) → IsValidState Get s → (reply : Reply) → asks made hash s ≡ Done reply → s ≡ Ended reply
 done_state made hash AtRoot stands reply e = absurd cc
 done_state made hash Making stands reply e = absurd stands
 done_state made hash (Opening u) stands reply e = absurd stands
@@ -76,7 +76,7 @@ module _ {K V S H : Type 0} (eq : K → K → Bool) (input : K → List (List �
     (pre : IsPrefix old began)
     (log : List (Event K V S)) (m : Machine) (table : Option (Bor Sheet)) (pair : Option (Stored K V))
     (r : Rested eq input build write finish classes respects b matches query lawful (exchanges_of began) log m table pair)
-    (stands : IsStandingState Get m.state) where
+    (stands : IsValidState Get m.state) where
   abbrev hash : S → K → ℕ
   hash = hash_of input build write finish
 

@@ -26,7 +26,7 @@ use Rattle.papaya_call.specs.declared.machine.State.TheVariants.{Counting, Notin
 use Rattle.papaya_call.specs.declared.machine.State.TheVariants.{Leaving, Growing, Ended}
 use Rattle.papaya_call.specs.declared.machine.Machine.{Machine}
 use Rattle.papaya_call.specs.Search.{next_place, go_on, hinted, look_at, match_at, at_yes as search_compared}
-use Rattle.papaya_call.specs.Machine.{IsStandingState, after, asks, passes, goes_as}
+use Rattle.papaya_call.specs.Machine.{IsValidState, after, asks, passes, goes_as}
 use Rattle.papaya_call_law.proofs.LoadsLeft.{chosen}
 use Rattle.papaya_map_lookup.specs.Lookups.{left_in, left_of, table_of}
 
@@ -136,7 +136,7 @@ module _ (hash initial : ℕ) (mode : ResizeMode) (made : Made) (held : Remember
   lookup s = record { task = Get; hash = hash; mode = mode; initial = initial; made = made; remembered = held; state = s }
 
   -- a slot was loaded
-  pub slot_step : (s : State) → IsStandingState Get s → (t x word : ℕ) → asks made hash s ≡ Load (Slot t x)
+  pub slot_step : (s : State) → IsValidState Get s → (t x word : ℕ) → asks made hash s ≡ Load (Slot t x)
       → IsStepIn t s (after (lookup s) (Word word)).state × IsUnfound (after (lookup s) (Word word)).state
   slot_step AtRoot stands t x word e = absurd (cc e)
   slot_step Making stands t x word e = absurd stands
@@ -167,7 +167,7 @@ module _ (hash initial : ℕ) (mode : ResizeMode) (made : Made) (held : Remember
   slot_step (Ended reply) stands t x word e = absurd (cc e)
 
   -- the hint of a slot was loaded
-  pub hint_step : (s : State) → IsStandingState Get s → (t x word : ℕ) → asks made hash s ≡ LoadHint t x
+  pub hint_step : (s : State) → IsValidState Get s → (t x word : ℕ) → asks made hash s ≡ LoadHint t x
       → IsStepIn t s (after (lookup s) (Word word)).state × IsUnfound (after (lookup s) (Word word)).state
   hint_step AtRoot stands t x word e = absurd (cc e)
   hint_step Making stands t x word e = absurd stands
@@ -198,7 +198,7 @@ module _ (hash initial : ℕ) (mode : ResizeMode) (made : Made) (held : Remember
   hint_step (Ended reply) stands t x word e = absurd (cc e)
 
   -- the size of a table was told
-  pub size_step : (s : State) → IsStandingState Get s → (t slots limit : ℕ) → limit < 2 ^ 32 → asks made hash s ≡ SizeOf t
+  pub size_step : (s : State) → IsValidState Get s → (t slots limit : ℕ) → limit < 2 ^ 32 → asks made hash s ≡ SizeOf t
       → IsStepIn t s (after (lookup s) (Size slots limit)).state × IsUnfound (after (lookup s) (Size slots limit)).state
   size_step AtRoot stands t slots limit few e = absurd (cc e)
   size_step Making stands t slots limit few e = absurd stands
@@ -222,7 +222,7 @@ module _ (hash initial : ℕ) (mode : ResizeMode) (made : Made) (held : Remember
   size_step (Ended reply) stands t slots limit few e = absurd (cc e)
 
   -- the pair last told of was compared
-  pub yes_step : (s : State) → IsStandingState Get s → (n : ℕ) (same : Bool) → asks made hash s ≡ SameKey n → (t : ℕ)
+  pub yes_step : (s : State) → IsValidState Get s → (n : ℕ) (same : Bool) → asks made hash s ≡ SameKey n → (t : ℕ)
       × IsStepIn t s (after (lookup s) (Yes same)).state
   yes_step AtRoot stands n same e = absurd (cc e)
   yes_step Making stands n same e = absurd stands
@@ -254,7 +254,7 @@ module _ (hash initial : ℕ) (mode : ResizeMode) (made : Made) (held : Remember
       (λ e. record { table = λ v h. absurd (cc h); fewer = omega (arith, some); unfound = λ n h. cc h })
       (λ e. let differs = eqb-false word 0 e in record { table = λ v h. (cc h, differs); fewer = less differs; unfound = λ n h. cc h })
 
-  pub root_step : (s : State) → IsStandingState Get s → (word : ℕ) → asks made hash s ≡ Load Root → IsStepTo word s (after (lookup s) (Word word)).state
+  pub root_step : (s : State) → IsValidState Get s → (word : ℕ) → asks made hash s ≡ Load Root → IsStepTo word s (after (lookup s) (Word word)).state
   root_step AtRoot stands word e = numbered AtRoot word (omega arith) (λ some. omega arith)
   root_step Making stands word e = absurd stands
   root_step (Opening u) stands word e = absurd stands
@@ -276,7 +276,7 @@ module _ (hash initial : ℕ) (mode : ResizeMode) (made : Made) (held : Remember
   root_step (Ended reply) stands word e = absurd (cc e)
 
   -- a next table has a greater number, which is no more than a table's may be
-  pub next_step : (s : State) → IsStandingState Get s → (t word : ℕ) → ((word ≡ 0 → ⊥) → (t < word) × (word ≤ 2 ^ 32))
+  pub next_step : (s : State) → IsValidState Get s → (t word : ℕ) → ((word ≡ 0 → ⊥) → (t < word) × (word ≤ 2 ^ 32))
       → asks made hash s ≡ Load (Next t) → (table_of s ≡ Some t) × IsStepTo word s (after (lookup s) (Word word)).state
   next_step AtRoot stands t word up e = absurd (cc e)
   next_step Making stands t word up e = absurd stands

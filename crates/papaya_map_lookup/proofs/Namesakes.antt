@@ -7,7 +7,7 @@ use Rattle.papaya_words_law.specs.Allows.{Allows}
 use Rattle.papaya_words_law.specs.Exchange.{Setting, State, Word, Live, Claim, Replace, slot_put}
 use Rattle.papaya_words_law.specs.Code.{Coding, code}
 use Rattle.papaya_words_law.specs.View.{IsNextPlace, IsReached, beyond}
-use Rattle.papaya_call_law.specs.Told.{IsWritten, word_of}
+use Rattle.papaya_call_law.specs.TrueAnswers.{IsWritten, word_of}
 
 module _ {K P : Type 0} (g : Setting K P) (c : Coding K P) (p q : P) (key : g.key p ≡ g.key q) (number : c.number p ≡ c.number q) where
   -- their words are the same

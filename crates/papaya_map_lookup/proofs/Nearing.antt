@@ -27,7 +27,7 @@ use Rattle.papaya_map_book.specs.Hinted.{IsSlotHint}
 use Rattle.papaya_map_book.specs.Logs.{Stored}
 use Rattle.papaya_map_book.specs.Sheets.{Sheet}
 use Rattle.papaya_map_lookup.specs.History.{key_of}
-use Rattle.papaya_map_lookup.specs.Lookups.{IsReadingAt, IsTurned, turn_near, turn_of}
+use Rattle.papaya_map_lookup.specs.Lookups.{IsReadingAt, IsNextStage, hit_in_root, hit_of}
 use Rattle.papaya_map_lookup.specs.declared.lookup.Met.{Met}
 use Rattle.papaya_map_lookup.specs.declared.near.RootHit.{RootHit}
 use Rattle.papaya_map_lookup.specs.declared.near.RootHit.TheVariants as nears
@@ -43,11 +43,11 @@ on_within at within = chosen IsProbed (nat_lt at.probe.len at.limit) (On (Lookin
 
 -- where no pair is at a place, and it is not the last, the next place is looked at
 pub went_on : {M E : Type 0} (P : ProbeHit M E → Type 0) (at next : Place) (near : RootHit M E) → near ≡ nears.On → nat_lt at.probe.len at.limit ≡ true
-    → next ≡ next_place at → MatchOption (turn_near at near) (Unit {0}) P → P (turns.Next next)
+    → next ≡ next_place at → MatchOption (hit_in_root at near) (Unit {0}) P → P (turns.Next next)
 went_on {M} {E} P at next near on more is all =
     let goes : go_on at ≡ On (Looking next) = ap (λ (o : Bool). if o then On (Looking (next_place at)) else Over at.table) more
     ∙ ap (λ (p : Place). On (Looking p)) (sym is) in
-    let told : turn_near {M = M} {E = E} at near ≡ Some (turns.Next next) = ap (turn_near at) on ∙ ap (λ (s : ProbeStep). Some (turn_of s)) goes in
+    let told : hit_in_root {M = M} {E = E} at near ≡ Some (turns.Next next) = ap (hit_in_root at) on ∙ ap (λ (s : ProbeStep). Some (hit_of s)) goes in
     subst (λ (o : Option (ProbeHit M E)). MatchOption o (Unit {0}) P) told all
 
 -- what the word tells, by its kind
@@ -69,18 +69,18 @@ module _ {K V S H : Type 0} (eq : K → K → Bool) (input : K → List (List �
   fed_to = fed eq input build write finish classes respects b matches query lawful
 
   abbrev Turned : List (Event K V S) → Sheet → ProbeHit (Met K V) (Bor K × Bor V) → Type 0
-  Turned = IsTurned eq hash b name matches fed_to begun h
+  Turned = IsNextStage eq hash b name matches fed_to begun h
 
   module _ (log : List (Event K V S)) (at : Place) (within : IsWithin at) (table : Sheet)
       (r : IsReadingAt eq hash b matches fed_to begun h log (Searching (Looking at)) table) (log' : List (Event K V S)) (pre : IsPrefix log log')
       (hint : ℕ) (told : IsSlotHint eq hash b at.table at.probe.i hint log') where
     -- the hint is another key's
-    pub passed_over : may_hold hint h ≡ false → Turned log' table (turn_of (go_on at))
+    pub passed_over : may_hold hint h ≡ false → Turned log' table (hit_of (go_on at))
     passed_over e =
         let is : hinted at h hint ≡ go_on at = ap (λ (o : Bool). if o then On (Reading at) else go_on at) e in
         let all = hint_passed eq input build write finish classes respects b matches query lawful begun h name log at within table r log' pre hint
         told (subst IsProbed (sym is) (on_within at within)) (λ a z. read_not at a (sym is ∙ z)) in
-        subst (λ (s : ProbeStep). Turned log' table (turn_of s)) is all.0
+        subst (λ (s : ProbeStep). Turned log' table (hit_of s)) is all.0
 
     -- or says nothing, or is the key's
     pub to_read : may_hold hint h ≡ true → IsReadingAt eq hash b matches fed_to begun h log' (Searching (Reading at)) table
@@ -96,21 +96,21 @@ module _ {K V S H : Type 0} (eq : K → K → Bool) (input : K → List (List �
         let is = looks at word kinds.Empty e in
         let all = passed eq input build write finish classes respects b matches query lawful begun h name log at within table r log' pre word state
         told (subst IsProbed (sym is) within) (λ a w z. let two : Empty at ≡ On (Comparing a w) = sym is ∙ z in cc two) in
-        subst (λ (s : ProbeStep). Turned log' table (turn_of s)) is all.0
+        subst (λ (s : ProbeStep). Turned log' table (hit_of s)) is all.0
 
     -- no pair is there any longer
-    pub none_left : look at word ≡ go_on at → Turned log' table (turn_of (go_on at))
+    pub none_left : look at word ≡ go_on at → Turned log' table (hit_of (go_on at))
     none_left is =
         let all = passed eq input build write finish classes respects b matches query lawful begun h name log at within table r log' pre word state
         told (subst IsProbed (sym is) (on_within at within)) (λ a w z. on_not at a w (sym is ∙ z)) in
-        subst (λ (s : ProbeStep). Turned log' table (turn_of s)) is all.0
+        subst (λ (s : ProbeStep). Turned log' table (hit_of s)) is all.0
 
     -- a pair lives there, with another key
     pub other_there : kind_of word ≡ kinds.Live → (p : Stored K V) → state ≡ Some (names.Pair p) → (same : Bool) → same ≡ matches (key_of p)
-        → same ≡ false → Turned log' table (turn_of (go_on at))
+        → same ≡ false → Turned log' table (hit_of (go_on at))
     other_there live p is same same_is e =
         let goes : at_yes (Comparing at word) same ≡ go_on at = ap (at_yes (Comparing at word)) e in
         let all = other_pair eq input build write finish classes respects b matches query lawful begun h name log at within table r log' pre word
         state told at word (looks at word kinds.Live live) p is same same_is (subst IsProbed (sym goes) (on_within at within))
         (λ a w z. here_not at a w (sym goes ∙ z)) in
-        subst (λ (s : ProbeStep). Turned log' table (turn_of s)) goes all.0
+        subst (λ (s : ProbeStep). Turned log' table (hit_of s)) goes all.0

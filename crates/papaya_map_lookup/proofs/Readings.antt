@@ -15,7 +15,7 @@ use Rattle.papaya_words_law.specs.Hints.{IsHintOf}
 use Rattle.papaya_words_law.specs.Grows.{Agrees}
 use Rattle.papaya_call.specs.Machine.{after, ask_of, kind_of_ask}
 use Rattle.papaya_call_law.specs.Relies.{Relies}
-use Rattle.papaya_call_law.specs.Told.{IsTold, LoadedPairs}
+use Rattle.papaya_call_law.specs.TrueAnswers.{IsTrueOf, LoadedPairs}
 use Rattle.papaya_words_law.specs.Code.{IsHashed}
 use Rattle.papaya_words_law.proofs.Alike.{all_alike}
 use Rattle.papaya_words_law.proofs.Further.{key_agrees, key_alike, key_lawful}
@@ -121,11 +121,11 @@ module _ {K V S H : Type 0} (eq : K → K → Bool) (input : K → List (List �
 
     -- an answer that is true of the log's words, with which nothing is exchanged
     pub learned : (answer : Answer) (loaded' : LoadedPairs (Stored K V))
-        → IsTold (setting log) coding None (state_of log) (kind_of_ask m) loaded (ask_of m) answer [] loaded'
+        → IsTrueOf (setting log) coding None (state_of log) (kind_of_ask m) loaded (ask_of m) answer [] loaded'
         → Relies (setting log) coding begun r.since None (after m answer) loaded'
     learned answer loaded' told =
-        let told' : IsTold (setting log) coding None (run (begun ++ r.since) start) (kind_of_ask m) loaded (ask_of m) answer [] loaded' =
+        let told' : IsTrueOf (setting log) coding None (run (begun ++ r.since) start) (kind_of_ask m) loaded (ask_of m) answer [] loaded' =
         subst (λ (z : List (Exchange (Stored K V))).
-        IsTold (setting log) coding None (run z start) (kind_of_ask m) loaded (ask_of m) answer [] loaded') (sym r.is) told in
+        IsTrueOf (setting log) coding None (run z start) (kind_of_ask m) loaded (ask_of m) answer [] loaded') (sym r.is) told in
         let all = machine_learns (setting log) coding (hashed_with log l) begun r.since may None m loaded r.relies answer [] loaded' told' in
         subst (λ (z : List (Exchange (Stored K V))). Relies (setting log) coding begun z None (after m answer) loaded') (append-nil r.since) all.1

@@ -9,7 +9,7 @@ use Rattle.papaya_call.specs.declared.ask.Ask.TheVariants.{Load, SizeOf}
 use Rattle.papaya_call.specs.declared.ask.Answer.TheVariants.{Word as Word_read, Size}
 use Rattle.papaya_call.specs.declared.ask.StepKind.{StepKind}
 use Rattle.papaya_words_law.specs.Grows.{brings, places_in, size_in}
-use Rattle.papaya_call_law.specs.Told.{IsTold, LoadedPairs, or_last}
+use Rattle.papaya_call_law.specs.TrueAnswers.{IsTrueOf, LoadedPairs, or_last}
 use Rattle.papaya_map_book.specs.Sheets.{Sheet}
 use Rattle.papaya_map_book.specs.declared.rule.entry.Begun.{Begun}
 use Rattle.papaya_map_book.specs.declared.rule.entry.Named.TheVariants as names
@@ -67,7 +67,7 @@ module _ {K V S : Type 0} (eq : K → K → Bool) (hash : S → K → ℕ) (b : 
     (loaded : LoadedPairs (Stored K V)) where
   -- a table's size is what a machine is to be told of it
   pub size_told : (t : ℕ) (sheet : Sheet) → IsTable log t sheet
-      → IsTold (setting_of eq (hash b.hasher) b.mode b.limit log) (coding_of (hash b.hasher)) k (state_of log) kind loaded (SizeOf t)
+      → IsTrueOf (setting_of eq (hash b.hasher) b.mode b.limit log) (coding_of (hash b.hasher)) k (state_of log) kind loaded (SizeOf t)
       (Size (length sheet.slots) sheet.limit) [] loaded
   size_told t sheet h =
       let size = table_size (steps_of log) t h.0 h.1 in (
@@ -81,12 +81,12 @@ module _ {K V S : Type 0} (eq : K → K → Bool) (hash : S → K → ℕ) (b : 
 
   -- so is the number of the root
   pub root_answer : (name : Book) (found : ℕ) (table : Option (Bor Sheet)) → IsRoot eq hash b name found log table
-      → IsTold (setting_of eq (hash b.hasher) b.mode b.limit log) (coding_of (hash b.hasher)) k (state_of log) kind loaded (Load Root) (Word_read found) [] loaded
+      → IsTrueOf (setting_of eq (hash b.hasher) b.mode b.limit log) (coding_of (hash b.hasher)) k (state_of log) kind loaded (Load Root) (Word_read found) [] loaded
   root_answer name found table r = (ap Word_read (sym r.is), refl, refl)
 
   -- and the word of a slot: the pair that it names is the one last told of
   pub slot_answer : (name : Book) (t x found : ℕ) (pair : Option (Stored K V)) → IsSlot eq hash b name t x found log pair
-      → IsTold (setting_of eq (hash b.hasher) b.mode b.limit log) (coding_of (hash b.hasher)) k (state_of log) kind loaded (Load (Slot t x))
+      → IsTrueOf (setting_of eq (hash b.hasher) b.mode b.limit log) (coding_of (hash b.hasher)) k (state_of log) kind loaded (Load (Slot t x))
       (Word_read found) [] (record { last = or_last pair loaded.last; made = loaded.made })
   slot_answer name t x found pair r = (
     ap Word_read (sym r.is),

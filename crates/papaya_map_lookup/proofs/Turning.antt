@@ -23,7 +23,7 @@ use Rattle.papaya_call.specs.declared.search.ProbeStep.TheVariants.{On, Empty, H
 use Rattle.papaya_call.specs.Compute.{nothing}
 use Rattle.papaya_call.specs.Machine.{goes_as, passes, started}
 use Rattle.papaya_call.specs.Search.{IsProbed, IsSize, IsWithin, at_yes, first_place, go_on, hinted, look, look_at, match_at, next_place}
-use Rattle.papaya_call_law.specs.Told.{or_last}
+use Rattle.papaya_call_law.specs.TrueAnswers.{or_last}
 use Rattle.papaya_call_law.proofs.LoadsLeft.{chosen}
 use Rattle.papaya_words_law.specs.Exchange.{Exchange}
 use Rattle.papaya_words_law.specs.Invariant.{named}
@@ -44,7 +44,7 @@ use Rattle.papaya_map_book.proofs.Logs.{table_came}
 use Rattle.papaya_map_lookup.specs.Answers.{IsHitAnsweredBetween}
 use Rattle.papaya_map_lookup.specs.History.{history_of, key_of}
 use Rattle.papaya_call_law.specs.Relies.{HasMet}
-use Rattle.papaya_map_lookup.specs.Lookups.{HasHit, HoldsPair, IsReading, IsReadingAt, IsTurned, coding_for, led_to, left_of, lookup_at, setting_for, turn_of}
+use Rattle.papaya_map_lookup.specs.Lookups.{HasHit, HoldsPair, IsReading, IsReadingAt, IsNextStage, coding_for, next_stage, left_of, lookup_at, setting_for, hit_of}
 use Rattle.papaya_map_lookup.specs.declared.lookup.Met.{Met}
 use Rattle.papaya_map_lookup.specs.declared.lookup.ProbeHit.{ProbeHit}
 use Rattle.papaya_map_lookup.specs.declared.lookup.ProbeHit.TheVariants as turns
@@ -138,7 +138,7 @@ here_same at a word w false here = absurd (here_not at a w here)
 
 module _ (M E : Type 0) where
   -- the turn leads the machine where the search goes
-  led_on : (mode : ResizeMode) (n : ℕ) (seen : ProbeStep) → IsOnward seen → goes_as Get mode nothing seen ≡ led_to {M = M} {E = E} mode n (turn_of seen)
+  led_on : (mode : ResizeMode) (n : ℕ) (seen : ProbeStep) → IsOnward seen → goes_as Get mode nothing seen ≡ next_stage {M = M} {E = E} mode n (hit_of seen)
   led_on mode n (On (Looking at)) o = refl
   led_on mode n (On (Sizing t)) o = absurd o
   led_on mode n (On (Reading at)) o = absurd o
@@ -147,7 +147,7 @@ module _ (M E : Type 0) where
   led_on mode n (Here at word) o = absurd o
   led_on mode n (Over t) o = refl
 
-  within_on : (seen : ProbeStep) → IsProbed seen → (at : Place) → turn_of {M = M} {E = E} seen ≡ turns.Next at → IsWithin at
+  within_on : (seen : ProbeStep) → IsProbed seen → (at : Place) → hit_of {M = M} {E = E} seen ≡ turns.Next at → IsWithin at
   within_on (On (Looking p)) w at e = let is : p ≡ at = cc e in subst IsWithin is w
   within_on (On (Sizing t)) w at e = absurd (cc e)
   within_on (On (Reading p)) w at e = absurd (cc e)
@@ -156,7 +156,7 @@ module _ (M E : Type 0) where
   within_on (Here p word) w at e = absurd (cc e)
   within_on (Over t) w at e = absurd (cc e)
 
-  unfound_on : (seen : ProbeStep) (met : M) (entry : E) → turn_of seen ≡ turns.Found met entry → ⊥
+  unfound_on : (seen : ProbeStep) (met : M) (entry : E) → hit_of seen ≡ turns.Found met entry → ⊥
   unfound_on (On (Looking p)) met entry e = cc e
   unfound_on (On (Sizing t)) met entry e = cc e
   unfound_on (On (Reading p)) met entry e = cc e
@@ -208,12 +208,12 @@ module _ {K V S H : Type 0} (eq : K → K → Bool) (input : K → List (List �
 
   -- a turn led the machine on, and less is left
   abbrev pub Goes : List (Event K V S) → Stage → Sheet → ProbeHit (Met K V) (Bor K × Bor V) → Type 0
-  Goes log stage table turn = IsTurned eq hash b name matches fed_to begun h log table turn × (left_of (led_to b.mode 0 turn) < left_of stage)
+  Goes log stage table turn = IsNextStage eq hash b name matches fed_to begun h log table turn × (left_of (next_stage b.mode 0 turn) < left_of stage)
 
   -- a search that goes on
   goes_on : (log : List (Event K V S)) (stage : Stage) (table : Sheet) (lent : Bor Sheet) → lent.now ≡ table
       → (pair : Option (Stored K V)) (seen : ProbeStep) → IsProbed seen → IsOnward seen → Reads log (goes_as Get b.mode nothing seen) lent pair
-      → left_of (goes_as Get b.mode nothing seen) < left_of stage → Goes log stage table (turn_of seen)
+      → left_of (goes_as Get b.mode nothing seen) < left_of stage → Goes log stage table (hit_of seen)
   goes_on log stage table lent is pair seen within onward r fewer = (
     record {
       lent = lent;
@@ -248,7 +248,7 @@ module _ {K V S H : Type 0} (eq : K → K → Bool) (input : K → List (List �
 
       -- the word is not loaded
       pub hint_passed : IsProbed (hinted at h hint) → ((a : Place) → hinted at h hint ≡ On (Reading a) → ⊥)
-          → Goes log' (Searching (Looking at)) table (turn_of (hinted at h hint))
+          → Goes log' (Searching (Looking at)) table (hit_of (hinted at h hint))
       hint_passed seen none = goes_on log' (Searching (Looking at)) table r.0 r.1 r.2 (hinted at h hint) seen (onward_hinted at h hint none)
           hint_answered.0 hint_answered.1
 
@@ -270,7 +270,7 @@ module _ {K V S H : Type 0} (eq : K → K → Bool) (input : K → List (List �
         (told : IsSlotWord eq hash b name at.table at.probe.i word log' state) where
       -- no key is compared
       pub passed : IsProbed (look at word) → ((a : Place) (w : ℕ) → look at word ≡ On (Comparing a w) → ⊥)
-          → Goes log' (Searching (Reading at)) table (turn_of (look at word))
+          → Goes log' (Searching (Reading at)) table (hit_of (look at word))
       passed seen none =
           let o = named ((state_of log').slot at.table at.probe.i) in
           let looked = slot_read eq input build write finish classes respects b matches query lawful begun log log' pre told.read.lawful
@@ -321,7 +321,7 @@ module _ {K V S H : Type 0} (eq : K → K → Bool) (input : K → List (List �
                 (all.reading, omega (arith, before, less))
 
             pub other_pair : IsProbed (at_yes (Comparing at word) same) → ((a' : Place) (w' : ℕ) → at_yes (Comparing at word) same ≡ Here a' w' → ⊥)
-                → Goes log' (Searching (Reading at)) table (turn_of (at_yes (Comparing at word) same))
+                → Goes log' (Searching (Reading at)) table (hit_of (at_yes (Comparing at word) same))
             other_pair seen none = goes_on log' (Searching (Reading at)) table r.0 r.1 (Some p) (at_yes (Comparing at word) same) seen
                 (onward_yes at word same none) compared.0 compared.1
 
@@ -329,7 +329,7 @@ module _ {K V S H : Type 0} (eq : K → K → Bool) (input : K → List (List �
             met = record { place = at; word = word; stored = p }
 
             pub pair_found : (a' : Place) (w' : ℕ) → at_yes (Comparing at word) same ≡ Here a' w' → (entry : Bor K × Bor V) → entry.0.now ≡ key_of p
-                → entry.1.now ≡ p.value.value → IsTurned eq hash b name matches fed_to begun h log' table (turns.Found met entry)
+                → entry.1.now ≡ p.value.value → IsNextStage eq hash b name matches fed_to begun h log' table (turns.Found met entry)
             pair_found a' w' here entry key_is value_is = record {
               lent = r.0;
               lent_is = r.1;
@@ -373,7 +373,7 @@ module _ {K V S H : Type 0} (eq : K → K → Bool) (input : K → List (List �
       (lookup_at h b.mode b.limit stage) held pair
 
   abbrev pub Turned : List (Event K V S) → Sheet → ProbeHit (Met K V) (Bor K × Bor V) → Type 0
-  Turned log table turn = IsTurned eq hash_in b book.begun.book matches (fed eq input build write finish classes respects b matches query lawful)
+  Turned log table turn = IsNextStage eq hash_in b book.begun.book matches (fed eq input build write finish classes respects b matches query lawful)
       (exchanges_of began) h log table turn
 
   -- the number of the root was loaded
@@ -410,7 +410,7 @@ module _ {K V S H : Type 0} (eq : K → K → Bool) (input : K → List (List �
   pub next_held : (log log' : List (Event K V S)) → IsPrefix log log' → (table : Sheet) (t : ℕ) (chunk : ℕ) → book.parts.mode ≡ Incremental chunk
       → Turned log table (turns.Over t) → (word : ℕ) (held : Option (Bor Sheet)) → IsNext eq hash_in b book.begun.book t word log' held
       → (pair : Option (Stored K V)) × Reads_with log' (numbered word) held pair
-      × (left_of (numbered word) < left_of (led_to {M = Met K V} {E = Bor K × Bor V} b.mode 0 (turns.Over t)))
+      × (left_of (numbered word) < left_of (next_stage {M = Met K V} {E = Bor K × Bor V} b.mode 0 (turns.Over t)))
   next_held log log' after table t chunk mode turned word held told =
       let leads : passes Get b.mode None t ≡ Leaving t = ap (λ (z : ResizeMode). passes Get z None t) mode in
       let r : Reads_with log (Leaving t) (Some turned.lent) turned.pair = subst (λ (s : Stage). Reads_with log s (Some turned.lent) turned.pair) leads

@@ -31,7 +31,7 @@ module _ {K V S H : Type 0} {d : keyed.Ghosts S K H} where
 
   -- A bound on the steps that are left to a lookup after this outcome of a place.
   abbrev pub left_after : Window K V S H d → ProbeHit (Met K V) (Bor K × Bor V) → ℕ
-  left_after w turn = lookups.left_of (lookups.led_to w.book.now.parts.mode 0 turn)
+  left_after w turn = lookups.left_of (lookups.next_stage w.book.now.parts.mode 0 turn)
 
   abbrev pub IsSlotAt : Window K V S H d → (number place : ℕ) → Word → Type 0
   IsSlotAt w = lookups.IsSlotAt w.sight.log
@@ -47,17 +47,17 @@ module _ {K V S H : Type 0} {d : keyed.Ghosts S K H} where
         (exchanges_of began) hash w.sight.log stage table
 
     -- This outcome of a place leads the lookup to its next stage, by what has been observed now.
-    abbrev pub IsTurned : Window K V S H d → ℕ → Sheet → ProbeHit (Met K V) (Bor K × Bor V) → Type 0
-    IsTurned w hash table turn = lookups.IsTurned d.keys.eq d.keys.hash (begun_of w.book.now.parts)
+    abbrev pub IsNextStage : Window K V S H d → ℕ → Sheet → ProbeHit (Met K V) (Bor K × Bor V) → Type 0
+    IsNextStage w hash table turn = lookups.IsNextStage d.keys.eq d.keys.hash (begun_of w.book.now.parts)
         w.book.now.begun.book query.matches (query.hash w.book.now.parts.hasher)
         (exchanges_of began) hash w.sight.log table turn
 
     -- This result for the place `at` of the root leads the lookup to its next stage, by what has
     -- been observed now, unless the result is `Aside`.
-    abbrev pub IsNear : Window K V S H d → ℕ → Sheet → Place → RootHit (Met K V) (Bor K × Bor V)
+    abbrev pub IsRootHit : Window K V S H d → ℕ → Sheet → Place → RootHit (Met K V) (Bor K × Bor V)
         → Type 0
-    IsNear w hash table at near = MatchOption (lookups.turn_near at near) (Unit {0})
-        (IsTurned w hash table)
+    IsRootHit w hash table at near = MatchOption (lookups.hit_in_root at near) (Unit {0})
+        (IsNextStage w hash table)
 
     -- A search that began at the log `began` has met the entry of this hit, by what has been
     -- observed now. The hit refers to the key and the value of that entry.
@@ -75,10 +75,10 @@ module _ {K V S H : Type 0} {d : keyed.Ghosts S K H} where
 
     -- This outcome leads each lookup that was at this stage in `w` to its next stage, by what has
     -- been observed in `w'`.
-    abbrev pub Leads : (w w' : Window K V S H d) → ℕ → Stage → Sheet
+    abbrev pub AdvancesTo : (w w' : Window K V S H d) → ℕ → Stage → Sheet
         → ProbeHit (Met K V) (Bor K × Bor V) → Type 0
-    Leads w w' hash stage table turn = (began : List (Event K V S))
-        → IsReadingAt query began w hash stage table → IsTurned query began w' hash table turn
+    AdvancesTo w w' hash stage table turn = (began : List (Event K V S))
+        → IsReadingAt query began w hash stage table → IsNextStage query began w' hash table turn
 
   -- A search that began no earlier than at the log of `w` has met this entry, by what has been
   -- observed in `w'`.

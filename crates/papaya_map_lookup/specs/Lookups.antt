@@ -18,7 +18,7 @@ use Rattle.papaya_words_law.specs.Code.{Coding}
 use Rattle.papaya_words_law.specs.Further.{coding_with, with_key}
 use Rattle.papaya_call.specs.Machine.{passes, started}
 use Rattle.papaya_call_law.specs.Relies.{HasMet, Relies, WasAtMoment}
-use Rattle.papaya_call_law.specs.Told.{LoadedPairs}
+use Rattle.papaya_call_law.specs.TrueAnswers.{LoadedPairs}
 use Rattle.papaya_map_book.specs.Sheets.{HoldsHint, Sheet, word_named}
 use Rattle.papaya_map_book.specs.declared.rule.entry.Begun.{Begun}
 use Rattle.papaya_map_book.specs.declared.rule.entry.Event.{Event}
@@ -123,26 +123,26 @@ HoldsHintAt log t x word = (sheet : Sheet) × IsTable log t sheet
     × HoldsHint sheet.book sheet.slots x word
 
 -- The outcome of a place at which no entry was found, by the search's next step.
-abbrev pub turn_of : {M E : Type 0} → ProbeStep → ProbeHit M E
-turn_of (On (Looking at)) = turns.Next at
-turn_of (Over t) = turns.Over t
-turn_of _ = turns.Absent
+abbrev pub hit_of : {M E : Type 0} → ProbeStep → ProbeHit M E
+hit_of (On (Looking at)) = turns.Next at
+hit_of (Over t) = turns.Over t
+hit_of _ = turns.Absent
 
 -- The outcome of the place `at`, by its result in the root. There is none if the whole search is
 -- needed.
-abbrev pub turn_near : {M E : Type 0} → Place → RootHit M E → Option (ProbeHit M E)
-turn_near at nears.On = Some (turn_of (go_on at))
-turn_near at (nears.Found met entry) = Some (turns.Found met entry)
-turn_near at nears.Absent = Some turns.Absent
-turn_near at nears.Aside = None
+abbrev pub hit_in_root : {M E : Type 0} → Place → RootHit M E → Option (ProbeHit M E)
+hit_in_root at nears.On = Some (hit_of (go_on at))
+hit_in_root at (nears.Found met entry) = Some (turns.Found met entry)
+hit_in_root at nears.Absent = Some turns.Absent
+hit_in_root at nears.Aside = None
 
 -- The stage to which an outcome of a place leads the lookup's machine. `number` is that of the pair
 -- that was found.
-abbrev pub led_to : {M E : Type 0} → ResizeMode → ℕ → ProbeHit M E → Stage
-led_to mode number (turns.Next at) = Searching (Looking at)
-led_to mode number (turns.Found met entry) = Ended (Found number)
-led_to mode number turns.Absent = Ended Absent
-led_to mode number (turns.Over t) = passes Get mode None t
+abbrev pub next_stage : {M E : Type 0} → ResizeMode → ℕ → ProbeHit M E → Stage
+next_stage mode number (turns.Next at) = Searching (Looking at)
+next_stage mode number (turns.Found met entry) = Ended (Found number)
+next_stage mode number turns.Absent = Ended Absent
+next_stage mode number (turns.Over t) = passes Get mode None t
 
 -- A search has met a pair with a matching key: the word that it loaded at this place of this table
 -- named the pair, which is stored in the arena.
@@ -161,7 +161,7 @@ pub record HasHit {K V S : Type 0} (eq : K → K → Bool) (hash : S → K → �
 
 -- An outcome of a place has led the lookup's machine to its next stage. If an entry was found, the
 -- search has met its pair, and the references are to that pair's key and value.
-pub record IsTurned {K V S : Type 0} (eq : K → K → Bool) (hash : S → K → ℕ) (b : Begun K V S)
+pub record IsNextStage {K V S : Type 0} (eq : K → K → Bool) (hash : S → K → ℕ) (b : Begun K V S)
     (name : Book) (matches : K → Bool) (fed : ℕ) (begun : List (Exchange (Stored K V))) (h : ℕ)
     (log : List (Event K V S)) (table : Sheet)
     (turn : ProbeHit (Met K V) (Bor K × Bor V)) : Type 0 where
@@ -170,7 +170,7 @@ pub record IsTurned {K V S : Type 0} (eq : K → K → Bool) (hash : S → K →
   pub pair : Option (Stored K V)
   pub number : ℕ
   pub reading : IsReading eq hash b matches fed begun log
-      (lookup_at h b.mode b.limit (led_to b.mode number turn)) (Some lent) pair
+      (lookup_at h b.mode b.limit (next_stage b.mode number turn)) (Some lent) pair
   pub within : (at : Place) → turn ≡ turns.Next at → IsWithin at
   pub found : (met : Met K V) (entry : Bor K × Bor V) → turn ≡ turns.Found met entry
       → (pair ≡ Some met.stored) × (entry.0.now ≡ key_of met.stored)

@@ -10,8 +10,8 @@ ghost use Rattle.papaya_map_book.specs.Windows.{IsLawful, Observes};
 ghost use Rattle.papaya_map_lookup.specs.Answers.{IsAnsweredBetween, IsHitAnsweredBetween};
 ghost use Rattle.papaya_map_lookup.specs.Answers.{IsPairAnsweredBetween};
 ghost use Rattle.papaya_map_lookup.specs.History.{history_of};
-ghost use Rattle.papaya_map_lookup.specs.Drivers.{Hits, Leads, Reads, left_after, past};
-ghost use Rattle.papaya_map_lookup.specs.Lookups.{left_of, turn_of};
+ghost use Rattle.papaya_map_lookup.specs.Drivers.{Hits, AdvancesTo, Reads, left_after, past};
+ghost use Rattle.papaya_map_lookup.specs.Lookups.{left_of, hit_of};
 ghost use Rattle.papaya_map_lookup.specs.declared.lookup.ProbeHit.TheVariants.{Next};
 
 use crate::near::search_near;
@@ -69,7 +69,7 @@ enum ProbeHit<M, E> {
 /// Continues a search that has found no entry.
 #[inline(always)]
 fn without<M, E>(seen: ProbeStep) -> ProbeHit<M, E>
-    ensures { result ≡ turn_of seen }
+    ensures { result ≡ hit_of seen }
 {
     match seen {
         ProbeStep::On(Search::Looking(at)) => ProbeHit::Next(at),
@@ -91,7 +91,7 @@ fn read_at<'a, K: Hash + Eq, V, S: BuildHasher, Q: Equivalent<K>>(
     requires reads { (hash : _) × Reads (⟦<S as Asked<K, Q>>⟧.query key.now) window.old hash
         (Searching (Reading at)) table.now }
     ensures sees { Observes window.old window.new }
-    ensures leads { (hash : _) → Leads (⟦<S as Asked<K, Q>>⟧.query key.now) window.old window.new
+    ensures leads { (hash : _) → AdvancesTo (⟦<S as Asked<K, Q>>⟧.query key.now) window.old window.new
         hash (Searching (Reading at)) table.now result }
     ensures fewer { left_after window.old result < left_of (Searching (Reading at)) }
 {
@@ -124,7 +124,7 @@ fn read_at<'a, K: Hash + Eq, V, S: BuildHasher, Q: Equivalent<K>>(
 
 /// Looks at one place of a table: loads its hint, and its word if the hint is 0 or the key's.
 #[inline(always)]
-fn look_at<'a, K: Hash + Eq, V, S: BuildHasher, Q: Equivalent<K>>(
+fn probe_at<'a, K: Hash + Eq, V, S: BuildHasher, Q: Equivalent<K>>(
     window: &mut Window<'a, K, V, S>,
     key: &Q,
     hash: u64,
@@ -135,7 +135,7 @@ fn look_at<'a, K: Hash + Eq, V, S: BuildHasher, Q: Equivalent<K>>(
     requires reads { Reads (⟦<S as Asked<K, Q>>⟧.query key.now) window.old hash
         (Searching (Looking at)) table.now }
     ensures sees { Observes window.old window.new }
-    ensures leads { Leads (⟦<S as Asked<K, Q>>⟧.query key.now) window.old window.new hash
+    ensures leads { AdvancesTo (⟦<S as Asked<K, Q>>⟧.query key.now) window.old window.new hash
         (Searching (Looking at)) table.now result }
     ensures fewer { left_after window.old result < left_of (Searching (Looking at)) }
 {
@@ -160,14 +160,14 @@ fn search<'a, K: Hash + Eq, V, S: BuildHasher, Q: Equivalent<K>>(
     requires reads { Reads (⟦<S as Asked<K, Q>>⟧.query key.now) window.old hash
         (Searching (Looking at)) table.now }
     ensures sees { Observes window.old window.new }
-    ensures leads { Leads (⟦<S as Asked<K, Q>>⟧.query key.now) window.old window.new hash
+    ensures leads { AdvancesTo (⟦<S as Asked<K, Q>>⟧.query key.now) window.old window.new hash
         (Searching (Looking at)) table.now result }
     ensures over { (at : _) → result ≡ Next at → ⊥ }
     ensures fewer { left_after window.old result ≤ left_of (Searching (Looking at)) }
 {
     let mut place = at;
     loop {
-        match look_at(window, key, hash, table, place) {
+        match probe_at(window, key, hash, table, place) {
             ProbeHit::Next(next) => place = next,
             turned => return turned,
         }
@@ -251,7 +251,7 @@ pub fn look_up_pair<'a, K: Hash + Eq, V, S: BuildHasher, Q: Equivalent<K>>(
 /// root. It takes no window, so that its callers keep theirs in registers.
 #[cold]
 #[inline(never)]
-fn look_up_anew<'a, K: Hash + Eq, V, S: BuildHasher, Q: Equivalent<K>>(
+fn restart_lookup<'a, K: Hash + Eq, V, S: BuildHasher, Q: Equivalent<K>>(
     book: &'a Book<K, V, S>,
     key: &Q,
     sight: &mut Seen<K, V, S>,
@@ -288,7 +288,7 @@ pub fn look_up<'a, K: Hash + Eq, V, S: BuildHasher, Q: Equivalent<K>>(
         Some(found) => found,
         None => {
             let mut sight = window.sight.again();
-            let found = look_up_anew(window.book, key, &mut sight);
+            let found = restart_lookup(window.book, key, &mut sight);
             window.sight = sight;
             found
         }

@@ -10,7 +10,7 @@ ghost use Rattle.papaya_call.specs.declared.search.Search.TheVariants.{Looking, 
 ghost use Rattle.papaya_map_book.specs.Sheets.{HoldHints, word_named};
 ghost use Rattle.papaya_map_book.specs.Windows.{IsHint, IsLawful, IsSlotWord, Observes};
 ghost use Rattle.papaya_map_lookup.specs.Answers.{IsAnsweredBetween};
-ghost use Rattle.papaya_map_lookup.specs.Drivers.{HoldsHintAt, IsNear, IsReadingAt, IsSlotAt, Reads, past};
+ghost use Rattle.papaya_map_lookup.specs.Drivers.{HoldsHintAt, IsRootHit, IsReadingAt, IsSlotAt, Reads, past};
 ghost use Rattle.papaya_map_lookup.specs.declared.near.RootHit.TheVariants.{On};
 
 use crate::lookup::{Met, hash};
@@ -126,7 +126,7 @@ fn read_slot<'a, K: Hash + Eq, V, S: BuildHasher, Q: Equivalent<K>>(
     ensures near { (began : _) (hash : _) (table : _)
         → IsReadingAt (⟦<S as Asked<K, Q>>⟧.query key.now) began window.old hash
         (Searching (Reading at)) table
-        → IsNear (⟦<S as Asked<K, Q>>⟧.query key.now) began window.new hash table at result }
+        → IsRootHit (⟦<S as Asked<K, Q>>⟧.query key.now) began window.new hash table at result }
 {
     let (word, offer) = word_of(window, slot, at.table, at.probe.i);
     if is_live(word) {
@@ -155,7 +155,7 @@ fn read_slot<'a, K: Hash + Eq, V, S: BuildHasher, Q: Equivalent<K>>(
 
 /// Looks at one slot: loads its hint, and its word if the hint is 0 or the key's.
 #[inline(always)]
-fn look_at_slot<'a, K: Hash + Eq, V, S: BuildHasher, Q: Equivalent<K>>(
+fn probe_slot<'a, K: Hash + Eq, V, S: BuildHasher, Q: Equivalent<K>>(
     window: &mut Window<'a, K, V, S>,
     key: &Q,
     hash: u64,
@@ -170,7 +170,7 @@ fn look_at_slot<'a, K: Hash + Eq, V, S: BuildHasher, Q: Equivalent<K>>(
     ensures near { (began : _) (table : _)
         → IsReadingAt (⟦<S as Asked<K, Q>>⟧.query key.now) began window.old hash
         (Searching (Looking at)) table
-        → IsNear (⟦<S as Asked<K, Q>>⟧.query key.now) began window.new hash table at result }
+        → IsRootHit (⟦<S as Asked<K, Q>>⟧.query key.now) began window.new hash table at result }
 {
     let found = hint_of(window, hints, at.table, at.probe.i);
     if !holds(found, hash) {
@@ -181,7 +181,7 @@ fn look_at_slot<'a, K: Hash + Eq, V, S: BuildHasher, Q: Equivalent<K>>(
 
 /// Looks at one place of a table, whose words and hints were taken.
 #[inline(always)]
-fn look_at_place<'a, K: Hash + Eq, V, S: BuildHasher, Q: Equivalent<K>>(
+fn probe_place<'a, K: Hash + Eq, V, S: BuildHasher, Q: Equivalent<K>>(
     window: &mut Window<'a, K, V, S>,
     key: &Q,
     hash: u64,
@@ -198,11 +198,11 @@ fn look_at_place<'a, K: Hash + Eq, V, S: BuildHasher, Q: Equivalent<K>>(
     ensures sees { Observes window.old window.new }
     ensures near { (began : _) → IsReadingAt (⟦<S as Asked<K, Q>>⟧.query key.now) began window.old
         hash (Searching (Looking at)) table.now
-        → IsNear (⟦<S as Asked<K, Q>>⟧.query key.now) began window.new hash table.now at result }
+        → IsRootHit (⟦<S as Asked<K, Q>>⟧.query key.now) began window.new hash table.now at result }
 {
     let slot = &slots[at.probe.i];
     let beside = &hints[at.probe.i / 8];
-    look_at_slot(window, key, hash, slot, beside, at)
+    probe_slot(window, key, hash, slot, beside, at)
 }
 
 /// Searches a table from this place on, until it meets a copier's work or the probe limit.
@@ -226,12 +226,12 @@ fn search_slots<'a, K: Hash + Eq, V, S: BuildHasher, Q: Equivalent<K>>(
     ensures ends { result ≡ On → ⊥ }
     ensures near { (began : _) → IsReadingAt (⟦<S as Asked<K, Q>>⟧.query key.now) began window.old
         hash (Searching (Looking at)) table.now
-        → (last : _) × IsNear (⟦<S as Asked<K, Q>>⟧.query key.now) began window.new hash table.now
+        → (last : _) × IsRootHit (⟦<S as Asked<K, Q>>⟧.query key.now) began window.new hash table.now
         last result }
 {
     let mut place = at;
     loop {
-        match look_at_place(window, key, hash, table, slots, hints, place) {
+        match probe_place(window, key, hash, table, slots, hints, place) {
             RootHit::On => {}
             turned => return turned,
         }
@@ -260,12 +260,12 @@ fn search_table<'a, K: Hash + Eq, V, S: BuildHasher, Q: Equivalent<K>>(
     ensures ends { result ≡ On → ⊥ }
     ensures near { (began : _) → IsReadingAt (⟦<S as Asked<K, Q>>⟧.query key.now) began window.old
         hash (Searching (Looking at)) table.now
-        → (last : _) × IsNear (⟦<S as Asked<K, Q>>⟧.query key.now) began window.new hash table.now
+        → (last : _) × IsRootHit (⟦<S as Asked<K, Q>>⟧.query key.now) began window.new hash table.now
         last result }
 {
     let slots = slots_of(table);
     let hints = hints_of(table);
-    match look_at_place(window, key, hash, table, slots, hints, at) {
+    match probe_place(window, key, hash, table, slots, hints, at) {
         RootHit::On => {}
         turned => return turned,
     }

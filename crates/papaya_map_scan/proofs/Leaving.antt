@@ -9,7 +9,7 @@ use Rattle.papaya_words.specs.declared.refused.Refused.{Refused}
 use Rattle.papaya_map_book.specs.Logs.{Stored}
 use Rattle.papaya_map_book.proofs.Logs.{prefix_trans}
 use Rattle.papaya_map_lookup.specs.History.{AllLegalChanges, Change, IsLegalHistory, changed, key_of, replay, replay_from}
-use Rattle.papaya_map_change.specs.Showings.{AllShown}
+use Rattle.papaya_map_change.specs.ClosureCalls.{AllArguments}
 use Rattle.papaya_map_scan.specs.Leaving.{AllDrop, AreDropped, Drops, HasDropped, HasKept, IsRetained, WasTakenOut}
 use Rattle.papaya_map_scan.specs.Meeting.{HadPair}
 
@@ -114,7 +114,7 @@ module _ {K V : Type 0} (eq : K → K → Bool) (old new : List (Change K (Store
   drop_more (c ∷ made) all change p had drops = (all.0, drop_more made all.1 change p had drops)
 
   -- what was made of the answers about pairs that the map had are drops
-  all_drop : (said : List (Stored K V × Bool)) → AllShown (HadPair eq old new) said → (made : List (Change K (Stored K V))) → AreDropped said made
+  all_drop : (said : List (Stored K V × Bool)) → AllArguments (HadPair eq old new) said → (made : List (Change K (Stored K V))) → AreDropped said made
       → AllDrop eq old new made
   all_drop [] had made is = subst (AllDrop eq old new) (sym is) tt
   all_drop (last ∷ before) had made (inl d) = all_drop before had.1 made d

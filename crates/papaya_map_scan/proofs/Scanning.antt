@@ -27,8 +27,8 @@ use Rattle.papaya_map_book.proofs.Logs.{prefix_trans, state_more, steps-append}
 use Rattle.papaya_map_lookup.specs.History.{Change, changes_by, changes_of, history_of, key_of}
 use Rattle.papaya_map_lookup.proofs.Histories.{changes-append, history_since}
 use Rattle.papaya_map_change.proofs.ResizingRelies.{C, G, hash}
-use Rattle.papaya_map_change.proofs.Showings.{all_shown}
-use Rattle.papaya_map_scan.specs.Leaving.{Drops, HasShown}
+use Rattle.papaya_map_change.proofs.ClosureCalls.{all_shown}
+use Rattle.papaya_map_scan.specs.Leaving.{Drops, HasCalled}
 use Rattle.papaya_map_scan.specs.Meeting.{HadPair, has_pair}
 use Rattle.papaya_map_scan.specs.Taking.{IsBuried, IsScannedUpTo, IsTaken, IsTakenAt}
 use Rattle.papaya_map_scan.proofs.Pairs.{HasIt}
@@ -45,12 +45,12 @@ pub some_same : {X : Type 0} (x y : X) → Some x ≡ Some y → x ≡ y
 some_same x y e = cc e
 
 module _ {K V F : Type 0} (eq : K → K → Bool) (judges : F → Stored K V → Bool → F → Type 0) (old new made mine : List (Change K (Stored K V)))
-    (first left : F) (said : List (Stored K V × Bool)) (h : HasShown eq old new made mine judges first left said) where
+    (first left : F) (said : List (Stored K V × Bool)) (h : HasCalled eq old new made mine judges first left said) where
   had_wider : (newer : List (Change K (Stored K V))) → IsPrefix new newer → (p : Stored K V) → HadPair eq old new p → HadPair eq old newer p
   had_wider newer pre p r = record { seen = r.seen; since = r.since; until = prefix_trans r.seen new newer r.until pre; is = r.is }
 
   -- what was shown so far, once more is seen
-  pub shown_later : (newer : List (Change K (Stored K V))) → IsPrefix new newer → HasShown eq old newer made mine judges first left said
+  pub shown_later : (newer : List (Change K (Stored K V))) → IsPrefix new newer → HasCalled eq old newer made mine judges first left said
   shown_later newer pre = record {
     has_said = h.has_said;
     had = all_shown (HadPair eq old new) (HadPair eq old newer) (had_wider newer pre) said
@@ -62,7 +62,7 @@ module _ {K V F : Type 0} (eq : K → K → Bool) (judges : F → Stored K V →
 
   module _ (q : Stored K V) (next : F) (had : HadPair eq old new q) where
     -- a further pair is shown
-    pub shown_more : (stays : Bool) → judges left q stays next → HasShown eq old new made mine judges first next ((q, stays) ∷ said)
+    pub shown_more : (stays : Bool) → judges left q stays next → HasCalled eq old new made mine judges first next ((q, stays) ∷ said)
     shown_more stays says = record {
       has_said = (left, h.has_said, says);
       had = (had, h.had);
@@ -75,7 +75,7 @@ module _ {K V F : Type 0} (eq : K → K → Bool) (judges : F → Stored K V →
     -- and taken out
     pub shown_dropped : judges left q false next → (newer : List (Change K (Stored K V))) → IsPrefix new newer → (change : Change K (Stored K V))
         → Drops change q → (mine' : List (Change K (Stored K V))) → mine' ≡ mine ++ change ∷ []
-        → HasShown eq old newer made mine' judges first next ((q, false) ∷ said)
+        → HasCalled eq old newer made mine' judges first next ((q, false) ∷ said)
     shown_dropped says newer pre change drops mine' is = record {
       has_said = (left, h.has_said, says);
       had = (had_wider newer pre q had, all_shown (HadPair eq old new) (HadPair eq old newer) (had_wider newer pre) said h.had);
@@ -123,8 +123,8 @@ module _ {K V S H F : Type 0} (eq : K → K → Bool) (input : K → List (List 
   -- the slots of the table were scanned until here
   abbrev pub So : (log : List (Event K V S)) → (mine' : List (Change K (Stored K V))) → F → (from upto : ℕ) → (ended : Type 0) → Type 0
   So log mine' f' from upto ended = (first : F) (made : List (Change K (Stored K V))) (said : List (Stored K V × Bool))
-      → HasShown eq (history_of began) (history_of v) made mine judges first f said
-      → (said' : List (Stored K V × Bool)) × HasShown eq (history_of began) (history_of log) made mine' judges first f' said'
+      → HasCalled eq (history_of began) (history_of v) made mine judges first f said
+      → (said' : List (Stored K V × Bool)) × HasCalled eq (history_of began) (history_of log) made mine' judges first f' said'
       × (ended → (at : List (Event K V S)) → IsTakenAt b began v t at → IsScannedUpTo at v t from said → IsScannedUpTo at log t upto said')
 
   module _ (name : Book) (log : List (Event K V S)) (pre : IsPrefix v log) (mine' : List (Change K (Stored K V))) (f' : F) (x word : ℕ)

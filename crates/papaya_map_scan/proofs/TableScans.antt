@@ -22,7 +22,7 @@ use Rattle.papaya_map_lookup.specs.Lookups.{IsSlotAt}
 use Rattle.papaya_map_lookup.proofs.Histories.{history_since}
 use Rattle.papaya_map_lookup.proofs.Slots.{named_len}
 use Rattle.papaya_map_scan.specs.Leaving as leaving
-use Rattle.papaya_map_scan.specs.TableScans.{HasShown, IsTaken, IsTakenAt, Scans}
+use Rattle.papaya_map_scan.specs.TableScans.{HasCalled, IsTaken, IsTakenAt, Scans}
 use Rattle.papaya_map_scan.specs.Taking as taking
 use Rattle.papaya_map_scan.specs.Walked.{AreLast, ArePassed, Gives, HadEntry, IsLeft, LeavesNone, Walked, Walks, with_found}
 use Rattle.papaya_map_scan.proofs.Taken.{scanned_later, taken_later}
@@ -51,10 +51,10 @@ module _ {K V S H : Type 0} {d : keyed.Ghosts S K H} where
   module _ {F : Type 0} (began : List (Event K V S)) (judges : F → Stored K V → Bool → F → Type 0) where
     -- what was shown so far, once more is seen
     pub shown_on : (w w' : Window K V S H d) → Sees w w' → w'.own.done ≡ w.own.done
-        → (made : List (Change K (Stored K V))) (first f : F) (said : List (Stored K V × Bool)) → HasShown began judges made w first f said
-        → HasShown began judges made w' first f said
+        → (made : List (Change K (Stored K V))) (first f : F) (said : List (Stored K V × Bool)) → HasCalled began judges made w first f said
+        → HasCalled began judges made w' first f said
     shown_on w w' sees same made first f said h =
-        subst (λ (done : List (Step K V)). leaving.HasShown d.keys.eq (history_of began) (past w') made (changes_by done) judges first f said) (sym same)
+        subst (λ (done : List (Step K V)). leaving.HasCalled d.keys.eq (history_of began) (past w') made (changes_by done) judges first f said) (sym same)
         (shown_later d.keys.eq judges (history_of began) (past w) made (own w) first f said h (past w') (history_since w.sight.log w'.sight.log sees.log))
 
     module _ (t : ℕ) where

@@ -28,8 +28,8 @@ use Rattle.papaya_words_law.proofs.Moments.{map_of-append}
 use Rattle.papaya_words_law.proofs.OneMap.{keeping_sound, legal_changes as all_legal, means, root_reached}
 use Rattle.papaya_words_law.proofs.Slots.{put_elsewhere, put_there}
 use Rattle.papaya_words_law.proofs.Walks.{root_holds}
-use Rattle.papaya_call_law.specs.Told.{IsWritten, word_of}
-use Rattle.papaya_call_law.specs.ScanTold.{IsLastAnswer}
+use Rattle.papaya_call_law.specs.TrueAnswers.{IsWritten, word_of}
+use Rattle.papaya_call_law.specs.ScanAnswers.{IsLastAnswer}
 use Rattle.papaya_call_law.proofs.ScanSlots.{met_had, reached_now}
 use Rattle.papaya_map_book.specs.declared.rule.entry.Begun.{Begun}
 use Rattle.papaya_map_book.specs.declared.rule.entry.Event.{Event}

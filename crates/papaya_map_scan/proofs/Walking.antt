@@ -18,7 +18,7 @@ use Rattle.papaya_map_book.specs.Sheets.{Sheet}
 use Rattle.papaya_map_book.proofs.Logs.{prefix_trans}
 use Rattle.papaya_map_lookup.specs.History.{history_of, key_of, replay}
 use Rattle.papaya_map_lookup.proofs.Histories.{history_since}
-use Rattle.papaya_map_change.specs.Showings.{AreOf}
+use Rattle.papaya_map_change.specs.ClosureCalls.{AreOf}
 use Rattle.papaya_map_change.proofs.ResizingRelies.{hash}
 use Rattle.papaya_map_scan.specs.Leaving.{WasTakenOut}
 use Rattle.papaya_map_scan.specs.Meeting.{has_pair}

@@ -2,10 +2,10 @@
 use Rattle.std.specs.Prelude.{◌≡◌, ◌⊎◌, Bool, true, false, None, Some, Result, List, [], ◌∷◌, ◌++◌, IfOk}
 use mathlib.Core.List.{IsPrefix}
 use Rattle.papaya_words.specs.declared.refused.Refused.{Refused}
-use Rattle.papaya_call_law.specs.ScanTold.{IsLastAnswer}
+use Rattle.papaya_call_law.specs.ScanAnswers.{IsLastAnswer}
 use Rattle.papaya_map_book.specs.Logs.{Stored}
 use Rattle.papaya_map_lookup.specs.History.{Change, replay}
-use Rattle.papaya_map_change.specs.Showings.{AllShown, HasSaid, IsSamePair}
+use Rattle.papaya_map_change.specs.ClosureCalls.{AllArguments, HasReturned, IsSamePair}
 use Rattle.papaya_map_scan.specs.Meeting.{HadPair}
 
 module _ {K V : Type 0} where
@@ -46,12 +46,12 @@ module _ {K V : Type 0} where
   -- The closure, which was `first`, was called with the entries in `said`, and is now `left`. Each
   -- of these entries was in the map in some history between the two. The changes since `made` are
   -- those that were made because of the closure's answers.
-  pub record HasShown {F : Type 0} (eq : K → K → Bool)
+  pub record HasCalled {F : Type 0} (eq : K → K → Bool)
       (old new made made' : List (Change K (Stored K V)))
       (judges : F → Stored K V → Bool → F → Type 0) (first left : F)
       (said : List (Stored K V × Bool)) : Type 0 where
-    pub has_said : HasSaid judges first said left
-    pub had : AllShown (HadPair eq old new) said
+    pub has_said : HasReturned judges first said left
+    pub had : AllArguments (HadPair eq old new) said
     pub changes : List (Change K (Stored K V))
     pub made_is : made' ≡ made ++ changes
     pub dropped : AreDropped said changes
@@ -80,5 +80,5 @@ module _ {K V : Type 0} where
       (result : Result A Refused) : Type 0 where
     pub left : F
     pub said : List (Stored K V × Bool)
-    pub shown : HasShown eq old new made made' judges first left said
+    pub shown : HasCalled eq old new made made' judges first left said
     pub leaves : IfOk result (λ _. IsRetained eq old new said)

@@ -33,9 +33,9 @@ module _ {K V S H : Type 0} {d : keyed.Ghosts S K H} where
         began w.sight.log word pair
 
     module _ {F : Type 0} (judges : F → Stored K V → Bool → F → Type 0) where
-      abbrev pub HasShown : List (Change K (Stored K V)) → Window K V S H d → (first left : F)
+      abbrev pub HasCalled : List (Change K (Stored K V)) → Window K V S H d → (first left : F)
           → List (Stored K V × Bool) → Type 0
-      HasShown made w first left said = leaving.HasShown d.keys.eq (history_of began) (past w) made
+      HasCalled made w first left said = leaving.HasCalled d.keys.eq (history_of began) (past w) made
           (own w) judges first left said
 
       -- The closure's calls and the changes that they caused continue from `w` to `w'`. If `ended`
@@ -44,8 +44,8 @@ module _ {K V S H : Type 0} {d : keyed.Ghosts S K H} where
       abbrev pub Scans : Window K V S H d → F → Window K V S H d → F → (t from upto : ℕ)
           → (ended : Type 0) → Type 0
       Scans w f w' f' t from upto ended = (first : F) (made : List (Change K (Stored K V)))
-          (said : List (Stored K V × Bool)) → HasShown made w first f said
-          → (said' : List (Stored K V × Bool)) × HasShown made w' first f' said'
+          (said : List (Stored K V × Bool)) → HasCalled made w first f said
+          → (said' : List (Stored K V × Bool)) × HasCalled made w' first f' said'
           × (ended → (at : List (Event K V S)) → IsTakenAt w t at
           → taking.IsScannedUpTo at w.sight.log t from said
           → taking.IsScannedUpTo at w'.sight.log t upto said')

@@ -3,14 +3,14 @@
 use Rattle.std.specs.Prelude.{◌≡◌, ◌⊎◌, ℕ, ◌<◌, Bool, true, false, List, [], ◌∷◌, ◌++◌}
 use mathlib.Core.List.{IsPrefix}
 use Rattle.papaya_words_law.specs.Exchange.{Word, Bury, Live, Marked}
-use Rattle.papaya_call_law.specs.ScanTold.{IsLastAnswer}
+use Rattle.papaya_call_law.specs.ScanAnswers.{IsLastAnswer}
 use Rattle.papaya_map_book.specs.declared.rule.entry.Begun.{Begun}
 use Rattle.papaya_map_book.specs.declared.rule.entry.Event.{Event}
 use Rattle.papaya_map_book.specs.declared.rule.entry.Event.TheVariants.{Stepped}
 use Rattle.papaya_map_book.specs.declared.rule.entry.Step.{Step}
 use Rattle.papaya_map_book.specs.Logs.{Stored, exchange_of, is_blocking, state_of}
 use Rattle.papaya_map_lookup.specs.History.{history_of}
-use Rattle.papaya_map_change.specs.Showings.{IsSamePair}
+use Rattle.papaya_map_change.specs.ClosureCalls.{IsSamePair}
 use Rattle.papaya_map_scan.specs.Leaving.{WasTakenOut}
 
 -- At `at`, a point between the two logs, the table was the root and, unless resizes block, had no

@@ -10,7 +10,7 @@ use Rattle.papaya_map_book.specs.Logs.{Member, Stored, state_of}
 use Rattle.papaya_map_book.specs.Sheets.{Sheet}
 use Rattle.papaya_map_lookup.specs.History.{Change, IsLegalHistory, history_of, key_of, replay}
 use Rattle.papaya_map_lookup.specs.Lookups.{IsSlotAt}
-use Rattle.papaya_map_change.specs.Showings.{AreOf}
+use Rattle.papaya_map_change.specs.ClosureCalls.{AreOf}
 use Rattle.papaya_map_scan.specs.Leaving.{WasTakenOut}
 use Rattle.papaya_map_scan.specs.Meeting.{HadPair}
 use Rattle.papaya_map_scan.specs.Taking.{Holds, IsTaken, IsTakenAt}

@@ -6,7 +6,7 @@ ghost use Rattle.papaya_map_book.specs.Limits.{HasNoRoom, tables_of};
 ghost use Rattle.papaya_map_book.specs.Windows.{IsIn, IsLawful, IsTable, Sees};
 ghost use Rattle.papaya_map_book.specs.declared.rule.entry.Named.TheVariants.{Pair as PairNamed};
 ghost use Rattle.papaya_map_lookup.specs.Drivers.{own, past};
-ghost use Rattle.papaya_map_change.specs.Showings.{Judges};
+ghost use Rattle.papaya_map_change.specs.ClosureCalls.{Judges};
 ghost use Rattle.papaya_map_change.specs.Writing.{IsMemoryOrCapacity};
 ghost use Rattle.papaya_map_scan.specs.Leaving.{HasKept};
 ghost use Rattle.papaya_map_scan.specs.TableScans.{IsTaken, Scans};
@@ -28,7 +28,7 @@ use std::hash::{BuildHasher, Hash};
 use std::sync::Wait;
 
 /// Calls the closure with a pair, and returns whether the pair stays.
-fn show<'a, K: Hash + Eq, V, S: BuildHasher, F: FnMut(&K, &V) -> bool>(
+fn call_closure<'a, K: Hash + Eq, V, S: BuildHasher, F: FnMut(&K, &V) -> bool>(
     stored: &Stored<K, V>,
     stays: &mut F,
     window: &Window<'a, K, V, S>,
@@ -70,7 +70,7 @@ fn scan_slot<'a, R: Wait, K: Hash + Eq, V, S: BuildHasher, F: FnMut(&K, &V) -> b
             Kind::Empty | Kind::Buried | Kind::Closed => return false,
         }
         let Some(stored) = &pair else { unreachable!() };
-        if show(stored, stays, window) {
+        if call_closure(stored, stays, window) {
             return false;
         }
         let (found, other) = bury(shard, table, number, place, word, stored, window);

@@ -10,7 +10,7 @@ use Rattle.papaya_run_shell.specs.declared.failure.Failure.{Failure}
 use Rattle.papaya_run_shell.specs.declared.failure.Failure.TheVariants as failure
 use Rattle.papaya_run_lines.specs.Lines.{lines_of}
 use Rattle.papaya_run_lines.specs.Script.{IsScript}
-use Rattle.papaya_run_lines.specs.Told.{IsPrintFailure, Tells, no_calls}
+use Rattle.papaya_run_lines.specs.LineOutput.{IsPrintFailure, PrintsLines, no_calls}
 use Rattle.papaya_run_lines.specs.declared.closures.Answering.{Answering}
 use Rattle.papaya_run_lines.specs.declared.script.Line.{Line}
 use Rattle.papaya_run_lines.specs.Core.{IsCoreRun, Ran, script_says}
@@ -18,7 +18,7 @@ use Rattle.papaya_run_lines.specs.Core.{IsCoreRun, Ran, script_says}
 module _ {S : Type 0} (hash : S → ℕ → ℕ) (first : CoreState ℕ ℕ S Answering → Type 0) (wrote : List ℕ → Type 0) (turns : List (Turn ℕ ℕ Answering))
     (rows : List Line) (bad_line passed : Option ℕ) (before after : CoreState ℕ ℕ S Answering) (trace : List Entry)
     (begins : first before) (runs : TurnsRun (λ a b. a == b) script_says hash turns (length turns) before after (reverse trace))
-    (told : (text : List ℕ) × Tells after.store trace no_calls rows 0 trace text passed × wrote text) where
+    (told : (text : List ℕ) × PrintsLines after.store trace no_calls rows 0 trace text passed × wrote text) where
   ran : (lines : List (List ℕ)) (bad : Option ℕ) → IsScript lines 1 turns rows bad_line → bad ≡ option_or passed bad_line → Ran hash first lines wrote bad
   ran lines bad script is = record {
     turns = turns;

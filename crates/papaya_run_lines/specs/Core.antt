@@ -10,7 +10,7 @@ use Rattle.papaya_run_shell.specs.declared.failure.Failure.{Failure}
 use Rattle.papaya_run_shell.specs.declared.failure.Failure.TheVariants as failure
 use Rattle.papaya_run_lines.specs.Closures.{operation_of}
 use Rattle.papaya_run_lines.specs.Script.{IsScript}
-use Rattle.papaya_run_lines.specs.Told.{Tells, no_calls}
+use Rattle.papaya_run_lines.specs.LineOutput.{PrintsLines, no_calls}
 use Rattle.papaya_run_lines.specs.declared.closures.Answering.{Answering}
 use Rattle.papaya_run_lines.specs.declared.script.Line.{Line}
 
@@ -38,7 +38,7 @@ module _ {S : Type 0} (hash : S → ℕ → ℕ) (first : CoreState ℕ ℕ S An
         (reverse trace)
     pub text : List ℕ
     pub passed_over : Option ℕ
-    pub tells : Tells after.store trace no_calls rows 0 trace text passed_over
+    pub tells : PrintsLines after.store trace no_calls rows 0 trace text passed_over
     pub written : wrote text
     pub bad_is : bad ≡ option_or passed_over bad_line
 

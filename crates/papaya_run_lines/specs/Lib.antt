@@ -13,6 +13,6 @@ pub mod Numbers
 pub mod Printed
 pub mod Replies
 pub mod Script
-pub mod Told
+pub mod LineOutput
 pub mod Turns
 pub mod Walk

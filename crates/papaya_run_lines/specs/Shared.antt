@@ -12,7 +12,7 @@ use Rattle.papaya_map_book.specs.Logs.{Stored}
 use Rattle.papaya_map_lookup.specs.Answers.{IsAnsweredBetween}
 use Rattle.papaya_map_lookup.specs.History.{Change, IsLegalHistory, Makes, key_of}
 use Rattle.papaya_map_change.specs.Changes.{IsPut}
-use Rattle.papaya_map_change.specs.RemovalAnswers.{IsRemoved, took}
+use Rattle.papaya_map_change.specs.RemovalAnswers.{IsRemoved, gives_value}
 use Rattle.papaya_map_change.specs.Writing.{IsMemoryOrCapacity}
 use Rattle.papaya_map_scan.specs.Leaving.{HasDropped, IsCleared}
 use Rattle.papaya_map_scan.specs.Meeting.{HadPair}
@@ -64,8 +64,8 @@ module _ {S : Type 0} where
   IsBegun s = (s.history ≡ []) × (s.made ≡ [])
 
   -- The history that the session has observed extends the one before, and is legal.
-  abbrev pub GoesOn : Known ℕ ℕ S → Known ℕ ℕ S → Type 0
-  GoesOn s s' = IsPrefix s.history s'.history × IsLegalHistory (λ a b. a == b) key_of s'.history
+  abbrev pub Continues : Known ℕ ℕ S → Known ℕ ℕ S → Type 0
+  Continues s s' = IsPrefix s.history s'.history × IsLegalHistory (λ a b. a == b) key_of s'.history
 
   -- The command was run and `text` is printed, and the session's own changes are those that the
   -- command makes. Nothing is stated of the number that `len` prints.
@@ -81,11 +81,11 @@ module _ {S : Type 0} where
   Obeys (command.Remove k) s text s' = (answer : Result (Option (Bor ℕ)) Refused)
       × (text ≡ of_removal (old_answered answer))
       × IsRemoved (λ a b. a == b) (λ key. k == key) s.history s'.history answer
-      × Makes (took answer) s.made s'.made s'.history
+      × Makes (gives_value answer) s.made s'.made s'.history
   Obeys (command.Update k) s text s' = (answer : Result (Option (Bor ℕ)) Refused)
       × (text ≡ of_update (old_answered answer))
       × IfOk answer (IsFollowed k s.history s'.history)
-      × IfErr answer IsMemoryOrCapacity × Makes (took answer) s.made s'.made s'.history
+      × IfErr answer IsMemoryOrCapacity × Makes (gives_value answer) s.made s'.made s'.history
   Obeys command.Len s text s' = (count : ℕ) × (text ≡ printed.Length count) × (s' ≡ s)
   Obeys command.Slots s text s' = ⊥
   Obeys command.Clear s text s' = (answer : Result (Unit {0}) Refused) × (text ≡ of_end answer)
@@ -97,7 +97,7 @@ module _ {S : Type 0} where
   -- The line denotes a command, `text` is printed for it, and the history goes on.
   abbrev pub ObeysLine : List ℕ → Known ℕ ℕ S → Printed → Known ℕ ℕ S → Type 0
   ObeysLine line s text s' = (what : Command) × WritesCommand line what × Obeys what s text s'
-      × GoesOn s s'
+      × Continues s s'
 
 -- The line denotes no command, or one that the shared map does not have.
 abbrev pub IsBad : List ℕ → Type 0

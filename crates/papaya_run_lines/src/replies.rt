@@ -2,9 +2,9 @@
 ghost use Rattle.std.specs.Prelude.{◌≡◌, ℕ, List, [], ◌∷◌, ◌++◌, IfErr, IfOk, OnOk, reverse};
 ghost use Rattle.std.specs.Io.KnownBytes.{Appends};
 ghost use Rattle.papaya_run_lines.specs.Replies.{printed_of, value_in};
-ghost use Rattle.papaya_run_lines.specs.Told.{IsPrintFailure, IsTold, Replies, Tells, behind, call_of};
-ghost use Rattle.papaya_run_lines.specs.Told.{gave_to, no_calls, own_of, pairs_in, reply_among, reply_text};
-ghost use Rattle.papaya_run_lines.specs.Told.{unended_text, with_call};
+ghost use Rattle.papaya_run_lines.specs.LineOutput.{IsPrintFailure, IsLineOutput, Replies, PrintsLines, behind, call_of};
+ghost use Rattle.papaya_run_lines.specs.LineOutput.{gave_to, no_calls, own_of, pairs_in, reply_among, reply_text};
+ghost use Rattle.papaya_run_lines.specs.LineOutput.{unended_text, with_call};
 ghost use Rattle.papaya_run_shell.specs.Failure.{without_memory};
 
 use crate::closures::Answering;
@@ -207,7 +207,7 @@ fn print_line<S: BuildHasher + Drop, W: Write>(
     reply: Option<Reply>,
     output: &mut W,
 ) -> Result<(), Failure>
-    ensures told { OnOk result ((text : List ℕ) × IsTold core.now.store here.call here.line
+    ensures told { OnOk result ((text : List ℕ) × IsLineOutput core.now.store here.call here.line
         (gave_to here.line.caller here.turn (reverse entries.now)) reply text
         × Appends (W.contents output.old) (W.contents output.new) text) }
     ensures failed { IfErr result IsPrintFailure }
@@ -231,7 +231,7 @@ pub fn print_trace<S: BuildHasher + Drop, W: Write>(
     output: &mut W,
 ) -> Result<Option<u64>, Failure>
     ensures told { IfOk result (λ passed_over. (text : List ℕ)
-        × Tells core.now.store trace.now.entries.items no_calls lines.now 0
+        × PrintsLines core.now.store trace.now.entries.items no_calls lines.now 0
         trace.now.entries.items text passed_over
         × Appends (W.contents output.old) (W.contents output.new) text) }
     ensures failed { IfErr result IsPrintFailure }

@@ -2,7 +2,7 @@
 ghost use Rattle.std.specs.Prelude.{◌≡◌, IfErr, IfOk, IfSome, OnOk};
 ghost use Rattle.papaya_run_lines.specs.Lines.{IsReadFailure, lines_of};
 ghost use Rattle.papaya_run_lines.specs.Script.{Adds, IsScript, line_of};
-ghost use Rattle.papaya_run_lines.specs.Told.{begins_call};
+ghost use Rattle.papaya_run_lines.specs.LineOutput.{begins_call};
 ghost use Rattle.papaya_run_shell.specs.Failure.{without_memory};
 
 use crate::closures::Answering;

@@ -10,7 +10,7 @@ use Rattle.papaya_call.specs.declared.ask.Answer.TheVariants.{Exchanged, Found a
 use Rattle.papaya_call.specs.declared.ask.At.TheVariants.{Done}
 use Rattle.papaya_call.specs.declared.copy_ask.CopyAsk.TheVariants.{Exchange, Load}
 use Rattle.papaya_call.specs.Copying.{leads}
-use Rattle.papaya_call.specs.Step.{IsStandingCursor, chunk_at, chunk_read, first_chunk, is_further, next_chunk, next_cursor}
+use Rattle.papaya_call.specs.Step.{IsValidCursor, chunk_at, chunk_read, first_chunk, is_further, next_chunk, next_cursor}
 use Rattle.papaya_call.specs.declared.copy.copying.Copied.TheVariants as copied_to
 use Rattle.papaya_call.specs.declared.copy.copying.Copying.TheVariants.{Stepping}
 use Rattle.papaya_call.specs.declared.copy.settle.Settle.TheVariants as settles
@@ -77,7 +77,7 @@ first_fewer : (wrapped : Bool) (start at rest : ℕ) → (not wrapped && nat_lt 
 first_fewer true start at rest e = absurd (cc e)
 first_fewer false start at rest e = omega arith
 
-module _ (cursor : Cursor) (standing : IsStandingCursor cursor) where
+module _ (cursor : Cursor) (valid : IsValidCursor cursor) where
   -- one is left less
   abbrev Less : Step → Type 0
   Less step = chunks_left step < words_left cursor + 1
@@ -88,7 +88,7 @@ module _ (cursor : Cursor) (standing : IsStandingCursor cursor) where
       (cond (not cursor.wrapped && nat_lt 0 cursor.start) (AtChunk (first_chunk cursor)) (Promoting cursor.from cursor.to)) Less
       (λ e.
       let l : words_left (next_chunk cursor) < words_left cursor = next_fewer cursor.wrapped cursor.start cursor.at cursor.len cursor.begun cursor.slots
-      standing.some e in
+      valid.some e in
       omega (arith, l))
       (λ _.
       cond_both (not cursor.wrapped && nat_lt 0 cursor.start) (AtChunk (first_chunk cursor)) (Promoting cursor.from cursor.to) Less

@@ -199,14 +199,14 @@ module _ {K V S : Type 0} (eq : K → K → Bool) (k : K) (v : V) (s s' : MapSta
 
   pub tried_value : (result : Result (ℕ × Option V) Refused) (n : ℕ) (left : Option V) → result ≡ Ok (n, left) → IsTried eq k v s result s'
       → ((p : Stored K V) → pair_of s'.store n ≡ Some p → shown ≡ p.value) → IsValueHeld
-  tried_value result n None is tried show =
+  tried_value result n None is tried call_closure =
       let (p, logged, value, inserts, keeps) = tried_made eq k v s result s' n is tried in
       let none = inserts.update.before ∙ none_held inserts.old inserts.old_is in
-      let same = show p logged ∙ value in
+      let same = call_closure p logged ∙ value in
       ((inr (same, inserts), keeps), subst (λ o. MatchOption (value_of o) (shown ≡ v) (λ current. shown ≡ current)) (sym none) same)
-  tried_value result n (Some left) is tried show =
+  tried_value result n (Some left) is tried call_closure =
       let (p, logged, given_back, occupied, keeps) = tried_there eq k v s result s' n left is tried in
-      let same = show p logged in (
+      let same = call_closure p logged in (
         (inl (subst (λ w. IsOccupied eq k s.store w s'.store) (sym same) occupied), keeps),
         subst (λ o. MatchOption (value_of o) (shown ≡ v) (λ current. shown ≡ current)) (sym occupied.there) (same ∙ sym occupied.value),
       )

@@ -33,11 +33,11 @@ use Rattle.papaya_call.specs.ChainMachine.{after}
 use Rattle.papaya_core_store.specs.Performs.{Exchanges}
 use Rattle.papaya_core_store.specs.Store.{StoreState, pair_of}
 use Rattle.papaya_core_store.specs.Tables.{put, word_at}
-use Rattle.papaya_seq.specs.Buries.{IsBuried, IsRemovedFrom, Leads, itself}
-use Rattle.papaya_seq.specs.Looks.{Comes, IsSearchAsk, IsToldBy}
+use Rattle.papaya_seq.specs.Buries.{IsBuried, IsRemovedFrom, StepsTo, itself}
+use Rattle.papaya_seq.specs.Looks.{Comes, IsSearchAsk, IsTrueOfStore}
 use Rattle.papaya_seq.specs.Map.{MapState}
 use Rattle.papaya_seq.specs.Removes.{IsRemovalAnswer, IsShown}
-use Rattle.papaya_seq.specs.Searches.{IsRootTurn, seen_by}
+use Rattle.papaya_seq.specs.Searches.{IsRootHit, seen_by}
 use Rattle.papaya_seq.specs.declared.search.ProbeHit.{ProbeHit}
 use Rattle.papaya_seq.specs.declared.search.ProbeHit.TheVariants as turns
 use Rattle.papaya_seq.specs.Writes.{burying, slot_of}
@@ -49,17 +49,17 @@ use Rattle.papaya_seq.proofs.Removing.{answered_call}
 module _ {K V S F : Type 0} (g : Mut F (Bor K × (Bor V × Unit {0})) Bool) (matches : K → Bool) where
   -- one run of answers after another
   pub leads_on : (first rest : List Answer) (s : StoreState K V S) (f : F) (m : Machine) (s' : StoreState K V S) (f' : F) (m' : Machine)
-      (s'' : StoreState K V S) (f'' : F) (m'' : Machine) → Leads g matches first s f m s' f' m' → Leads g matches rest s' f' m' s'' f'' m''
-      → Leads g matches (first ++ rest) s f m s'' f'' m''
+      (s'' : StoreState K V S) (f'' : F) (m'' : Machine) → StepsTo g matches first s f m s' f' m' → StepsTo g matches rest s' f' m' s'' f'' m''
+      → StepsTo g matches (first ++ rest) s f m s'' f'' m''
   leads_on [] rest s f m s' f' m' s'' f'' m'' (store, closure, machine) more =
-      subst (λ x. Leads g matches rest x f m s'' f'' m'') store
-      (subst (λ x. Leads g matches rest s' x m s'' f'' m'') closure (subst (λ x. Leads g matches rest s' f' x s'' f'' m'') machine more))
+      subst (λ x. StepsTo g matches rest x f m s'' f'' m'') store
+      (subst (λ x. StepsTo g matches rest s' x m s'' f'' m'') closure (subst (λ x. StepsTo g matches rest s' f' x s'' f'' m'') machine more))
   leads_on (answer ∷ first) rest s f m s' f' m' s'' f'' m'' (middle, later, step, led) more =
       (middle, later, step, leads_on first rest middle later (after m (answers.Call answer)) s' f' m' s'' f'' m'' led more)
 
   module _ (s : StoreState K V S) (f : F) where
     -- the search of the root leads a removal on
-    searched_answer : (ask : Ask) (answer : Answer) → IsSearchAsk ask → IsToldBy matches s ask answer → IsRemovalAnswer g matches ask s f answer s f
+    searched_answer : (ask : Ask) (answer : Answer) → IsSearchAsk ask → IsTrueOfStore matches s ask answer → IsRemovalAnswer g matches ask s f answer s f
     searched_answer (Load at) answer asked told = (told, refl, refl)
     searched_answer (SameKey n) answer asked told = (told, refl, refl)
     searched_answer (SizeOf n) answer asked told = (told, refl, refl)
@@ -80,13 +80,13 @@ module _ {K V S F : Type 0} (g : Mut F (Bor K × (Bor V × Unit {0})) Bool) (mat
     searched_goes m answer asked = goes_itself 0 m answer (λ need e. subst (λ st. IsSearchAsk (call_ask (record m { state = st }))) e asked)
         (λ t e. absurd (subst (λ st. IsSearchAsk (call_ask (record m { state = st }))) e asked))
 
-    comes_leads : (told : List Answer) (m m' : Call_machine) → Comes matches s m told m' → Leads g matches told s f (itself m) s f (itself m')
+    comes_leads : (told : List Answer) (m m' : Call_machine) → Comes matches s m told m' → StepsTo g matches told s f (itself m) s f (itself m')
     comes_leads [] m m' is = (refl, refl, ap (λ (x : Call_machine). itself x) is)
     comes_leads (answer ∷ rest) m m' (asked, said, came) = (
       s,
       f,
       record { ask = call_ask m; asked = refl; answered = searched_answer (call_ask m) answer asked said },
-      subst (λ x. Leads g matches rest s f x s f (itself m')) (sym (searched_goes m answer asked)) (comes_leads rest (call_after m answer) m' came),
+      subst (λ x. StepsTo g matches rest s f x s f (itself m')) (sym (searched_goes m answer asked)) (comes_leads rest (call_after m answer) m' came),
     )
 
     module _ (removal : Removal) (m : Call_machine) where
@@ -133,7 +133,7 @@ module _ {K V S F : Type 0} (g : Mut F (Bor K × (Bor V × Unit {0})) Bool) (mat
       abbrev removing : State → Machine
       removing state = itself (record (started RemoveIf hashed mode initial limit) { state = state })
 
-      root_led : (turn : ProbeHit) (state : State) → IsRootTurn matches s hashed turn
+      root_led : (turn : ProbeHit) (state : State) → IsRootHit matches s hashed turn
           → goes (started RemoveIf hashed mode initial limit) (seen_by turn) ≡ state → (reply : Reply) (s' : StoreState K V S) (f' : F)
           → IsRemovedFrom g matches s f (removing state) reply s' f' → IsRemovedFrom g matches s f (removing AtRoot) reply s' f'
       root_led turn state root is reply s' f' done =
@@ -149,11 +149,11 @@ module _ {K V S F : Type 0} (g : Mut F (Bor K × (Bor V × Unit {0})) Bool) (mat
             replied = done.replied;
           }
 
-      pub found_none : (at : Place) → IsRootTurn matches s hashed (turns.Empty at) → IsRemovedFrom g matches s f (removing AtRoot) Absent s f
+      pub found_none : (at : Place) → IsRootHit matches s hashed (turns.Empty at) → IsRemovedFrom g matches s f (removing AtRoot) Absent s f
       found_none at root = root_led (turns.Empty at) (Ended Absent) root refl Absent s f
           (record { answers = []; end = removing (Ended Absent); leads = (refl, refl, refl); replied = refl })
 
-      pub found_it : (at : Place) (word : ℕ) → kind_of word ≡ Live → IsRootTurn matches s hashed (turns.Here at word)
+      pub found_it : (at : Place) (word : ℕ) → kind_of word ≡ Live → IsRootHit matches s hashed (turns.Here at word)
           → (reply : Reply) (s' : StoreState K V S) (f' : F) → IsBuried g matches (record { place = at; word = word }) s f reply s' f'
           → IsRemovedFrom g matches s f (removing AtRoot) reply s' f'
       found_it at word live root reply s' f' buried = root_led (turns.Here at word) (Showing (record { place = at; word = word })) root
@@ -162,7 +162,7 @@ module _ {K V S F : Type 0} (g : Mut F (Bor K × (Bor V × Unit {0})) Bool) (mat
 -- each answer leads a removal on
 pub leads_under_way : {K V S F : Type 0} (g : Mut F (Bor K × (Bor V × Unit {0})) Bool) (eq : K → K → Bool) (hash : S → K → ℕ) (matches : K → Bool)
     (hashed : ℕ) (map : MapState K V S) (agrees : F) (told : List Answer) (s : StoreState K V S) (f : F) (m : Machine) (s' : StoreState K V S)
-    (f' : F) (m' : Machine) → Leads g matches told s f m s' f' m' → IsUnderWay g eq hash matches hashed map agrees s f m
+    (f' : F) (m' : Machine) → StepsTo g matches told s f m s' f' m' → IsUnderWay g eq hash matches hashed map agrees s f m
     → IsUnderWay g eq hash matches hashed map agrees s' f' m'
 leads_under_way g eq hash matches hashed map agrees [] s f m s' f' m' (store, closure, machine) now =
     subst (λ x. IsUnderWay g eq hash matches hashed map agrees x f' m') (sym store)

@@ -21,7 +21,7 @@ use Rattle.papaya_core_timeline.specs.declared.outcome.Outcome.{Outcome}
 use Rattle.papaya_core_store.specs.Store.{StoreState, Stored}
 use Rattle.papaya_core_store.proofs.Logs.{pair_number}
 use Rattle.papaya_core_timeline.proofs.SoloTimeline.{lookup_alike}
-use Rattle.papaya_seq.specs.Calls.{AreCalled, IsCalled, IsDone, IsJudged, IsLeftAlone, IsListed, IsSaid, MayRefuse}
+use Rattle.papaya_seq.specs.Calls.{AreCalled, IsCalled, IsDone, IsJudged, IsLeftAlone, IsListed, FollowsResult, MayRefuse}
 use Rattle.papaya_seq.specs.Map.{Grows, HasNone, Holds, IsMakeRefusal, Keeps, MapState, Unchanged}
 use Rattle.papaya_seq.specs.Removes.{IsRemoval, IsRemovalBy}
 use Rattle.papaya_seq.specs.Resizes.{IsCopyCause, IsReserveCause}
@@ -194,7 +194,7 @@ module _ {K V S A : Type 0} (eq : K → K → Bool) (hash : S → K → ℕ) (sa
   called_more s (c ∷ calls) (o ∷ outcomes) (middle, first, left, listed, rest) = (middle, first, left, listed, called_more middle calls outcomes rest)
 
 module _ {K V S A : Type 0} (eq : K → K → Bool) (says : Says K V A) (call : Call K V A) (no_key : key_of call ≡ None) (s s' : MapState K V S)
-    (keeps : Keeps s s') (said : (reply : Reply) → IsSaid eq says call s reply s'.store)
+    (keeps : Keeps s s') (said : (reply : Reply) → FollowsResult eq says call s reply s'.store)
     (makes : (refused : words.Refused) → MayRefuse eq s call refused s' → IsMakeRefusal refused) where
   -- what is done on no key is a call
   pub resized_called : (done : Result (Unit {0}) words.Refused) (reply : Reply) → MatchResult done (λ _. reply ≡ Done) (λ e. reply ≡ Refused e)

@@ -31,7 +31,7 @@ use Rattle.papaya_call.specs.declared.made.Number.TheVariants.{Wanted, Free, Tak
 use Rattle.papaya_call.specs.Compute.{in_place_of}
 use Rattle.papaya_call.specs.Made.{make_ask, number_ask}
 use Rattle.papaya_call.specs.Write.{served_ask, serves}
-use Rattle.papaya_call.specs.Machine.{IsComputer, IsStandingState, IsWriter, asks as call_asks}
+use Rattle.papaya_call.specs.Machine.{IsComputer, IsValidState, IsWriter, asks as call_asks}
 use Rattle.papaya_call.specs.Machine as call_machine
 use Rattle.papaya_call.specs.declared.copy.link.Link.TheVariants as links
 use Rattle.papaya_call.specs.declared.chain.ask.Ask.TheVariants as asks
@@ -46,7 +46,7 @@ use Rattle.papaya_call_law.specs.Goes.{IsOwnRefusal, IsOwnStep, IsTableRefusal, 
 use Rattle.papaya_call_law.specs.ChainRelies.{left_by}
 use Rattle.papaya_call_law.proofs.LinkStates.{In}
 use Rattle.papaya_call_law.proofs.Replies.{aside_asks}
-use Rattle.papaya_call_alone.specs.Limits.{IsNumberTaken, IsPairLogged}
+use Rattle.papaya_call_alone.specs.Limits.{IsNumberTaken, IsPairMade}
 use Rattle.papaya_call_law.specs.Relies.{IsAtLimit, IsNumberAsk}
 use Rattle.papaya_call_law.proofs.Makings.{HoldsOfPairAsks, IsMakeAsk, IsPairAsk, make_asks, pair_holds}
 use Rattle.papaya_call_law.proofs.Tasks.{same_task}
@@ -64,7 +64,7 @@ use Rattle.papaya_core_timeline.proofs.KeptLemmas.{IsLawfulKeys}
 use Rattle.papaya_core_timeline.proofs.KeptStep as kept_steps
 use Rattle.papaya_core_timeline.proofs.KeptTables.{HasMoreTables}
 use Rattle.papaya_core_timeline.proofs.StoreLemmas.{matched}
-use Rattle.papaya_seq.specs.Map.{HasNoTable, IsLogFull, IsSpent, IsWriteCause, MapState}
+use Rattle.papaya_seq.specs.Map.{HasNoTable, IsArenaFull, IsSpent, IsWriteCause, MapState}
 use Rattle.papaya_seq.proofs.KeyCalls.{KeyCall, first_of}
 use Rattle.papaya_seq.proofs.Logs.{IsFirst, IsNumberless, after_made, first_before, number_taken, numberless_before, paired_first}
 use Rattle.papaya_seq.proofs.Limits.{made_most}
@@ -83,12 +83,12 @@ IsLogStage (Writing write) = Unit {0}
 IsLogStage (Pairing purpose) = Unit {0}
 IsLogStage stage = ⊥
 
-abbrev pub IsLogAsk : Machine → Type 0
-IsLogAsk m = (m.phase ≡ Calling) × IsLogStage m.call.state
+abbrev pub IsPartAsk : Machine → Type 0
+IsPartAsk m = (m.phase ≡ Calling) × IsLogStage m.call.state
 
 -- the log is full, memory was short, or no number was left
 abbrev pub IsLogRefusal : {K V S : Type 0} → MapState K V S → Refused → Type 0
-IsLogRefusal s refused = (refused ≡ Memory) ⊎ ((refused ≡ Capacity) × IsLogFull s.store) ⊎ ((refused ≡ Limit) × IsSpent s)
+IsLogRefusal s refused = (refused ≡ Memory) ⊎ ((refused ≡ Capacity) × IsArenaFull s.store) ⊎ ((refused ≡ Limit) × IsSpent s)
 
 -- there is no next table, or memory was short
 abbrev pub IsNoTableRefusal : {K V S : Type 0} → MapState K V S → Refused → Type 0
@@ -232,7 +232,7 @@ module _ {K V S : Type 0} (s : MapState K V S) (store store' : StoreState K V S)
 
 module _ {K V S : Type 0} (eq : K → K → Bool) (hash : S → K → ℕ) (s : MapState K V S) (call : KeyCall K V) where
   -- What a call under way has logged so far, its mode and initial capacity, and the table whose next one it makes.
-  pub record IsUnlogged (store : StoreState K V S) (r : Running K V (Unit {0})) : Type 0 where
+  pub record IsNotStored (store : StoreState K V S) (r : Running K V (Unit {0})) : Type 0 where
     -- until its pair is made the log is as long as it was
     pub pairs : IsFirst r.machine.call.task r.machine.call.made r.machine.call.remembered → length store.pairs ≡ length s.store.pairs
     -- and until it has a number for it as many were taken
@@ -245,7 +245,7 @@ module _ {K V S : Type 0} (eq : K → K → Bool) (hash : S → K → ℕ) (s : 
     pub sized : In (IsSizedLink (HasSlots store)) (link_in r.machine.phase)
 
   -- a call that begins
-  pub unlogged_none : (number : ℕ) → IsUnlogged s.store (first_of (hash s.store.hasher) s.mode s.initial number call)
+  pub unlogged_none : (number : ℕ) → IsNotStored s.store (first_of (hash s.store.hasher) s.mode s.initial number call)
   unlogged_none number = record {
     pairs = λ e. refl;
     numbers = λ e none. refl;
@@ -257,7 +257,7 @@ module _ {K V S : Type 0} (eq : K → K → Bool) (hash : S → K → ℕ) (s : 
 
   module _ (store : StoreState K V S) (r : Running K V (Unit {0})) (answer : Answer) (store' : StoreState K V S) (later : Running K V (Unit {0}))
       (going : reply_in (ask_of r.machine) ≡ None) (performs : PerformsAsk eq whatever hash false (ask_of r.machine) store r answer store' later)
-      (same : later.machine ≡ r.machine) (keys : IsLawfulKeys eq (hash s.store.hasher)) (came : HasCome eq hash s call store r) (un : IsUnlogged store r) where
+      (same : later.machine ≡ r.machine) (keys : IsLawfulKeys eq (hash s.store.hasher)) (came : HasCome eq hash s call store r) (un : IsNotStored store r) where
     -- the call of the machine
     abbrev own : Call_machine
     own = r.machine.call
@@ -298,7 +298,7 @@ module _ {K V S : Type 0} (eq : K → K → Bool) (hash : S → K → ℕ) (s : 
         → then.made.limit ≡ own.made.limit → (IsFirst then.task then.made then.remembered → IsFirst own.task own.made own.remembered
         × (length store'.pairs ≡ length store.pairs))
         → (IsFirst then.task then.made then.remembered → IsNumberless then.made → IsNumberless own.made × (store'.words.made ≡ store.words.made))
-        → IsUnlogged store' (stepped later r.machine answer)
+        → IsNotStored store' (stepped later r.machine answer)
     unlogged_then then is mode initial limit no_pair no_number = record {
       pairs = λ first. let h = no_pair (subst (λ (y : Call_machine). IsFirst y.task y.made y.remembered) is first) in h.1 ∙ un.pairs h.0;
       numbers = λ first none.
@@ -316,14 +316,14 @@ module _ {K V S : Type 0} (eq : K → K → Bool) (hash : S → K → ℕ) (s : 
     log = made_logs eq hash s call store r answer store' later going performs same keys came
 
     -- a call that is set aside logs nothing
-    aside_asked : (t : ℕ) → left_by own.state ≡ Some t → (phase : Phase) → (IsPairLogged (asks_in own phase) answer → ⊥)
+    aside_asked : (t : ℕ) → left_by own.state ≡ Some t → (phase : Phase) → (IsPairMade (asks_in own phase) answer → ⊥)
         × (IsNumberTaken (asks_in own phase) answer → ⊥)
     aside_asked t left Calling = by_ask (call_machine.ask_of own) (aside_asks own.made own.hash own.state t left)
       where
-        by_ask : (ask : Call_ask) → ask ≡ Load (Next t) → (IsPairLogged (asks.Call ask) answer → ⊥) × (IsNumberTaken (asks.Call ask) answer → ⊥)
-        by_ask ask e = subst (λ y. (IsPairLogged (asks.Call y) answer → ⊥) × (IsNumberTaken (asks.Call y) answer → ⊥)) (sym e) (unpaired answer, untaken answer)
+        by_ask : (ask : Call_ask) → ask ≡ Load (Next t) → (IsPairMade (asks.Call ask) answer → ⊥) × (IsNumberTaken (asks.Call ask) answer → ⊥)
+        by_ask ask e = subst (λ y. (IsPairMade (asks.Call y) answer → ⊥) × (IsNumberTaken (asks.Call y) answer → ⊥)) (sym e) (unpaired answer, untaken answer)
           where
-            unpaired : (a : Answer) → IsPairLogged (asks.Call (Load (Next t))) a → ⊥
+            unpaired : (a : Answer) → IsPairMade (asks.Call (Load (Next t))) a → ⊥
             unpaired (answers.Call (Made_number n)) h = h
             unpaired a h = absurd h
 
@@ -339,7 +339,7 @@ module _ {K V S : Type 0} (eq : K → K → Bool) (hash : S → K → ℕ) (s : 
         (elim log.pairs [ inl same ↦ same | inr (logged, more) ↦ absurd (unpaired logged) ], log.still untaken)
 
     unlogged_aside : (t : ℕ) → left_by own.state ≡ Some t → (stage : Stage) → (after r.machine answer).call ≡ record own { state = stage }
-        → IsUnlogged store' (stepped later r.machine answer)
+        → IsNotStored store' (stepped later r.machine answer)
     unlogged_aside t left stage is = let logs = aside_logs t left in
         unlogged_then (record own { state = stage }) is refl refl refl (λ first. (first, logs.0)) (λ first none. (none, logs.1))
 
@@ -348,15 +348,15 @@ module _ {K V S : Type 0} (eq : K → K → Bool) (hash : S → K → ℕ) (s : 
         → Performs eq whatever false (call_machine.ask_of own) store r told store' later
     told_performs told calling is = own_performs eq whatever hash store r answer store' later told calling is performs
 
-    standing : IsStandingState own.task own.state
-    standing = (now_lawful.core.standing 0 r refl).call.state
+    valid : IsValidState own.task own.state
+    valid = (now_lawful.core.valid 0 r refl).call.state
 
-    unlogged_own : IsOwnStep r.machine answer → IsUnlogged store' (stepped later r.machine answer)
+    unlogged_own : IsOwnStep r.machine answer → IsNotStored store' (stepped later r.machine answer)
     unlogged_own step =
         let stays = settings_stable own step.told in
         unlogged_then (call_machine.after own step.told) step.call stays.0 stays.1 (after_made own step.told).0
         (λ first. (first_before own step.told (own_first first), unlogged first))
-        (λ first none. (numberless_before own step.told standing (own_first first) none, log.still (untaken none)))
+        (λ first none. (numberless_before own step.told valid (own_first first) none, log.still (untaken none)))
       where
         then : Call_machine
         then = call_machine.after own step.told
@@ -368,16 +368,16 @@ module _ {K V S : Type 0} (eq : K → K → Bool) (hash : S → K → ℕ) (s : 
         asked = ap (asks_in own) step.phase
 
         -- a pair that was logged is remembered, or is the insertion's
-        pair_kept : (told : Call_answer) → IsPairLogged (asks.Call (call_machine.ask_of own)) (answers.Call told)
+        pair_kept : (told : Call_answer) → IsPairMade (asks.Call (call_machine.ask_of own)) (answers.Call told)
             → IsFirst own.task (call_machine.after own told).made (call_machine.after own told).remembered → ⊥
-        pair_kept (Made_number n) makes first = paired_first own standing makes n first
+        pair_kept (Made_number n) makes first = paired_first own valid makes n first
         pair_kept told makes first = absurd makes
 
         unlogged : IsFirst then.task then.made then.remembered → length store'.pairs ≡ length store.pairs
         unlogged first = elim log.pairs [
           | inl same ↦ same
           | inr (logged, more) ↦ absurd (pair_kept step.told
-              (subst (λ a. IsPairLogged (asks.Call (call_machine.ask_of own)) a) step.is (subst (λ y. IsPairLogged y answer) asked logged)) (own_first first))
+              (subst (λ a. IsPairMade (asks.Call (call_machine.ask_of own)) a) step.is (subst (λ y. IsPairMade y answer) asked logged)) (own_first first))
         ]
 
         -- a number that was taken is the call's
@@ -386,7 +386,7 @@ module _ {K V S : Type 0} (eq : K → K → Bool) (hash : S → K → ℕ) (s : 
             (subst (λ a. IsNumberTaken (asks.Call (call_machine.ask_of own)) a) step.is (subst (λ y. IsNumberTaken y answer) asked took)) none
 
     -- one more ask is answered
-    pub unlogged_more : IsUnlogged store' (stepped later r.machine answer)
+    pub unlogged_more : IsNotStored store' (stepped later r.machine answer)
     unlogged_more = elim (made_goes eq hash s call store r answer store' later going performs same keys came) [
       | inl waits ↦ unlogged_aside waits.from waits.left own.state waits.call
       | inr (inl step) ↦ unlogged_own step
@@ -432,7 +432,7 @@ module _ {K V S : Type 0} (eq : K → K → Bool) (hash : S → K → ℕ) (s : 
 
       -- what was to be made was refused
       abbrev Why : Type 0
-      Why = (IsLogAsk r.machine × IsLogRefusal s refused) ⊎ (IsTableAsk r.machine × IsNoTableRefusal then refused)
+      Why = (IsPartAsk r.machine × IsLogRefusal s refused) ⊎ (IsTableAsk r.machine × IsNoTableRefusal then refused)
 
       make_refused : (made : Made) (stage : Stage) → own.made ≡ made → own.state ≡ stage → r.machine.phase ≡ Calling → (told : Call_answer)
           → told ≡ Was_refused refused → IsToMake (call_asks made own.hash stage)
@@ -521,7 +521,7 @@ module _ {K V S : Type 0} (eq : K → K → Bool) (hash : S → K → ℕ) (s : 
       ]
 
       -- Why the step ends the call refused: a log, a table, or a closure that would remove what isn't there; and what it asked for.
-      pub refused_as : reply_in (ask_of (after r.machine answer)) ≡ Some (Reply_refused refused) → (IsLogAsk r.machine × IsLogRefusal s refused)
+      pub refused_as : reply_in (ask_of (after r.machine answer)) ≡ Some (Reply_refused refused) → (IsPartAsk r.machine × IsLogRefusal s refused)
           ⊎ (IsTableAsk r.machine × IsNoTableRefusal then refused) ⊎ IsRemoveNothing r.machine answer refused
       refused_as e = elim (made_caused eq hash s call store r answer store' later going performs same keys came refused e) [
         | inl because ↦ elim (own_refused because) [

@@ -12,7 +12,7 @@ use Rattle.papaya_core_timeline.specs.Content.{content, map_in}
 use Rattle.papaya_core_store.specs.Store.{StoreState, Stored}
 use Rattle.papaya_seq.specs.Clones.{Clones, IsCloned, IsCopied, IsCopyCut}
 use Rattle.papaya_seq.specs.Entries.{Entries, IsPut, entries_in, kept, nothing, put, put_all}
-use Rattle.papaya_seq.specs.Map.{LogsOne, MapState, entry_of}
+use Rattle.papaya_seq.specs.Map.{PushesOne, MapState, entry_of}
 use Rattle.papaya_seq.proofs.Equal.{alike}
 use Rattle.papaya_seq.proofs.Filled.{cut, empty_entries, fills_more, fills_none, put_all_alike}
 
@@ -110,7 +110,7 @@ module _ {K V S : Type 0} (eq : K → K → Bool) (CK : K → K → Type 0) (CV 
   module _ (es : List (K × V)) (at : MapState K V S) (copied : IsCopied eq CK CV to es at) (e c : K × V) (clones_key : CK e.0 c.0)
       (clones_value : CV e.1 c.1) where
     -- one clone more
-    pub copied_more : (new : Bool) (to' : MapState K V S) → IsPut eq c.0 c.1 at (Ok new) to' → LogsOne at.store to'.store
+    pub copied_more : (new : Bool) (to' : MapState K V S) → IsPut eq c.0 c.1 at (Ok new) to' → PushesOne at.store to'.store
         → IsCopied eq CK CV to (es ++ e ∷ []) to'
     copied_more new to' put logs = record {
       clones = copied.clones ++ c ∷ [];

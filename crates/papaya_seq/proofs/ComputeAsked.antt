@@ -30,9 +30,9 @@ use Rattle.papaya_call.specs.declared.chain.ask.Ask.TheVariants as asked
 use Rattle.papaya_call.specs.declared.chain.ask.Answer.TheVariants as answers
 use Rattle.papaya_call.specs.declared.chain.machine.Machine.{Machine}
 use Rattle.papaya_call.specs.declared.chain.machine.Phase.TheVariants.{Calling}
-use Rattle.papaya_call.specs.ChainMachine.{IsFit, IsStanding, after, ask_of}
+use Rattle.papaya_call.specs.ChainMachine.{IsFit, IsValid, after, ask_of}
 use Rattle.papaya_call_law.proofs.Names.{call_asks}
-use Rattle.papaya_call_law.specs.Says.{HasShownNone, Inserts, Said, ShowsIn, StandsOn, said_for}
+use Rattle.papaya_call_law.specs.Says.{HasCalledNone, Inserts, ClosureResult, NamesPairIn, ActsOn, result_for}
 use Rattle.papaya_core_store.specs.Asks.{PerformsAsk}
 use Rattle.papaya_core_store.specs.Pairs.{value_at}
 use Rattle.papaya_core_store.specs.declared.pairs.Part.{Part}
@@ -84,7 +84,7 @@ module _ {K V S A T : Type 0} (s : MapState K V S) (store : StoreState K V S) (r
   pub not_offered : (o : Operation V T) (held : Option (Stored K V)) → held ≡ None → IsAsked s held o store r → ask_of r.machine ≡ asked.Call ShowNone → ⊥
   not_offered (ops.Insert v) held none now e =
       let (gap, is) = offering r.machine.call.made r.machine.call.hash r.machine.call.state (call_asks r.machine ShowNone e).1 in
-      subst (HasShownNone r.machine.call.remembered.fill) is (subst (λ h. IsOnWay h r.machine) none now.way)
+      subst (HasCalledNone r.machine.call.remembered.fill) is (subst (λ h. IsOnWay h r.machine) none now.way)
   not_offered ops.Remove held none now e = unreplied r ShowNone refl e (Reply_refused RemoveNothing) (subst (λ h. IsToRemove h r.machine) none now)
   not_offered (ops.Abort t) held none now e = unreplied r ShowNone refl e (Aborted 0) now
 
@@ -108,13 +108,13 @@ module _ {K V S A : Type 0} (s : MapState K V S) (store : StoreState K V S) (r :
   }
 
   -- it stands on nothing but the value
-  pairing_only : (made : Made) (purpose : Purpose) (said : Said) → StandsOn (at_pairing made purpose).machine.call said → said_for purpose ≡ Some said
+  pairing_only : (made : Made) (purpose : Purpose) (said : ClosureResult) → ActsOn (at_pairing made purpose).machine.call said → result_for purpose ≡ Some said
   pairing_only made purpose said (inl e) = e
   pairing_only made purpose said (inr (inl e)) = absurd (cc e)
   pairing_only made purpose said (inr (inr e)) = absurd (cc e)
 
   -- which is at hand
-  pairing_inserts : (made : Made) (purpose : Purpose) (shown : Option ℕ) → said_for purpose ≡ Some (Inserts shown) → (held : Option (Stored K V))
+  pairing_inserts : (made : Made) (purpose : Purpose) (shown : Option ℕ) → result_for purpose ≡ Some (Inserts shown) → (held : Option (Stored K V))
       → IsShown held shown → (v : V) → r.value ≡ Some (Own v) → IsOnWay held (at_pairing made purpose).machine
       → IsInserting s held v store (at_pairing made purpose)
   pairing_inserts made purpose shown is held shown_is v value way = record {
@@ -124,7 +124,7 @@ module _ {K V S A : Type 0} (s : MapState K V S) (store : StoreState K V S) (r :
     way = way;
   }
     where
-      only : (said : Said) → StandsOn (at_pairing made purpose).machine.call said → said ≡ Inserts shown
+      only : (said : ClosureResult) → ActsOn (at_pairing made purpose).machine.call said → said ≡ Inserts shown
       only said stands = let both : Some said ≡ Some (Inserts shown) = sym (pairing_only made purpose said stands) ∙ is in cc both
 
 module _ {K V S A T : Type 0} (s : MapState K V S) (store : StoreState K V S) (r : Running K V A) where
@@ -250,14 +250,14 @@ module _ {K V S A F T H : Type 0} (eq : K → K → Bool) (input : K → List (L
         (performs : PerformsAsk eq whatever (hash_of input build write finish) false (ask_of r.machine) store (asking r) (answers.Call told) store
         (asking later)) where
       -- so it goes on
-      goes_on : IsStanding (after r.machine (answers.Call told)) → Waits → AreOf entry (map_in eq s.store k) → (shown' : Option ℕ)
+      goes_on : IsValid (after r.machine (answers.Call told)) → Waits → AreOf entry (map_in eq s.store k) → (shown' : Option ℕ)
           → shown' ≡ option_map (λ p. p.number) (map_in eq s.store k) → IsAsked s (map_in eq s.store k) o store then
           → IsComputing eq (hash_of input build write finish) s k post f store then closure' shown' aborted'
-      goes_on standing waits are shown' shown_is there = record {
+      goes_on valid waits are shown' shown_is there = record {
         steps = made_more eq (hash_of input build write finish) s (keyed_compute k) store (asking r) (answers.Call told) store (asking later) going
             performs refl now.steps;
         silence = now.silence;
-        standing = standing;
+        valid = valid;
         unlogged = unlogged_more eq (hash_of input build write finish) s (keyed_compute k) store (asking r) (answers.Call told) store (asking later)
             going performs refl keys came now.unlogged;
         phase = inr (record { operation = o; said = said waits.closure_is are; shown_is = shown_is; kept = kept_is.2; asked = there });
@@ -276,13 +276,13 @@ module _ {K V S A F T H : Type 0} (eq : K → K → Bool) (input : K → List (L
           (asking later)) (sym e)
           (told, refl, inr (tt, as_number o, tt, refl, tt, kept_is.0, refl, later_is))
 
-      none_more : entry ≡ None → IsStanding (after r.machine (answers.Call told))
+      none_more : entry ≡ None → IsValid (after r.machine (answers.Call told))
           → IsComputing eq (hash_of input build write finish) s k post f store then closure' shown aborted'
-      none_more none standing =
+      none_more none valid =
           let w = waits_none e in
           let own = call_asks r.machine ShowNone e in
           let (gap, is) = offering r.machine.call.made r.machine.call.hash r.machine.call.state own.1 in
-          goes_on (ap reply_in e) none_performs standing w (none_are entry none e) shown (w.unshown ∙ sym (ap (option_map (λ p. p.number)) (none_held e)))
+          goes_on (ap reply_in e) none_performs valid w (none_are entry none e) shown (w.unshown ∙ sym (ap (option_map (λ p. p.number)) (none_held e)))
           (subst (λ (held : Option (Stored K V)). IsAsked s held o store then) (sym (none_held e))
           (asked_now None (Offering gap) (machine_is w (Offering gap) own.0 is) (none_asked s store later o gap r.value kept_is.1)))
 
@@ -304,17 +304,17 @@ module _ {K V S A F T H : Type 0} (eq : K → K → Bool) (input : K → List (L
           )
 
       pair_more : MatchOption entry (pair_of store n ≡ None) (λ p. pair_of store n ≡ Some (record { number = n; key = p.0.now; value = p.1.now }))
-          → IsStanding (after r.machine (answers.Call told)) → IsComputing eq (hash_of input build write finish) s k post f store then closure' (Some n) aborted'
-      pair_more refers standing =
+          → IsValid (after r.machine (answers.Call told)) → IsComputing eq (hash_of input build write finish) s k post f store then closure' (Some n) aborted'
+      pair_more refers valid =
           let w = waits_pair n e in
           let own = call_asks r.machine (ShowPair n) e in
           let (removal, is, number) = showing r.machine.call.made r.machine.call.hash n r.machine.call.state own.1 in
           let (q, here, same, logged) = pair_held n e in
-          goes_on (ap reply_in e) pair_performs standing w (entry_are entry n refers e) (Some n)
+          goes_on (ap reply_in e) pair_performs valid w (entry_are entry n refers e) (Some n)
           (ap Some (sym same) ∙ sym (ap (option_map (λ p. p.number)) here))
           (subst (λ (held : Option (Stored K V)). IsAsked s held o store then) (sym here)
           (asked_now (Some q) (Showing removal) (machine_is w (Showing removal) own.0 is)
-          (pair_asked s store later o q removal r.value (subst (ShowsIn r.machine.call.remembered.choice) is came.shows) (number ∙ sym same) kept_is.1)))
+          (pair_asked s store later o q removal r.value (subst (NamesPairIn r.machine.call.remembered.choice) is came.shows) (number ∙ sym same) kept_is.1)))
 
       pub pair_went : MatchOption entry (pair_of store n ≡ None) (λ p. pair_of store n ≡ Some (record { number = n; key = p.0.now; value = p.1.now }))
           → Went eq (hash_of input build write finish) s k post f store r.machine (answers.Call told) store later closure' (Some n) aborted'

@@ -16,10 +16,10 @@ use Rattle.papaya_call.specs.declared.machine.State.TheVariants.{Ended}
 use Rattle.papaya_call.specs.declared.chain.ask.Answer.{Answer as Chain_answer}
 use Rattle.papaya_call.specs.declared.chain.machine.Machine.{Machine}
 use Rattle.papaya_call.specs.declared.chain.machine.Phase.TheVariants.{Calling}
-use Rattle.papaya_call.specs.ChainMachine.{IsFit, IsStanding, after, ask_of, started}
+use Rattle.papaya_call.specs.ChainMachine.{IsFit, IsValid, after, ask_of, started}
 use Rattle.papaya_call_law.proofs.Names.{call_asks}
 use Rattle.papaya_call_law.proofs.ReliesHeld.{ended_in}
-use Rattle.papaya_call_law.specs.Says.{HasShownNone, Inserts, Makes, Said, StandsOn}
+use Rattle.papaya_call_law.specs.Says.{HasCalledNone, Inserts, Makes, ClosureResult, ActsOn}
 use Rattle.papaya_core_store.specs.declared.pairs.Part.{Part}
 use Rattle.papaya_core_store.specs.declared.pairs.Part.TheVariants.{Own}
 use Rattle.papaya_core_store.specs.declared.pairs.Running.{Running}
@@ -31,7 +31,7 @@ use Rattle.papaya_core_timeline.proofs.CoreLemmas.{reply_asked}
 use Rattle.papaya_seq.specs.Computes.{Says}
 use Rattle.papaya_seq.specs.Computing.{IsKept}
 use Rattle.papaya_seq.specs.Map.{IsResizing, IsWriteCause, IsWriteCauseAt, MapState, next_of}
-use Rattle.papaya_seq.proofs.Causes.{IsUnlogged, unlogged_none}
+use Rattle.papaya_seq.proofs.Causes.{IsNotStored, unlogged_none}
 use Rattle.papaya_seq.proofs.ComputeShown.{asking}
 use Rattle.papaya_seq.proofs.ComputeStages.{IsInRoot, IsRemoving, IsReplacing}
 use Rattle.papaya_seq.proofs.Ending.{left_of}
@@ -97,7 +97,7 @@ module _ {K V : Type 0} where
 
   -- its closure is shown no more: it was shown that there is none, or the call is at the place of the pair
   abbrev pub IsOnWay : Option (Stored K V) → Machine → Type 0
-  IsOnWay None m = HasShownNone m.call.remembered.fill m.call.state
+  IsOnWay None m = HasCalledNone m.call.remembered.fill m.call.state
   IsOnWay (Some p) m = (m.phase ≡ Calling) × IsReplacing m.call.state
 
   -- where it would have a pair removed
@@ -107,15 +107,15 @@ module _ {K V : Type 0} where
 
 module _ {K V S A : Type 0} where
   -- what the machine stands on then: nothing else until a pair is made of the value, and then that the pair has it
-  abbrev pub IsInsertSaid : Option (Stored K V) → V → StoreState K V S → Running K V A → Said → Type 0
-  IsInsertSaid held v store r (Inserts shown) = IsShown held shown × ((other : Said) → StandsOn r.machine.call other → other ≡ Inserts shown)
+  abbrev pub IsInsertSaid : Option (Stored K V) → V → StoreState K V S → Running K V A → ClosureResult → Type 0
+  IsInsertSaid held v store r (Inserts shown) = IsShown held shown × ((other : ClosureResult) → ActsOn r.machine.call other → other ≡ Inserts shown)
   IsInsertSaid held v store r (Makes shown n) = IsShown held shown × HasPair v store n
   IsInsertSaid held v store r _ = ⊥
 
   pub record IsInserting (s : MapState K V S) (held : Option (Stored K V)) (v : V) (store : StoreState K V S) (r : Running K V A) : Type 0 where
     -- the call has the value
     pub value : own_value store r ≡ Some v
-    pub said : (said : Said) → StandsOn r.machine.call said → IsInsertSaid held v store r said
+    pub said : (said : ClosureResult) → ActsOn r.machine.call said → IsInsertSaid held v store r said
     pub ends : (reply : Reply) → reply_in (ask_of r.machine) ≡ Some reply → IsInsertEnd s held v store reply
     pub way : IsOnWay held r.machine
 
@@ -126,8 +126,8 @@ module _ {K V S A : Type 0} where
   IsAsked s held (ops.Abort t) store r = reply_in (ask_of r.machine) ≡ Some (Aborted 0)
 
 -- a machine that begins stands on nothing
-begins_silent : (mode : ResizeMode) (initial number hashed : ℕ) (limit : Option ℕ) (said : Said)
-    → StandsOn (started Compute hashed mode initial number limit).call said → ⊥
+begins_silent : (mode : ResizeMode) (initial number hashed : ℕ) (limit : Option ℕ) (said : ClosureResult)
+    → ActsOn (started Compute hashed mode initial number limit).call said → ⊥
 begins_silent mode initial number hashed limit said (inl e) = cc e
 begins_silent mode initial number hashed limit said (inr (inl e)) = cc e
 begins_silent mode initial number hashed limit said (inr (inr e)) = cc e
@@ -138,7 +138,7 @@ module _ {K V S A F T : Type 0} (eq : K → K → Bool) (hash : S → K → ℕ)
   pub record IsWaiting (store : StoreState K V S) (r : Running K V A) (closure : Option F) (shown : Option ℕ) : Type 0 where
     pub closure_is : closure ≡ Some f
     pub unshown : shown ≡ None
-    pub silent : (said : Said) → StandsOn r.machine.call said → ⊥
+    pub silent : (said : ClosureResult) → ActsOn r.machine.call said → ⊥
     pub ends : (reply : Reply) → reply_in (ask_of r.machine) ≡ Some reply → IsFirstEnd s store reply
     pub rooted : next_of s.store ≡ 0 → (store ≡ s.store) × (r.machine.phase ≡ Calling) × IsInRoot store.words.root r.machine.call.state
 
@@ -154,22 +154,22 @@ module _ {K V S A F T : Type 0} (eq : K → K → Bool) (hash : S → K → ℕ)
   pub record IsComputing (store : StoreState K V S) (r : Running K V A) (closure : Option F) (shown : Option ℕ) (aborted : Option T) : Type 0 where
     pub steps : IsMade eq hash s (keyed_compute k) store (asking r)
     pub silence : r.answers ≡ None
-    pub standing : IsStanding r.machine
-    pub unlogged : IsUnlogged eq hash s (keyed_compute k) store (asking r)
+    pub valid : IsValid r.machine
+    pub unlogged : IsNotStored eq hash s (keyed_compute k) store (asking r)
     pub phase : IsWaiting store r closure shown ⊎ IsDoing store r shown aborted
 
   -- it begins
   pub computing_begin : (m : Machine) (hashed number : ℕ) (aborted : Option T)
-      → m ≡ started Compute hashed s.mode.resize s.initial number s.mode.limit → hashed ≡ hash s.store.hasher k → IsStanding m
+      → m ≡ started Compute hashed s.mode.resize s.initial number s.mode.limit → hashed ≡ hash s.store.hasher k → IsValid m
       → IsComputing s.store (record { machine = m; key = Own k; value = None; answers = None }) (Some f) None aborted
-  computing_begin m hashed number aborted is hash_same standing =
+  computing_begin m hashed number aborted is hash_same valid =
       let begun : m ≡ started Compute (hash s.store.hasher k) s.mode.resize s.initial number s.mode.limit = is
       ∙ ap (λ n. started Compute n s.mode.resize s.initial number s.mode.limit) hash_same in
       subst (λ (x : Machine). IsComputing s.store (record { machine = x; key = Own k; value = None; answers = None }) (Some f) None aborted)
       (sym begun) (record {
         steps = made_none eq hash s (keyed_compute k) number;
         silence = refl;
-        standing = subst IsStanding begun standing;
+        valid = subst IsValid begun valid;
         unlogged = unlogged_none eq hash s (keyed_compute k) number;
         phase = inl (record {
           closure_is = refl;
@@ -187,7 +187,7 @@ module _ {K V S A F T : Type 0} (eq : K → K → Bool) (hash : S → K → ℕ)
     pub fit : IsFit answer
     pub same : later.machine ≡ m
     pub nears : left_of store' (after m answer) < left_of store m
-    pub goes : IsStanding (after m answer) → IsComputing store' (record later { machine = after m answer }) closure shown aborted
+    pub goes : IsValid (after m answer) → IsComputing store' (record later { machine = after m answer }) closure shown aborted
 
   -- the same, told in other words
   pub went_so : (store : StoreState K V S)

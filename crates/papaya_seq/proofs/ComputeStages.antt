@@ -43,7 +43,7 @@ use Rattle.papaya_call.specs.declared.chain.machine.Phase.TheVariants.{Calling}
 use Rattle.papaya_call.specs.ChainMachine.{after, ask_of}
 use Rattle.papaya_call_law.specs.ChainRelies.{left_by}
 use Rattle.papaya_call_law.specs.Alone.{IsRead}
-use Rattle.papaya_call_law.specs.Says.{Inserts, Makes, Removes, Said, StandsOn, said_to_choose, said_to_fill}
+use Rattle.papaya_call_law.specs.Says.{Inserts, Makes, Removes, ClosureResult, ActsOn, result_to_choose, result_to_fill}
 use Rattle.papaya_call_law.proofs.AloneSteps.{exchange_done}
 use Rattle.papaya_call_law.proofs.Makings.{numbered_leads, paired_leads}
 use Rattle.papaya_core_store.specs.Asks.{PerformsAsk}
@@ -54,19 +54,19 @@ use Rattle.papaya_core_store.specs.declared.pairs.Running.{Running}
 use Rattle.papaya_seq.proofs.TableSearch.{IsSearchIn, IsSeenIn, IsSettledKind, compared_in, hinted_in, loaded_in, settled_kind, settled_live}
 
 -- a value that was answered, of which a pair is yet to be made
-abbrev pub IsYetToMake : Said → Type 0
+abbrev pub IsYetToMake : ClosureResult → Type 0
 IsYetToMake (Inserts shown) = Unit {0}
 IsYetToMake _ = ⊥
 
-remembered_none : (fill : Option ℕ) (choice : Option Choice) → ((said : Said) → said_to_fill fill ≡ Some said → IsYetToMake said)
-    → ((said : Said) → said_to_choose choice ≡ Some said → IsYetToMake said) → record { fill = fill; choice = choice } ≡ nothing
+remembered_none : (fill : Option ℕ) (choice : Option Choice) → ((said : ClosureResult) → result_to_fill fill ≡ Some said → IsYetToMake said)
+    → ((said : ClosureResult) → result_to_choose choice ≡ Some said → IsYetToMake said) → record { fill = fill; choice = choice } ≡ nothing
 remembered_none None None filled chosen = refl
 remembered_none (Some n) choice filled chosen = absurd (filled (Makes None n) refl)
 remembered_none None (Some (To_replace old new)) filled chosen = absurd (chosen (Makes (Some old) new.pair) refl)
 remembered_none None (Some (To_remove old)) filled chosen = absurd (chosen (Removes old) refl)
 
 -- a machine that stands on nothing else remembers nothing
-pub remembers_nothing : (m : Call_machine) → ((said : Said) → StandsOn m said → IsYetToMake said) → m.remembered ≡ nothing
+pub remembers_nothing : (m : Call_machine) → ((said : ClosureResult) → ActsOn m said → IsYetToMake said) → m.remembered ≡ nothing
 remembers_nothing m only = remembered_none m.remembered.fill m.remembered.choice (λ said e. only said (inr (inl e))) (λ said e. only said (inr (inr e)))
 
 -- a compute whose closure was not called is in the table of this number

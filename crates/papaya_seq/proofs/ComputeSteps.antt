@@ -22,7 +22,7 @@ use Rattle.papaya_call.specs.declared.machine.State.TheVariants.{Writing, Pairin
 use Rattle.papaya_call.specs.declared.write.Write.{Write}
 use Rattle.papaya_call.specs.Compute.{nothing}
 use Rattle.papaya_call.specs.Machine as calls
-use Rattle.papaya_call.specs.Machine.{IsStandingState}
+use Rattle.papaya_call.specs.Machine.{IsValidState}
 use Rattle.papaya_call_alone.specs.Ahead.{IsPhaseRead}
 use Rattle.papaya_call.specs.declared.chain.ask.Ask.{Ask}
 use Rattle.papaya_call.specs.declared.chain.ask.Ask.TheVariants as asked
@@ -30,14 +30,14 @@ use Rattle.papaya_call.specs.declared.chain.ask.Answer.{Answer}
 use Rattle.papaya_call.specs.declared.chain.ask.Answer.TheVariants as answers
 use Rattle.papaya_call.specs.declared.chain.machine.Machine.{Machine}
 use Rattle.papaya_call.specs.declared.chain.machine.Phase.TheVariants.{Calling}
-use Rattle.papaya_call.specs.ChainMachine.{IsFitAsk, IsStanding, after, ask_of}
+use Rattle.papaya_call.specs.ChainMachine.{IsFitAsk, IsValid, after, ask_of}
 use Rattle.papaya_call_law.specs.Goes.{Goes, IsOwnStep}
 use Rattle.papaya_call_law.specs.ChainRelies.{left_by}
 use Rattle.papaya_call_law.proofs.Once.{chain_once}
 use Rattle.papaya_call_law.specs.Alone.{IsRead}
-use Rattle.papaya_call_law.specs.Says.{Agrees, Inserts, IsSaidBy, Makes, Removes, Said, ShowsIn}
-use Rattle.papaya_call_law.specs.Says.{StandsOn, WasSaid, said_in, said_in_reply, said_of_compute}
-use Rattle.papaya_call_law.specs.Says.{said_to_choose, show}
+use Rattle.papaya_call_law.specs.Says.{Agrees, Inserts, IsResultBy, Makes, Removes, ClosureResult, NamesPairIn}
+use Rattle.papaya_call_law.specs.Says.{ActsOn, WasReturned, result_in, result_in_reply, result_of_compute}
+use Rattle.papaya_call_law.specs.Says.{result_to_choose, show}
 use Rattle.papaya_call_law.proofs.SaysOver.{machine_paired}
 use Rattle.papaya_core_store.specs.Asks.{PerformsAsk}
 use Rattle.papaya_core_store.specs.Performs.{Performs, own_value}
@@ -56,7 +56,7 @@ use Rattle.papaya_core_timeline.proofs.MadePairs.{MakesOver}
 use Rattle.papaya_core_timeline.proofs.StoreLemmas.{performed_ask, unnumbered}
 use Rattle.papaya_seq.specs.Map.{IsLawfulMap, IsWriteCauseAt, MapState, next_of}
 use Rattle.papaya_seq.proofs.Answering.{IsShowing, answering_performs}
-use Rattle.papaya_seq.proofs.Causes.{IsLogRefusal, IsNoTableRefusal, IsPairStage, IsTableAsk, IsUnlogged, PairsFirst, refused_so, unlogged_more, write_cause}
+use Rattle.papaya_seq.proofs.Causes.{IsLogRefusal, IsNoTableRefusal, IsPairStage, IsTableAsk, IsNotStored, PairsFirst, refused_so, unlogged_more, write_cause}
 use Rattle.papaya_seq.proofs.ComputeRun.{HasPair, IsAsked, IsComputing, IsDoing, IsFirstEnd}
 use Rattle.papaya_seq.proofs.ComputeRun.{IsInsertEnd, IsInsertSaid, IsInserting, IsOnWay, IsShown}
 use Rattle.papaya_seq.proofs.ComputeRun.{IsToRemove, IsWaiting, Went, ended_by, map_at}
@@ -101,7 +101,7 @@ module _ {K V S A : Type 0} (eq : K → K → Bool) (hash : S → K → ℕ) (s 
   not_shown (Some n) e = no_pair n e
 
   module _ (keys : IsLawfulKeys eq (hash s.store.hasher)) (came : HasCome eq hash s (keyed_compute k) store (asking r))
-      (un : IsUnlogged eq hash s (keyed_compute k) store (asking r)) where
+      (un : IsNotStored eq hash s (keyed_compute k) store (asking r)) where
     -- the core is in order
     lawful_now : IsLawfulCore eq (hash s.store.hasher) store (seated store (Some (asking r)) s.mode s.initial).callers s.mode
     lawful_now = subst (λ h. IsLawfulCore eq (hash h) store (seated store (Some (asking r)) s.mode s.initial).callers s.mode) came.hasher
@@ -119,32 +119,32 @@ module _ {K V S A : Type 0} (eq : K → K → Bool) (hash : S → K → ℕ) (s 
     goes = made_goes eq hash s (keyed_compute k) store (asking r) answer store' (asking later) going performs.0 same keys came
 
     -- a pair was made of the value
-    abbrev HasMade : Said → Type 0
-    HasMade said = (own : IsOwnStep r.machine answer) × (shown : Option ℕ) × (n : ℕ) × (said ≡ Makes shown n) × IsSaidBy r.machine.call own.told (Makes shown n)
+    abbrev HasMade : ClosureResult → Type 0
+    HasMade said = (own : IsOwnStep r.machine answer) × (shown : Option ℕ) × (n : ℕ) × (said ≡ Makes shown n) × IsResultBy r.machine.call own.told (Makes shown n)
 
     -- what it stands on it stood on, or a pair was made
-    said_now : (said : Said) → (own : IsOwnStep r.machine answer) → IsSaidBy r.machine.call own.told said → HasMade said
+    said_now : (said : ClosureResult) → (own : IsOwnStep r.machine answer) → IsResultBy r.machine.call own.told said → HasMade said
     said_now (Agrees n agrees) own (asks_it, is) = absurd (no_pair n (asks_own r.machine own.phase ∙ ap asked.Call asks_it))
     said_now (Inserts shown) own (asks_it, is) = absurd (not_shown shown (asks_own r.machine own.phase ∙ ap asked.Call asks_it))
     said_now (Removes n) own (asks_it, is) = absurd (no_pair n (asks_own r.machine own.phase ∙ ap asked.Call asks_it))
     said_now (Makes shown n) own by = (own, shown, n, refl, by)
 
-    said_goes : (said : Said) → StandsOn next.call said → StandsOn r.machine.call said ⊎ HasMade said
+    said_goes : (said : ClosureResult) → ActsOn next.call said → ActsOn r.machine.call said ⊎ HasMade said
     said_goes said stands =
         ⊎_elim
         (λ before. inl before)
-        (λ (by : (own : IsOwnStep r.machine answer) × IsSaidBy r.machine.call own.told said). inr (said_now said by.0 by.1))
+        (λ (by : (own : IsOwnStep r.machine answer) × IsResultBy r.machine.call own.told said). inr (said_now said by.0 by.1))
         (made_says eq hash s (keyed_compute k) store (asking r) answer store' (asking later) going performs.0 same keys came said stands)
 
     -- and of a value of which a pair was made none is yet to be made
-    unpaired : (own : IsOwnStep r.machine answer) (shown' : Option ℕ) (n : ℕ) → IsSaidBy r.machine.call own.told (Makes shown' n) → (shown : Option ℕ)
-        → StandsOn next.call (Inserts shown) → ⊥
+    unpaired : (own : IsOwnStep r.machine answer) (shown' : Option ℕ) (n : ℕ) → IsResultBy r.machine.call own.told (Makes shown' n) → (shown : Option ℕ)
+        → ActsOn next.call (Inserts shown) → ⊥
     unpaired own shown' n (was, makes, told) shown stands =
-        let standing = (lawful_now.core.standing 0 (asking r) refl).call in
-        let there : StandsOn (calls.after r.machine.call (Made_number n))
-        (Inserts shown) = subst (λ a. StandsOn (calls.after r.machine.call a) (Inserts shown)) told
-        (subst (λ d. StandsOn d (Inserts shown)) own.call stands) in
-        elim (machine_paired r.machine.call n came.task standing came.shows makes) [
+        let valid = (lawful_now.core.valid 0 (asking r) refl).call in
+        let there : ActsOn (calls.after r.machine.call (Made_number n))
+        (Inserts shown) = subst (λ a. ActsOn (calls.after r.machine.call a) (Inserts shown)) told
+        (subst (λ d. ActsOn d (Inserts shown)) own.call stands) in
+        elim (machine_paired r.machine.call n came.task valid came.shows makes) [
           | inl filled ↦ let f : Inserts shown ≡ Makes None n = filled.1 (Inserts shown) there in cc f
           | inr (i, was_said, only) ↦ elim (only (Inserts shown) there) [
             | inl is ↦ cc is
@@ -154,7 +154,7 @@ module _ {K V S A : Type 0} (eq : K → K → Bool) (hash : S → K → ℕ) (s 
 
     -- the pair that was made has the value
     pair_made : (v : V) → own_value store r ≡ Some v → (own : IsOwnStep r.machine answer) (shown : Option ℕ) (n : ℕ)
-        → IsSaidBy r.machine.call own.told (Makes shown n) → HasPair v store' n
+        → IsResultBy r.machine.call own.told (Makes shown n) → HasPair v store' n
     pair_made v has own shown n (was, makes, told) =
         let (es, (call_traces, kept)) = lawful_now.law in
         let made = kept_steps.made_now eq (hash s.store.hasher) keys whatever hash false (seated store (Some (asking r)) s.mode s.initial) 0
@@ -183,11 +183,11 @@ module _ {K V S A : Type 0} (eq : K → K → Bool) (hash : S → K → ℕ) (s 
     pairs_first : ((purpose : Purpose) → r.machine.call.state ≡ Pairing purpose → r.machine.call.remembered ≡ nothing) → PairsFirst r.machine.call
     pairs_first none pairing = subst (λ t. IsFirst t r.machine.call.made r.machine.call.remembered) (sym came.task) (by_stage r.machine.call.state refl pairing)
       where
-        stands : IsStandingState Compute r.machine.call.state
-        stands = subst (λ t. IsStandingState t r.machine.call.state) came.task (lawful_now.core.standing 0 (asking r) refl).call.state
+        stands : IsValidState Compute r.machine.call.state
+        stands = subst (λ t. IsValidState t r.machine.call.state) came.task (lawful_now.core.valid 0 (asking r) refl).call.state
 
         by_stage : (stage : Stage) → r.machine.call.state ≡ stage → IsPairStage r.machine.call.made stage → r.machine.call.remembered ≡ nothing
-        by_stage (Writing write) is h = absurd (subst (IsStandingState Compute) is stands).0
+        by_stage (Writing write) is h = absurd (subst (IsValidState Compute) is stands).0
         by_stage (Pairing purpose) is h = none purpose is
         by_stage stage is h = absurd h
 
@@ -199,8 +199,8 @@ module _ {K V S A : Type 0} (eq : K → K → Bool) (hash : S → K → ℕ) (s 
     came_after = came_more eq hash s (keyed_compute k) store (asking r) answer store' (asking later) going performs.0 same keys came
 
     -- where it has replied, it stands on what the reply stands on
-    told_stands : (reply : Reply) → reply_in (ask_of next) ≡ Some reply → (said : Said) → said_of_compute reply ≡ Some said → StandsOn next.call said
-    told_stands reply told said is = inl (ap (said_in next.call.task) (ended_by next reply told).1 ∙ ap (λ t. said_in_reply t reply) came_after.task ∙ is)
+    told_stands : (reply : Reply) → reply_in (ask_of next) ≡ Some reply → (said : ClosureResult) → result_of_compute reply ≡ Some said → ActsOn next.call said
+    told_stands reply told said is = inl (ap (result_in next.call.task) (ended_by next reply told).1 ∙ ap (λ t. result_in_reply t reply) came_after.task ∙ is)
 
     -- only a closure aborts
     unaborted : (t : ℕ) → reply_in (ask_of next) ≡ Some (Aborted t) → ⊥
@@ -262,11 +262,11 @@ module _ {K V S A : Type 0} (eq : K → K → Bool) (hash : S → K → ℕ) (s 
       insert_value = value_kept v now.value
 
       -- the closure was shown what was shown before
-      was_shown : (shown : Option ℕ) → WasSaid r.machine.call shown → IsShown held shown
+      was_shown : (shown : Option ℕ) → WasReturned r.machine.call shown → IsShown held shown
       was_shown shown (inl stands) = (now.said (Inserts shown) stands).0
       was_shown shown (inr (n, stands)) = (now.said (Makes shown n) stands).0
 
-      insert_said : (said : Said) → StandsOn next.call said → IsInsertSaid held v store' then said
+      insert_said : (said : ClosureResult) → ActsOn next.call said → IsInsertSaid held v store' then said
       insert_said (Agrees n agrees) stands = elim (said_goes (Agrees n agrees) stands) [
         | inl before ↦ now.said (Agrees n agrees) before
         | inr (own, shown, m, is, by) ↦ cc is
@@ -295,21 +295,21 @@ module _ {K V S A : Type 0} (eq : K → K → Bool) (hash : S → K → ℕ) (s 
       ]
 
       -- a call that is to make a pair remembers none
-      only_said : (shown : Option ℕ) → StandsOn r.machine.call (Inserts shown) → r.machine.call.remembered ≡ nothing
+      only_said : (shown : Option ℕ) → ActsOn r.machine.call (Inserts shown) → r.machine.call.remembered ≡ nothing
       only_said shown stands = remembers_nothing r.machine.call (λ other there. subst IsYetToMake (sym ((now.said (Inserts shown) stands).1 other there)) tt)
 
       no_again : (held' : Option (Stored K V)) → held ≡ held' → (write : Write) → r.machine.call.state ≡ Pairing (Again write) → IsOnWay held' r.machine → ⊥
       no_again None is write at way =
-          let (some, (new, choice)) = subst (ShowsIn r.machine.call.remembered.choice) at came.shows in
+          let (some, (new, choice)) = subst (NamesPairIn r.machine.call.remembered.choice) at came.shows in
           let shown : Some (number_of write.old) ≡ None =
-          (now.said (Makes (Some (number_of write.old)) new.pair) (inr (inr (ap said_to_choose choice)))).0
+          (now.said (Makes (Some (number_of write.old)) new.pair) (inr (inr (ap result_to_choose choice)))).0
           ∙ ap (option_map (λ (p : Stored K V). p.number)) is in
           cc shown
       no_again (Some p) is write at way = subst IsReplacing at way.1
 
       insert_first : (purpose : Purpose) → r.machine.call.state ≡ Pairing purpose → r.machine.call.remembered ≡ nothing
-      insert_first (Fill gap) is = only_said None (inl (ap (said_in r.machine.call.task) is))
-      insert_first (Replace write) is = only_said (Some (number_of write.old)) (inl (ap (said_in r.machine.call.task) is))
+      insert_first (Fill gap) is = only_said None (inl (ap (result_in r.machine.call.task) is))
+      insert_first (Replace write) is = only_said (Some (number_of write.old)) (inl (ap (result_in r.machine.call.task) is))
       insert_first (Again write) is = absurd (no_again held refl write is now.way)
 
       -- it is refused for a cause
@@ -355,7 +355,7 @@ module _ {K V S A : Type 0} (eq : K → K → Bool) (hash : S → K → ℕ) (s 
     module _ {F T : Type 0} (post : F → Option (Bor K × Bor V) → Operation V T → Type 0) (f : F) (closure : Option F) (shown : Option ℕ)
         (lawful : IsLawfulMap eq (hash s.store.hasher) s.store s.mode s.initial) (now : IsWaiting {T = T} eq hash s k post f store r closure shown) where
       -- one whose closure was not called stands on nothing
-      wait_silent : (said : Said) → StandsOn next.call said → ⊥
+      wait_silent : (said : ClosureResult) → ActsOn next.call said → ⊥
       wait_silent said stands = elim (said_goes said stands) [
         | inl before ↦ now.silent said before
         | inr (own, shown', n, is, (was, makes, told)) ↦ elim was [
@@ -402,13 +402,13 @@ module _ {K V S A : Type 0} (eq : K → K → Bool) (hash : S → K → ℕ) (s 
       (aborted : Option T) (keys : IsLawfulKeys eq (hash s.store.hasher)) (lawful : IsLawfulMap eq (hash s.store.hasher) s.store s.mode s.initial)
       (fits : hash s.store.hasher k < 2 ^ 64) (now : IsComputing eq hash s k post f store r closure shown aborted) where
     -- it goes on
-    computing_more : IsStanding next → IsComputing eq hash s k post f store' (record later { machine = next }) closure shown aborted
-    computing_more standing =
+    computing_more : IsValid next → IsComputing eq hash s k post f store' (record later { machine = next }) closure shown aborted
+    computing_more valid =
         let came = now.steps keys lawful fits in
         record {
           steps = made_more eq hash s (keyed_compute k) store (asking r) answer store' (asking later) going performs.0 same now.steps;
           silence = performs.1 ∙ now.silence;
-          standing = standing;
+          valid = valid;
           unlogged = unlogged_more eq hash s (keyed_compute k) store (asking r) answer store' (asking later) going performs.0 same keys came now.unlogged;
           phase = ⊎_elim
               (λ (waits : IsWaiting {T = T} eq hash s k post f store r closure shown).

@@ -58,7 +58,7 @@ use Rattle.papaya_seq.specs.Computing.{IsComputed}
 use Rattle.papaya_seq.specs.Drives.{Drives, IsReplied, at_hand}
 use Rattle.papaya_seq.specs.Looks.{Comes}
 use Rattle.papaya_seq.specs.Map.{deref_pair, entry_of}
-use Rattle.papaya_seq.specs.Searches.{IsRootTurn}
+use Rattle.papaya_seq.specs.Searches.{IsRootHit}
 use Rattle.papaya_seq.specs.Writes.{IsWritten, claiming, burying, slot_of, storing}
 use Rattle.papaya_seq.specs.declared.search.ProbeHit.TheVariants as turns
 use Rattle.papaya_seq.proofs.FastPath.{driven, logging, under_way}
@@ -402,7 +402,7 @@ module _ {K V S : Type 0} (eq : K → K → Bool) (hash : S → K → ℕ) (s : 
       Computes shown = IsComputedFrom eq hash key said s (started Compute hashed mode initial None) shown result s'
 
       -- so the compute is made whose search of the root saw an empty place
-      pub none_computed : IsRootTurn (eq key) s hashed (turns.Empty place) → word_at s.words (slot_of place) ≡ 0 → said None operation
+      pub none_computed : IsRootHit (eq key) s hashed (turns.Empty place) → word_at s.words (slot_of place) ≡ 0 → said None operation
           → IsOperated s hashed (at_place 0) key operation result s' → Computes None
       none_computed root stands answered operated =
           let came = root.sees (started Compute hashed mode initial None) in
@@ -424,7 +424,7 @@ module _ {K V S : Type 0} (eq : K → K → Bool) (hash : S → K → ℕ) (s : 
           }
 
       -- or a pair
-      pub pair_computed : (word : ℕ) → kind_of word ≡ kinds.Live → IsRootTurn (eq key) s hashed (turns.Here place word) → (p : Stored K V)
+      pub pair_computed : (word : ℕ) → kind_of word ≡ kinds.Live → IsRootHit (eq key) s hashed (turns.Here place word) → (p : Stored K V)
           → p.number ≡ number_of word → pair_of s (number_of word) ≡ Some p → said (Some p) operation
           → IsOperated s hashed (at_place word) key operation result s' → Computes (Some (number_of word))
       pair_computed word live root p number logged answered operated =

@@ -49,8 +49,8 @@ module _ {K V S A F T : Type 0} (eq : K → K → Bool) (hash : S → K → ℕ)
       let performed : PerformsAsk eq whatever hash false (ask_of r.machine) store r answer middle
       r = subst (λ (y : Ask). PerformsAsk eq whatever hash false y store r answer middle r) (sym is) (performs, refl) in
       let went = computing_went eq hash s k whatever store r answer middle r going no_none no_pair performed refl post f closure shown aborted keys
-      lawful fits now (chain_ask_fits r.machine now.standing) in
+      lawful fits now (chain_ask_fits r.machine now.valid) in
       let (end, near) = computing_copies rest middle (record r { machine = after r.machine answer }) store' m' more
-      (went.goes (chain_stands r.machine now.standing answer went.fit)) in
+      (went.goes (chain_stands r.machine now.valid answer went.fit)) in
       let nearer = went.nears in
       (end, omega (arith, near, nearer))

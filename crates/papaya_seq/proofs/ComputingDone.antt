@@ -24,7 +24,7 @@ use Rattle.papaya_call.specs.Machine.{computes as finds, started}
 use Rattle.papaya_call.specs.declared.chain.ask.Answer.{Answer}
 use Rattle.papaya_call.specs.declared.chain.ask.Answer.TheVariants as answers
 use Rattle.papaya_call.specs.declared.chain.ask.Ask.TheVariants as asks
-use Rattle.papaya_call.specs.ChainMachine.{IsStanding, after, ask_of}
+use Rattle.papaya_call.specs.ChainMachine.{IsValid, after, ask_of}
 use Rattle.papaya_call_law.proofs.ChainStanding.{chain_stands}
 use Rattle.papaya_words_keys.specs.Hashes.{hash_of}
 use Rattle.papaya_words_keys.specs.declared.results.Computed.{Computed}
@@ -37,14 +37,14 @@ use Rattle.papaya_core_timeline.specs.Content.{map_in}
 use Rattle.papaya_core_timeline.specs.Solo.{whatever}
 use Rattle.papaya_core_timeline.proofs.KeptCore.{keys_lawful}
 use Rattle.papaya_core_timeline.proofs.KeptSettings.{IsLawfulKeys}
-use Rattle.papaya_seq.specs.ComputeRuns.{IsComputedFrom, IsLogged, TakesAt, ended_by, show_of, told_by, value_by}
+use Rattle.papaya_seq.specs.ComputeRuns.{IsComputedFrom, IsInArena, TakesAt, ended_by, show_of, told_by, value_by}
 use Rattle.papaya_seq.specs.Computes.{AreOf, ComputesBy, Says, Takes}
 use Rattle.papaya_seq.specs.Computing.{IsComputed, IsKept, Replies}
 use Rattle.papaya_seq.specs.Drives.{Drives, IsOfStore, at_hand}
 use Rattle.papaya_seq.specs.Looks.{Comes}
 use Rattle.papaya_seq.specs.MadeAlone.{IsComputedAlone}
 use Rattle.papaya_seq.specs.Map.{IsLawfulMap, KeepsAndGrows, MapState, deref_pair, entry_of}
-use Rattle.papaya_seq.specs.Searches.{IsRootTurn}
+use Rattle.papaya_seq.specs.Searches.{IsRootHit}
 use Rattle.papaya_seq.specs.declared.search.ProbeHit.{ProbeHit}
 use Rattle.papaya_seq.specs.declared.search.ProbeHit.TheVariants as turns
 use Rattle.papaya_seq.proofs.Alone.{map_answered, map_hasher, map_lawful, map_logged}
@@ -147,7 +147,7 @@ module _ {K V S H F T : Type 0} (eq : K → K → Bool) (input : K → List (Lis
       (unreplied_ask (ask_of r.machine) (λ reply e. subst IsOfStore e step.asked)) (λ e. subst IsOfStore e step.asked)
       (λ n e. subst IsOfStore e step.asked) step.performs step.same post f closure shown aborted keys lawful fits now step.fit in
       computing_drives rest middle (record later { machine = after r.machine answer }) store' r' more closure shown aborted
-      (went.goes (chain_stands r.machine now.standing answer went.fit))
+      (went.goes (chain_stands r.machine now.valid answer went.fit))
 
   -- a compute that goes on for itself: nothing was shown, or its closure was shown this
   abbrev Waits : Machine → Type 0
@@ -162,7 +162,7 @@ module _ {K V S H F T : Type 0} (eq : K → K → Bool) (input : K → List (Lis
       let went = none_went eq input build write finish classes respects s lawful k fits post f s.store (at_hand {A = Unit {0}} m k None) (Some f) None
       None now (Op (told_by operation)) (option_map (λ v. Own v) (value_by operation)) None (ended_by operation) entry f operation refl said
       (kept_by operation) (ap asks.Call asked) (shown_none entry are) in
-      went.goes (chain_stands (at_hand {V = V} {A = Unit {0}} m k None).machine now.standing (answers.Call (Op (told_by operation))) went.fit)
+      went.goes (chain_stands (at_hand {V = V} {A = Unit {0}} m k None).machine now.valid (answers.Call (Op (told_by operation))) went.fit)
 
   pair_decided : (m : Machine) → Waits m → (p : Stored K V) → calls.ask_of m ≡ ShowPair p.number → pair_of s.store p.number ≡ Some p
       → (operation : Operation V T) → Says (post f) (Some p) operation → HasDecided m operation (Some p.number)
@@ -170,9 +170,9 @@ module _ {K V S H F T : Type 0} (eq : K → K → Bool) (input : K → List (Lis
       let went = pair_went eq input build write finish classes respects s lawful k fits post f s.store (at_hand {A = Unit {0}} m k None) (Some f) None
       None now (Op (told_by operation)) (option_map (λ v. Own v) (value_by operation)) None (ended_by operation) entry f operation refl said
       (kept_by operation) p.number (ap asks.Call asked) (shown_of s.store p entry logged are) in
-      went.goes (chain_stands (at_hand {V = V} {A = Unit {0}} m k None).machine now.standing (answers.Call (Op (told_by operation))) went.fit)
+      went.goes (chain_stands (at_hand {V = V} {A = Unit {0}} m k None).machine now.valid (answers.Call (Op (told_by operation))) went.fit)
 
-  module _ (free : s.mode.limit ≡ None) (standing : IsStanding
+  module _ (free : s.mode.limit ≡ None) (valid : IsValid
       (at_hand {V = V} {A = Unit {0}} (started Compute (hash s.store.hasher k) s.mode.resize s.initial None) k None).machine) where
     abbrev begun : Machine
     begun = started Compute (hash s.store.hasher k) s.mode.resize s.initial None
@@ -182,7 +182,7 @@ module _ {K V S H F T : Type 0} (eq : K → K → Bool) (input : K → List (Lis
     begins =
         computing_begin eq hash s k post f (at_hand {V = V} {A = Unit {0}} begun k None).machine (hash s.store.hasher k) 0 None
         (ap (λ limit. (at_hand {V = V} {A = Unit {0}} (started Compute (hash s.store.hasher k) s.mode.resize s.initial limit) k None).machine)
-        (sym free)) refl standing
+        (sym free)) refl valid
 
     searches : (loads : List Call_answer) (m : Machine) → Comes (eq k) s.store begun loads m → Waits m
     searches loads m comes = computing_drives (call_answers loads) s.store (at_hand begun k None) s.store (at_hand m k None)
@@ -190,7 +190,7 @@ module _ {K V S H F T : Type 0} (eq : K → K → Bool) (input : K → List (Lis
 
     -- its closure may be called at what the search found
     pub computation_takes : (pre : Option (Bor K × Bor V) → Type 0) → Takes pre (map_in eq s.store k) → (turn : ProbeHit)
-        → IsRootTurn (eq k) s.store (hash s.store.hasher k) turn → TakesAt pre s.store turn
+        → IsRootHit (eq k) s.store (hash s.store.hasher k) turn → TakesAt pre s.store turn
     computation_takes pre takes (turns.Empty place) root =
         let came = root.sees begun in
         let m : Machine = record begun { state = Offering (At place) } in
@@ -219,7 +219,7 @@ module _ {K V S H F T : Type 0} (eq : K → K → Bool) (input : K → List (Lis
         now : Waits run.shows
         now = searches run.loads run.shows run.comes
 
-        decides : (held : Option (Stored K V)) → calls.ask_of run.shows ≡ show_of held → IsLogged s.store held → Says (post f) held run.operation
+        decides : (held : Option (Stored K V)) → calls.ask_of run.shows ≡ show_of held → IsInArena s.store held → Says (post f) held run.operation
             → HasDecided run.shows run.operation (option_map (λ p. p.number) held)
         decides None asked logged said = none_decided run.shows now asked run.operation said
         decides (Some p) asked logged said = pair_decided run.shows now p asked logged run.operation said

@@ -46,8 +46,8 @@ use Rattle.papaya_core_store.specs.Store.{StoreState, Stored, pair_of}
 use Rattle.papaya_core_store.specs.Tables.{word_at}
 use Rattle.papaya_core_timeline.specs.Solo.{whatever}
 use Rattle.papaya_seq.specs.Drives.{Drives, IsDriven, IsOfStore, IsReplied, at_hand}
-use Rattle.papaya_seq.specs.Looks.{Comes, IsSearchAsk, IsToldBy, matches_in}
-use Rattle.papaya_seq.specs.Searches.{IsRootTurn, seen_by}
+use Rattle.papaya_seq.specs.Looks.{Comes, IsSearchAsk, IsTrueOfStore, matches_in}
+use Rattle.papaya_seq.specs.Searches.{IsRootHit, seen_by}
 use Rattle.papaya_seq.specs.Writes.{IsWritten, claiming, slot_of, storing}
 use Rattle.papaya_seq.specs.declared.search.ProbeHit.{ProbeHit}
 use Rattle.papaya_seq.specs.declared.search.ProbeHit.TheVariants as turns
@@ -118,7 +118,7 @@ module _ {K V S : Type 0} (eq : K → K → Bool) (hash : S → K → ℕ) where
     same_matches None = refl
     same_matches (Some p) = refl
 
-    searched_step : (n : ℕ) (m : Machine) (answer : Answer) (ask : Ask) → ask_of m ≡ ask → IsSearchAsk ask → IsToldBy (eq key) s ask answer
+    searched_step : (n : ℕ) (m : Machine) (answer : Answer) (ask : Ask) → ask_of m ≡ ask → IsSearchAsk ask → IsTrueOfStore (eq key) s ask answer
         → IsDriven eq hash s (begun_by n m) (answers.Call answer) s (begun_by n m)
     searched_step n m answer (Load at) is asked told = driven_by n m (Own key) (option_map (λ v. Own v) value) (Load at) is answer tt tt s s
         (begun_by n m) (told, (refl, refl)) refl
@@ -403,7 +403,7 @@ module _ {K V S : Type 0} (eq : K → K → Bool) (hash : S → K → ℕ) where
     inserts replace state = at_hand (record (started (Insert replace) hashed mode initial None) { state = state }) key (Some value)
 
     -- it came there
-    root_led : (replace : Bool) (turn : ProbeHit) (state : State) → IsRootTurn (eq key) s hashed turn
+    root_led : (replace : Bool) (turn : ProbeHit) (state : State) → IsRootHit (eq key) s hashed turn
         → goes (started (Insert replace) hashed mode initial None) (seen_by turn) ≡ state → (reply : Reply) (left : Option V) (s' : StoreState K V S)
         → IsReplied eq hash s (inserts replace state) reply left s' → IsReplied eq hash s (inserts replace AtRoot) reply left s'
     root_led replace turn state root is reply left s' done =
@@ -414,13 +414,13 @@ module _ {K V S : Type 0} (eq : K → K → Bool) (hash : S → K → ℕ) where
         replied_on (call_answers came.0) s (inserts replace AtRoot) (inserts replace state) reply left s'
         (comes_drives s key (Some value) 0 came.0 begun (record begun { state = state }) led) done
 
-    pub claimed : (replace : Bool) → IsRootTurn (eq key) s hashed (turns.Empty place) → word_at s.words (slot_of place) ≡ 0
+    pub claimed : (replace : Bool) → IsRootHit (eq key) s hashed (turns.Empty place) → word_at s.words (slot_of place) ≡ 0
         → (done : Reply × Option V) (s' : StoreState K V S) → IsWritten s hashed (record { place = place; old = 0 }) key value done.0 done.1 s'
         → IsReplied eq hash s (inserts replace AtRoot) done.0 done.1 s'
     claimed replace root stands done s' writes = root_led replace (turns.Empty place) (Writing (record { place = place; old = 0 })) root refl done.0
         done.1 s' (written_replied s key value hashed place (started (Insert replace) hashed mode initial None) 0 stands done.0 done.1 s' writes)
 
-    module _ (word : ℕ) (live : kind_of word ≡ Live) (root : IsRootTurn (eq key) s hashed (turns.Here place word)) where
+    module _ (word : ℕ) (live : kind_of word ≡ Live) (root : IsRootHit (eq key) s hashed (turns.Here place word)) where
       pub replaces_it : (replace : Bool) → replace ≡ true → (done : Reply × Option V) (s' : StoreState K V S)
           → IsWritten s hashed (record { place = place; old = word }) key value done.0 done.1 s' → IsReplied eq hash s (inserts replace AtRoot) done.0 done.1 s'
       replaces_it replace may done s' writes =

@@ -20,7 +20,7 @@ use Rattle.papaya_core_store.specs.Store.{StoreState}
 use Rattle.papaya_core_store.specs.Tables.{word_at}
 use Rattle.papaya_core_timeline.proofs.ShowLemmas.{none_shown, pair_shown}
 use Rattle.papaya_core_timeline.proofs.StoreLemmas.{LogsOrNot, matched, of_logs, own_logs}
-use Rattle.papaya_seq.specs.Map.{LogsOne}
+use Rattle.papaya_seq.specs.Map.{PushesOne}
 
 -- an ask for no pair
 abbrev IsPlain : Call_ask → Type 0
@@ -37,19 +37,19 @@ module _ {K V S : Type 0} where
   same_pairs s s' same = (ap (λ (y : StoreState K V S). y.pairs) same, ap (λ (y : StoreState K V S). y.count.shards) same)
 
   -- so no pair is logged
-  pub logs_none : (s s' : StoreState K V S) → SamePairs s s' → LogsOne s s'
+  pub logs_none : (s s' : StoreState K V S) → SamePairs s s' → PushesOne s s'
   logs_none s s' same =
       let long : length s'.pairs ≡ length s.pairs = ap length same.0 in
       record { pairs = omega (arith, long); shards = same.1 }
 
   -- after a store that has the pairs which it had
-  pub logs_from : (s a b : StoreState K V S) → length a.pairs ≡ length s.pairs → a.count.shards ≡ s.count.shards → LogsOne a b → LogsOne s b
+  pub logs_from : (s a b : StoreState K V S) → length a.pairs ≡ length s.pairs → a.count.shards ≡ s.count.shards → PushesOne a b → PushesOne s b
   logs_from s a b long shards logs =
       let most : length b.pairs ≤ length a.pairs + 1 = logs.pairs in
       record { pairs = omega (arith, long, most); shards = logs.shards ∙ shards }
 
   -- and where no pair came since
-  pub logs_still : (s a b : StoreState K V S) → LogsOne s a → SamePairs a b → LogsOne s b
+  pub logs_still : (s a b : StoreState K V S) → PushesOne s a → SamePairs a b → PushesOne s b
   logs_still s a b logs same =
       let long : length b.pairs ≡ length a.pairs = ap length same.0 in
       let most : length a.pairs ≤ length s.pairs + 1 = logs.pairs in
@@ -109,7 +109,7 @@ module _ {K V S A : Type 0} (eq : K → K → Bool) (says : Says K V A) (refuse 
   plain_pairs (Ask_done reply) s r a s' r' plain (e, stays) = same_pairs s s' stays.0
 
   -- one for a pair logs one at most
-  logs_one : (s : StoreState K V S) (r : Running K V A) (a : Call_answer) (s' : StoreState K V S) (r' : Running K V A) → LogsOrNot s r a s' r' → LogsOne s s'
+  logs_one : (s : StoreState K V S) (r : Running K V A) (a : Call_answer) (s' : StoreState K V S) (r' : Running K V A) → LogsOrNot s r a s' r' → PushesOne s s'
   logs_one s r a s' r' (inl (none, stays)) = logs_none s s' (same_pairs s s' stays.0)
   logs_one s r a s' r' (inr (key, left, (value, has, is, few, more, later))) =
       let long : length s'.pairs ≡ length s.pairs + 1 = ap (λ (y : StoreState K V S). length y.pairs) more ∙ length_push s.pairs (pair_with key value) in
@@ -117,7 +117,7 @@ module _ {K V S A : Type 0} (eq : K → K → Bool) (says : Says K V A) (refuse 
 
   -- so an insertion logs one pair at most, which has logged none until it asks for its pair
   pub insertion_logs : (ask : Call_ask) (first s : StoreState K V S) (r : Running K V A) (a : Call_answer) (s' : StoreState K V S)
-      (r' : Running K V A) → (MakesPair ask → length s.pairs ≡ length first.pairs) → Performs eq says refuse ask s r a s' r' → LogsOne first s → LogsOne first s'
+      (r' : Running K V A) → (MakesPair ask → length s.pairs ≡ length first.pairs) → Performs eq says refuse ask s r a s' r' → PushesOne first s → PushesOne first s'
   insertion_logs MakePair first s r a s' r' none h before = logs_from first s s' (none tt) before.shards (logs_one s r a s' r' (own_logs s r a s' r' refuse h))
   insertion_logs (MakePairOf n) first s r a s' r' none h before = logs_from first s s' (none tt) before.shards
       (logs_one s r a s' r' (of_logs s r a s' r' refuse n h))

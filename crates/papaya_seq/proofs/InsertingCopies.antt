@@ -42,9 +42,9 @@ module _ {K V S A : Type 0} (eq : K → K → Bool) (hash : S → K → ℕ) (s 
       let performed : PerformsAsk eq whatever hash false (ask_of r.machine) store r answer middle
       r = subst (λ (y : Ask). PerformsAsk eq whatever hash false y store r answer middle r) (sym is) (performs, refl) in
       let fit = inserting_fit eq hash s replace k value keys lawful fits whatever store r answer middle r (ask_of r.machine) refl open_still performed
-      refl now (chain_ask_fits r.machine now.standing) in
+      refl now (chain_ask_fits r.machine now.valid) in
       let next = inserting_more eq hash s replace k value keys lawful fits whatever store r answer middle r (ask_of r.machine) refl open_still
-      performed refl now (chain_stands r.machine now.standing answer fit) in
+      performed refl now (chain_stands r.machine now.valid answer fit) in
       let nearer = inserting_nears eq hash s replace k value keys lawful fits whatever store r answer middle r (ask_of r.machine) refl open_still
       performed refl now in
       let (end, near) = inserting_copies rest middle (record r { machine = after r.machine answer }) store' m' more next in

@@ -13,7 +13,7 @@ use Rattle.papaya_call.specs.declared.chain.ask.Ask.{Ask}
 use Rattle.papaya_call.specs.declared.chain.ask.Ask.TheVariants as asks
 use Rattle.papaya_call.specs.declared.chain.machine.Machine.{Machine}
 use Rattle.papaya_call.specs.ChainMachine as chain
-use Rattle.papaya_call.specs.ChainMachine.{IsStanding, after, ask_of}
+use Rattle.papaya_call.specs.ChainMachine.{IsValid, after, ask_of}
 use Rattle.papaya_call_law.proofs.ChainStanding.{chain_stands}
 use Rattle.papaya_words_keys.specs.Hashes.{hash_of}
 use Rattle.papaya_core_store.specs.declared.pairs.Part.TheVariants.{Own}
@@ -24,7 +24,7 @@ use Rattle.papaya_core_timeline.specs.Solo.{IsAnswered, IsNewIn, whatever}
 use Rattle.papaya_core_timeline.proofs.KeptSettings.{IsLawfulKeys}
 use Rattle.papaya_seq.specs.Drives.{Drives, IsLedTo, IsOfStore, IsReplied, at_hand, value_left}
 use Rattle.papaya_seq.specs.MadeAlone.{IsMadeAlone}
-use Rattle.papaya_seq.specs.Map.{IsLawfulMap, IsTryCause, IsWriteCauseAt, KeepsAndGrows, LogsOne, MapState, insertion}
+use Rattle.papaya_seq.specs.Map.{IsLawfulMap, IsTryCause, IsWriteCauseAt, KeepsAndGrows, PushesOne, MapState, insertion}
 use Rattle.papaya_seq.proofs.FastPath.{call_answers, comes_drives, under_way_by}
 use Rattle.papaya_seq.proofs.Alone.{map_answered, map_hasher, map_lawful, map_logged}
 use Rattle.papaya_seq.proofs.InsertingRun.{inserting_absent, inserting_alone, inserting_begin}
@@ -46,7 +46,7 @@ pub record InsertionDone {K V S : Type 0} (eq : K → K → Bool) (hash : S → 
   pub left_is : (n : ℕ) → reply ≡ Occupied n → left ≡ Some value
   pub alone : IsMadeAlone eq hash s (insertion replace k value) reply s'
   pub keeps : KeepsAndGrows s s'
-  pub logs : LogsOne s.store s'.store
+  pub logs : PushesOne s.store s'.store
   pub orderly : IsLawfulMap eq (hash s'.store.hasher) s'.store s'.mode s'.initial
 
 module _ {K V S : Type 0} (eq : K → K → Bool) (hash : S → K → ℕ) (s : MapState K V S) (replace : Bool) (k : K) (value : V)
@@ -64,7 +64,7 @@ module _ {K V S : Type 0} (eq : K → K → Bool) (hash : S → K → ℕ) (s : 
       step.performs step.same now step.fit in
       inserting_drives rest middle (record later { machine = after r.machine answer }) store' r' more
       (inserting_more eq hash s replace k value keys lawful fits whatever store r answer middle later (ask_of r.machine) refl open_still step.performs
-      step.same now (chain_stands r.machine now.standing answer fit))
+      step.same now (chain_stands r.machine now.valid answer fit))
 
   -- whatever answers its closures would give
   inserting_as : {A : Type 0} (store : StoreState K V S) (m : Machine)
@@ -73,7 +73,7 @@ module _ {K V S : Type 0} (eq : K → K → Bool) (hash : S → K → ℕ) (s : 
   inserting_as store m now = record {
     steps = now.steps;
     silence = refl;
-    standing = now.standing;
+    valid = now.valid;
     hand = now.hand;
     relying = now.relying;
     unlogged = now.unlogged;
@@ -84,17 +84,17 @@ module _ {K V S : Type 0} (eq : K → K → Bool) (hash : S → K → ℕ) (s : 
 
   -- it begins where the search of the root has led it
   pub inserting_led : {A : Type 0} (m : Machine) (hashed number : ℕ) (state : State)
-      → m ≡ chain.started (Insert replace) hashed s.mode.resize s.initial number s.mode.limit → hashed ≡ hash s.store.hasher k → IsStanding m
+      → m ≡ chain.started (Insert replace) hashed s.mode.resize s.initial number s.mode.limit → hashed ≡ hash s.store.hasher k → IsValid m
       → IsLedTo (eq k) s.store (hash s.store.hasher k) replace state
       → IsInserting {A = A} eq hash s replace k value s.store
       (record { machine = record m { call = record m.call { state = state } }; key = Own k; value = Some (Own value); answers = None })
-  inserting_led {A} m hashed number state is hash_same standing led =
+  inserting_led {A} m hashed number state is hash_same valid led =
       let begun = started (Insert replace) (hash s.store.hasher k) s.mode.resize s.initial s.mode.limit in
       let machine : m ≡ chain.started (Insert replace) (hash s.store.hasher k) s.mode.resize s.initial number s.mode.limit = is
       ∙ ap (λ n. chain.started (Insert replace) n s.mode.resize s.initial number s.mode.limit) hash_same in
       let first = inserting_begin {A = Unit {0}} eq hash s replace k value
       (chain.started (Insert replace) (hash s.store.hasher k) s.mode.resize s.initial number s.mode.limit) (hash s.store.hasher k) number refl refl
-      (subst IsStanding machine standing) in
+      (subst IsValid machine valid) in
       let came = led s.mode.resize s.initial s.mode.limit in
       let drives = comes_drives eq hash s.store k (Some value) number came.0 begun (record begun { state = state }) came.1 in
       let now = inserting_drives (call_answers came.0) s.store (under_way_by number begun (Own k) (Some (Own value))) s.store
@@ -113,14 +113,14 @@ module _ {K V S H : Type 0} (eq : K → K → Bool) (input : K → List (List �
 
   -- an insertion that has replied at once leaves what its machine does
   pub insertion_done : (reply : replies.Reply) (left : Option V) (store : StoreState K V S)
-      → IsStanding (at_hand {A = Unit {0}} (started (Insert replace) (hash s.store.hasher k) s.mode.resize s.initial s.mode.limit) k
+      → IsValid (at_hand {A = Unit {0}} (started (Insert replace) (hash s.store.hasher k) s.mode.resize s.initial s.mode.limit) k
       (Some value)).machine → IsReplied eq hash s.store
       (at_hand (started (Insert replace) (hash s.store.hasher k) s.mode.resize s.initial s.mode.limit) k (Some value)) reply left store
       → InsertionDone eq hash s replace k value reply left (record s { store = store })
-  insertion_done reply left store standing done =
+  insertion_done reply left store valid done =
       let begun = at_hand {A = Unit {0}} (started (Insert replace) (hash s.store.hasher k) s.mode.resize s.initial s.mode.limit) k (Some value) in
       let first : IsInserting eq hash s replace k value s.store begun = inserting_begin eq hash s replace k value begun.machine
-      (hash s.store.hasher k) 0 refl refl standing in
+      (hash s.store.hasher k) 0 refl refl valid in
       let ended = inserting_drives eq hash s replace k value keys lawful fits done.answers s.store begun store done.end done.drives first in
       let over : IsOver eq hash s (insertion replace k value) store reply = inserting_alone eq hash s replace k value keys lawful fits store done.end
       reply done.replied ended in

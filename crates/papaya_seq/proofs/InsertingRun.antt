@@ -19,7 +19,7 @@ use Rattle.papaya_call.specs.declared.ask.Ask.{Ask as Call_ask}
 use Rattle.papaya_call.specs.declared.write.Write.{Write}
 use Rattle.papaya_call.specs.Link.{link_ask}
 use Rattle.papaya_call.specs.declared.machine.Machine.{Machine as Call_machine}
-use Rattle.papaya_call.specs.Machine.{IsStandingState, ask_of as call_ask, at_root}
+use Rattle.papaya_call.specs.Machine.{IsValidState, ask_of as call_ask, at_root}
 use Rattle.papaya_call.specs.declared.chain.ask.Answer.{Answer}
 use Rattle.papaya_call.specs.declared.chain.ask.Answer.TheVariants as answers
 use Rattle.papaya_call.specs.declared.chain.ask.Ask.{Ask}
@@ -27,7 +27,7 @@ use Rattle.papaya_call.specs.declared.chain.ask.Ask.TheVariants as asks
 use Rattle.papaya_call.specs.declared.chain.machine.Machine.{Machine}
 use Rattle.papaya_call.specs.declared.chain.machine.Phase.{Phase}
 use Rattle.papaya_call.specs.declared.chain.machine.Phase.TheVariants.{Calling, Linking, Copying as Copying_root}
-use Rattle.papaya_call.specs.ChainMachine.{IsFit, IsFitAsk, IsStanding, after, ask_of, asks_in, started}
+use Rattle.papaya_call.specs.ChainMachine.{IsFit, IsFitAsk, IsValid, after, ask_of, asks_in, started}
 use Rattle.papaya_call_law.specs.Says.{MakesPair}
 use Rattle.papaya_call_law.proofs.Makings.{IsPairAsk}
 use Rattle.papaya_call_law.proofs.ReliesHeld.{ended_in}
@@ -43,10 +43,10 @@ use Rattle.papaya_core_timeline.specs.Content.{map_in}
 use Rattle.papaya_core_timeline.specs.Solo.{whatever}
 use Rattle.papaya_core_timeline.proofs.KeptSettings.{IsLawfulKeys}
 use Rattle.papaya_core_timeline.proofs.StoreLemmas.{performed_ask, unnumbered}
-use Rattle.papaya_seq.specs.Map.{Grows, IsLawfulMap, IsResizing, LogsOne, IsTryCause, IsWriteCause, IsWriteCauseAt, MapState, insertion, next_of}
+use Rattle.papaya_seq.specs.Map.{Grows, IsLawfulMap, IsResizing, PushesOne, IsTryCause, IsWriteCause, IsWriteCauseAt, MapState, insertion, next_of}
 use Rattle.papaya_seq.proofs.Answering.{answering, silent_performs}
 use Rattle.papaya_seq.proofs.Causes.{IsLogRefusal, IsNoTableRefusal, IsRemoveNothing, IsTableAsk}
-use Rattle.papaya_seq.proofs.Causes.{IsUnlogged, pair_stage_of, refused_so, unlogged_more}
+use Rattle.papaya_seq.proofs.Causes.{IsNotStored, pair_stage_of, refused_so, unlogged_more}
 use Rattle.papaya_seq.proofs.Causes.{unlogged_none, write_cause}
 use Rattle.papaya_seq.proofs.Ending.{left_of}
 use Rattle.papaya_seq.proofs.Grown.{copy_pairs, insertion_logs, logs_none, logs_still}
@@ -71,14 +71,14 @@ module _ {K V S A : Type 0} (eq : K → K → Bool) (hash : S → K → ℕ) (s 
   pub record IsInserting (store : StoreState K V S) (r : Running K V A) : Type 0 where
     pub steps : IsMade eq hash s (keyed_insertion replace k value) store (answering None r)
     pub silence : r.answers ≡ None
-    pub standing : IsStanding r.machine
+    pub valid : IsValid r.machine
     pub hand : IsAtHand value r.machine r.value
     pub relying : next_of s.store ≡ 0 → IsRelying eq hash s replace k value store r.machine
-    pub unlogged : IsUnlogged eq hash s (keyed_insertion replace k value) store (answering None r)
+    pub unlogged : IsNotStored eq hash s (keyed_insertion replace k value) store (answering None r)
     -- it makes one pair
     pub served : IsServed r.machine.call.made r.machine.call.state
     -- one pair was logged at most
-    pub logs : LogsOne s.store store
+    pub logs : PushesOne s.store store
     -- where it was refused there is a cause
     pub caused : (refused : Refused) → reply_in (ask_of r.machine) ≡ Some (Reply_refused refused) → IsWriteCause s refused (left_in s store)
 
@@ -110,16 +110,16 @@ unreplied (asks.Copy ask) open_still = refl
 module _ {K V S A : Type 0} (eq : K → K → Bool) (hash : S → K → ℕ) (s : MapState K V S) (replace : Bool) (k : K) (value : V) where
   -- it begins
   pub inserting_begin : (m : Machine) (hashed number : ℕ) → m ≡ started (Insert replace) hashed s.mode.resize s.initial number s.mode.limit
-      → hashed ≡ hash s.store.hasher k → IsStanding m
+      → hashed ≡ hash s.store.hasher k → IsValid m
       → IsInserting {A = A} eq hash s replace k value s.store (record { machine = m; key = Own k; value = Some (Own value); answers = None })
-  inserting_begin m hashed number is hash_same standing =
+  inserting_begin m hashed number is hash_same valid =
       let machine : m ≡ started (Insert replace) (hash s.store.hasher k) s.mode.resize s.initial number s.mode.limit = is
       ∙ ap (λ n. started (Insert replace) n s.mode.resize s.initial number s.mode.limit) hash_same in
       subst (λ (x : Machine). IsInserting {A = A} eq hash s replace k value s.store
       (record { machine = x; key = Own k; value = Some (Own value); answers = None })) (sym machine) (record {
         steps = made_none eq hash s (keyed_insertion replace k value) number;
         silence = refl;
-        standing = subst IsStanding machine standing;
+        valid = subst IsValid machine valid;
         hand = inl refl;
         relying = λ last. inr (record { calling = refl; stage = last });
         unlogged = unlogged_none eq hash s (keyed_insertion replace k value) number;
@@ -181,7 +181,7 @@ module _ {K V S A : Type 0} (eq : K → K → Bool) (hash : S → K → ℕ) (s 
               let (told, told_is, own) = subst (λ phase. PerformsAsk eq says hash false (asks_in r.machine.call phase) store r answer store' later)
               calling performs in
               by_value calling (value_stays eq says store r told store' later replace r.machine.call.made r.machine.call.hash r.machine.call.state
-              (subst (λ t. IsStandingState t r.machine.call.state) task now.standing.call.state) own)
+              (subst (λ t. IsValidState t r.machine.call.state) task now.valid.call.state) own)
             where
               by_value : r.machine.phase ≡ Calling → HasWritten r.machine.call.state ⊎ (later.value ≡ r.value)
                   → IsAtHand value (after r.machine answer) later.value
@@ -217,7 +217,7 @@ module _ {K V S A : Type 0} (eq : K → K → Bool) (hash : S → K → ℕ) (s 
       ]
 
       -- one pair is logged at most
-      logs_more : (phase : Phase) → PerformsAsk eq says hash false (asks_in r.machine.call phase) store r answer store' later → LogsOne s.store store'
+      logs_more : (phase : Phase) → PerformsAsk eq says hash false (asks_in r.machine.call phase) store r answer store' later → PushesOne s.store store'
       logs_more Calling (told, told_is, own) =
           insertion_logs eq says false (call_ask r.machine.call) s.store store r told store' later
           (λ makes. now.unlogged.pairs (served_pairs r.machine.call replace task now.served
@@ -245,13 +245,13 @@ module _ {K V S A : Type 0} (eq : K → K → Bool) (hash : S → K → ℕ) (s 
       served_more (inr (inr (inr (inr ends)))) = served_call ends.call tt
 
       -- and it goes on
-      pub inserting_more : IsStanding (after r.machine answer)
+      pub inserting_more : IsValid (after r.machine answer)
           → IsInserting eq hash s replace k value store' (record later { machine = after r.machine answer })
-      inserting_more standing = record {
+      inserting_more valid = record {
         steps = made_more eq hash s (keyed_insertion replace k value) store (answering None r) answer store' (answering None later) going silent.0
             same now.steps;
         silence = silent.1 ∙ now.silence;
-        standing = standing;
+        valid = valid;
         hand = hand_more now.hand;
         relying = λ last. relying_more eq hash s replace k value keys lawful fits store (answering None r) answer store' (answering None later) going
             silent.0 same came log_refusal (now.relying last);

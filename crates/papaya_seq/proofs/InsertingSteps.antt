@@ -16,7 +16,7 @@ use Rattle.papaya_call.specs.declared.machine.State.TheVariants.{Counting, Notin
 use Rattle.papaya_call.specs.declared.machine.State.TheVariants.{Leaving, Growing, Ended}
 use Rattle.papaya_call.specs.declared.made.Made.{Made}
 use Rattle.papaya_call.specs.declared.write.Write.{Write}
-use Rattle.papaya_call.specs.Machine.{IsStandingState, asks}
+use Rattle.papaya_call.specs.Machine.{IsValidState, asks}
 use Rattle.papaya_call.specs.Write.{served_ask, serves, write_ask}
 use Rattle.papaya_call.specs.declared.chain.ask.Answer.{Answer}
 use Rattle.papaya_call.specs.declared.chain.machine.Phase.{Phase}
@@ -62,24 +62,24 @@ module _ {K V S A : Type 0} (eq : K → K → Bool) (says : Says K V A) (store :
         absurd cc
 
     -- an insertion logs its value only where it writes
-    pub value_stays : (replace : Bool) (made : Made) (hash : ℕ) (state : State) → IsStandingState (Insert replace) state
+    pub value_stays : (replace : Bool) (made : Made) (hash : ℕ) (state : State) → IsValidState (Insert replace) state
         → Performs eq says false (asks made hash state) store r told store' later → HasWritten state ⊎ (later.value ≡ r.value)
-    value_stays replace made hash AtRoot standing (e, (same, stays)) = inr (ap (λ q. q.value) stays)
-    value_stays replace made hash Making standing (made_table, stays) = inr (ap (λ q. q.value) stays)
-    value_stays replace made hash (Opening t) standing (exchanged, stays) = inr (ap (λ q. q.value) stays)
-    value_stays replace made hash (Searching (Sizing t)) standing (e, (same, stays)) = inr (ap (λ q. q.value) stays)
-    value_stays replace made hash (Searching (Looking at)) standing (e, (same, stays)) = inr (ap (λ q. q.value) stays)
-    value_stays replace made hash (Searching (Reading at)) standing (e, (same, stays)) = inr (ap (λ q. q.value) stays)
-    value_stays replace made hash (Searching (Comparing at word)) standing (e, (same, stays)) = inr (ap (λ q. q.value) stays)
-    value_stays replace made hash (Writing write) standing performs = inl tt
-    value_stays replace made hash (Offering gap) standing performs = absurd standing.0
-    value_stays replace made hash (Showing removal) standing performs = absurd standing.0
-    value_stays replace made hash (Pairing purpose) standing performs = absurd standing.0
-    value_stays replace made hash (Putting put) standing performs = absurd standing.0
-    value_stays replace made hash (Burying removal) standing performs = absurd standing.0
-    value_stays replace made hash (Counting n) standing (e, added, stays) = inr (ap (λ q. q.value) stays)
-    value_stays replace made hash (Noting n) standing (e, added, stays) = inr (ap (λ q. q.value) stays)
-    value_stays replace made hash (Uncounting n) standing performs = absurd standing
-    value_stays replace made hash (Leaving t) standing (e, (same, stays)) = inr (ap (λ q. q.value) stays)
-    value_stays replace made hash (Growing need) standing (e, (same, stays)) = inr (ap (λ q. q.value) stays)
-    value_stays replace made hash (Ended reply) standing (e, (same, stays)) = inr (ap (λ q. q.value) stays)
+    value_stays replace made hash AtRoot valid (e, (same, stays)) = inr (ap (λ q. q.value) stays)
+    value_stays replace made hash Making valid (made_table, stays) = inr (ap (λ q. q.value) stays)
+    value_stays replace made hash (Opening t) valid (exchanged, stays) = inr (ap (λ q. q.value) stays)
+    value_stays replace made hash (Searching (Sizing t)) valid (e, (same, stays)) = inr (ap (λ q. q.value) stays)
+    value_stays replace made hash (Searching (Looking at)) valid (e, (same, stays)) = inr (ap (λ q. q.value) stays)
+    value_stays replace made hash (Searching (Reading at)) valid (e, (same, stays)) = inr (ap (λ q. q.value) stays)
+    value_stays replace made hash (Searching (Comparing at word)) valid (e, (same, stays)) = inr (ap (λ q. q.value) stays)
+    value_stays replace made hash (Writing write) valid performs = inl tt
+    value_stays replace made hash (Offering gap) valid performs = absurd valid.0
+    value_stays replace made hash (Showing removal) valid performs = absurd valid.0
+    value_stays replace made hash (Pairing purpose) valid performs = absurd valid.0
+    value_stays replace made hash (Putting put) valid performs = absurd valid.0
+    value_stays replace made hash (Burying removal) valid performs = absurd valid.0
+    value_stays replace made hash (Counting n) valid (e, added, stays) = inr (ap (λ q. q.value) stays)
+    value_stays replace made hash (Noting n) valid (e, added, stays) = inr (ap (λ q. q.value) stays)
+    value_stays replace made hash (Uncounting n) valid performs = absurd valid
+    value_stays replace made hash (Leaving t) valid (e, (same, stays)) = inr (ap (λ q. q.value) stays)
+    value_stays replace made hash (Growing need) valid (e, (same, stays)) = inr (ap (λ q. q.value) stays)
+    value_stays replace made hash (Ended reply) valid (e, (same, stays)) = inr (ap (λ q. q.value) stays)

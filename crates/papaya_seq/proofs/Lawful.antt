@@ -99,14 +99,14 @@ module _ {K V S : Type 0} (store : StoreState K V S) where
   logged_itself n p e = ap (pair_of store) (pair_number store n p e) ∙ e
 
   -- each pair of these words' is logged
-  abbrev AreLogged : List (Stored K V) → Type 0
-  AreLogged ps = All (λ p. pair_of store p.number ≡ Some p) ps
+  abbrev AreInArena : List (Stored K V) → Type 0
+  AreInArena ps = All (λ p. pair_of store p.number ≡ Some p) ps
 
-  listed_logged : (n : ℕ) (o : Option (Stored K V)) → pair_of store n ≡ o → AreLogged (listed o)
+  listed_logged : (n : ℕ) (o : Option (Stored K V)) → pair_of store n ≡ o → AreInArena (listed o)
   listed_logged n None is = All-nil (λ p. pair_of store p.number ≡ Some p)
   listed_logged n (Some p) is = All-cons (λ p. pair_of store p.number ≡ Some p) p [] (logged_itself n p is) (All-nil (λ p. pair_of store p.number ≡ Some p))
 
-  kind_logged : (kd : Kind) (n : ℕ) → AreLogged (pairs_of_kind store kd n)
+  kind_logged : (kd : Kind) (n : ℕ) → AreInArena (pairs_of_kind store kd n)
   kind_logged kinds.Live n = listed_logged n (pair_of store n) refl
   kind_logged kinds.Marked n = listed_logged n (pair_of store n) refl
   kind_logged kinds.Empty n = All-nil (λ p. pair_of store p.number ≡ Some p)
@@ -114,25 +114,25 @@ module _ {K V S : Type 0} (store : StoreState K V S) where
   kind_logged kinds.Buried n = All-nil (λ p. pair_of store p.number ≡ Some p)
   kind_logged kinds.Closed n = All-nil (λ p. pair_of store p.number ≡ Some p)
 
-  slots_logged : (words : List ℕ) → AreLogged (pairs_of_slots store words)
+  slots_logged : (words : List ℕ) → AreInArena (pairs_of_slots store words)
   slots_logged [] = All-nil (λ p. pair_of store p.number ≡ Some p)
   slots_logged (word ∷ words) = All-append (λ p. pair_of store p.number ≡ Some p) (pairs_of_kind store (kind_of word) (number_of word))
       (pairs_of_slots store words) (kind_logged (kind_of word) (number_of word)) (slots_logged words)
 
   module _ (eq : K → K → Bool) where
     -- the pairs of a next table whose keys were not found before
-    found_logged : (o : Option (Stored K V)) (q : Stored K V) → pair_of store q.number ≡ Some q → AreLogged (unless_found o q)
+    found_logged : (o : Option (Stored K V)) (q : Stored K V) → pair_of store q.number ≡ Some q → AreInArena (unless_found o q)
     found_logged None q logged = All-cons (λ p. pair_of store p.number ≡ Some p) q [] logged (All-nil (λ p. pair_of store p.number ≡ Some p))
     found_logged (Some p) q logged = All-nil (λ p. pair_of store p.number ≡ Some p)
 
-    missing_logged : (ps qs : List (Stored K V)) → AreLogged qs → AreLogged (missing_in eq (λ p. p.key) ps qs)
+    missing_logged : (ps qs : List (Stored K V)) → AreInArena qs → AreInArena (missing_in eq (λ p. p.key) ps qs)
     missing_logged ps [] logged = All-nil (λ p. pair_of store p.number ≡ Some p)
     missing_logged ps (q ∷ qs) logged =
         All-append (λ p. pair_of store p.number ≡ Some p) (unless_found (lookup eq (λ p. p.key) ps q.key) q) (missing_in eq (λ p. p.key) ps qs)
         (found_logged (lookup eq (λ p. p.key) ps q.key) q (logged 0 q (omega arith)))
         (missing_logged ps qs (λ i d within. logged (suc i) d (omega (arith, within))))
 
-    from_logged : (n : ℕ) (o : Option TableWords) → AreLogged (pairs_from eq store n o)
+    from_logged : (n : ℕ) (o : Option TableWords) → AreInArena (pairs_from eq store n o)
     from_logged zero o = All-nil (λ p. pair_of store p.number ≡ Some p)
     from_logged (suc n) None = All-nil (λ p. pair_of store p.number ≡ Some p)
     from_logged (suc n) (Some t) =

@@ -4,9 +4,9 @@ use Rattle.std.proofs.lemmas.List.{append-nil, append_assoc}
 use Rattle.papaya_core_store.specs.Store.{StoreState, Stored}
 use Rattle.papaya_core_store.proofs.Logs.{pair_number}
 use Rattle.papaya_seq.specs.Walks.{IsNext, left_to}
-use Rattle.papaya_seq.specs.declared.walks.Stand.{Stand}
+use Rattle.papaya_seq.specs.declared.walks.Position.{Position}
 
-module _ {K V S : Type 0} (eq : K → K → Bool) (store : StoreState K V S) (at at' : Stand) where
+module _ {K V S : Type 0} (eq : K → K → Bool) (store : StoreState K V S) (at at' : Position) where
   -- the numbers of these pairs
   abbrev numbers : List (Stored K V) → List ℕ
   numbers ps = map (λ p. p.number) ps

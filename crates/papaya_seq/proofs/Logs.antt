@@ -34,7 +34,7 @@ use Rattle.papaya_call.specs.Compute.{in_place_of, nothing, with_pair}
 use Rattle.papaya_call.specs.Made.{answered, grown, grown_as, make_ask, number_ask, of_grown}
 use Rattle.papaya_call.specs.Made.{own_grown, pair_ask, serves_at, paired as pair_done, taken}
 use Rattle.papaya_call.specs.Made.{taken_as, told, told_as, told_limit}
-use Rattle.papaya_call.specs.Machine.{IsComputer, IsStandingState, IsWriter, after, ask_of, asks}
+use Rattle.papaya_call.specs.Machine.{IsComputer, IsValidState, IsWriter, after, ask_of, asks}
 use Rattle.papaya_call.specs.Machine.{decided_held, held_at_op, held_in, made_at_exchanged, made_in}
 use Rattle.papaya_call.specs.Machine.{made_to_pair, number_told, paired_held, write_taken}
 use Rattle.papaya_call.specs.Write.{made_of, made_to_write, served_ask, served_of, serves, with_pair_at, write_grown}
@@ -223,7 +223,7 @@ computer_first tasks.Compute made held computes h = h
 
 module _ (m : Call_machine) where
   -- where the pair that is asked for is logged, the call has one
-  first_not : (s : Stage) → IsStandingState m.task s → MakesPair (asks m.made m.hash s) → (n : ℕ)
+  first_not : (s : Stage) → IsValidState m.task s → MakesPair (asks m.made m.hash s) → (n : ℕ)
       → IsFirst m.task (made_in m.made n s) (held_in m.made m.remembered n s) → ⊥
   first_not (Writing write) stands makes n first = by_served (serves m.made write) makes
       (writer_first m.task (write_grown (serves m.made write) m.made write n) m.remembered stands.0 first)
@@ -253,7 +253,7 @@ module _ (m : Call_machine) where
   first_not (Growing need) stands makes n first = makes
   first_not (Ended reply) stands makes n first = makes
 
-  pub paired_first : IsStandingState m.task m.state → MakesPair (ask_of m) → (n : ℕ)
+  pub paired_first : IsValidState m.task m.state → MakesPair (ask_of m) → (n : ℕ)
       → IsFirst m.task (after m (Made_number n)).made (after m (Made_number n)).remembered → ⊥
   paired_first = first_not m.state
 
@@ -334,7 +334,7 @@ module _ (m : Call_machine) (has : m.made.number ≡ Taken) where
   }) (λ n. logged_number n m.state)
 
 -- so a call without a pair and without a number had no number
-pub numberless_before : (m : Call_machine) (a : Call_answer) → IsStandingState m.task m.state → IsFirst m.task (after m a).made (after m a).remembered
+pub numberless_before : (m : Call_machine) (a : Call_answer) → IsValidState m.task m.state → IsFirst m.task (after m a).made (after m a).remembered
     → IsNumberless (after m a).made → IsNumberless m.made
 numberless_before m a stands first none has = elim (number_stable m has a) [
   | inl still ↦ none still

@@ -38,7 +38,7 @@ use Rattle.papaya_core_timeline.specs.Runs.{History, StepsRun, with_event}
 use Rattle.papaya_core_timeline.specs.Solo.{RunsAlone, whatever}
 use Rattle.papaya_core_store.specs.Store.{Stored, pair_of}
 use Rattle.papaya_core_timeline.proofs.KeptSettings.{IsLawfulKeys}
-use Rattle.papaya_seq.specs.Looks.{IsToldBy, Replies, matches_in}
+use Rattle.papaya_seq.specs.Looks.{IsTrueOfStore, Replies, matches_in}
 use Rattle.papaya_seq.specs.Map.{MapState, core_of}
 use Rattle.papaya_seq.proofs.Driving.{calling, goes_itself, reply_in}
 use Rattle.papaya_seq.proofs.LookSteps.{IsLooking, IsLookReply, look_replies, lookup_looks}
@@ -61,7 +61,7 @@ module _ {K V S : Type 0} (eq : K → K → Bool) (hash : S → K → ℕ) (s : 
   matches_same (Some p) = alike p.key
 
   -- what is told of the tables is what the core answers
-  told_performs : (m : Machine) (ask : Ask) (answer : Answer) → IsToldBy matches s.store ask answer
+  told_performs : (m : Machine) (ask : Ask) (answer : Answer) → IsTrueOfStore matches s.store ask answer
       → Performs eq whatever false ask s.store (getting m) answer s.store (getting m)
   told_performs m (Load at) answer told = (told, (refl, refl))
   told_performs m (SameKey n) answer told = (told ∙ ap Yes (matches_same (pair_of s.store n)), (refl, refl))
@@ -80,7 +80,7 @@ module _ {K V S : Type 0} (eq : K → K → Bool) (hash : S → K → ℕ) (s : 
   told_performs m (Ask_done reply) answer told = absurd told
 
   -- what is still answered is no reply
-  told_goes : (ask : Ask) (answer : Answer) → IsToldBy matches s.store ask answer → reply_in ask ≡ None
+  told_goes : (ask : Ask) (answer : Answer) → IsTrueOfStore matches s.store ask answer → reply_in ask ≡ None
   told_goes (Load at) answer told = refl
   told_goes (SameKey n) answer told = refl
   told_goes (SizeOf t) answer told = refl
@@ -107,7 +107,7 @@ module _ {K V S : Type 0} (eq : K → K → Bool) (hash : S → K → ℕ) (s : 
 
   -- a step of the core, after which the call goes on or has replied
   told_steps : (m : Machine) (answer : Answer) (reply : Option Reply) → m.task ≡ Get_task → IsLooking s.store m.state
-      → IsToldBy matches s.store (ask_of m) answer → reply ≡ reply_in (ask_of (after m answer)) → ((refused : Refused) → reply ≡ Some (Reply_refused refused) → ⊥)
+      → IsTrueOfStore matches s.store (ask_of m) answer → reply ≡ reply_in (ask_of (after m answer)) → ((refused : Refused) → reply ≡ Some (Reply_refused refused) → ⊥)
       → Advances eq whatever hash false (core_in (Some (getting m))) 0 (core_in (goes_on reply (getting (after m answer)))) (event_at m answer) reply
   told_steps m answer reply is_get looking told is unrefused =
       let own : chain.after (calling m) (answers.Call answer) ≡ calling (after m answer) = goes_itself 0 m answer

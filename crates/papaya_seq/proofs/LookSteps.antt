@@ -44,7 +44,7 @@ use Rattle.papaya_call_law.proofs.Tasks.{same_task}
 use Rattle.papaya_core_store.specs.Performs.{size_of}
 use Rattle.papaya_core_store.specs.Store.{StoreState, Stored, pair_of}
 use Rattle.papaya_core_store.specs.Tables.{hint_at, table_of, word_at}
-use Rattle.papaya_seq.specs.Looks.{IsToldBy, Replies, matches_in}
+use Rattle.papaya_seq.specs.Looks.{IsTrueOfStore, Replies, matches_in}
 use Rattle.papaya_core_timeline.specs.Kept.{IsLawfulCore}
 use Rattle.papaya_core_timeline.proofs.KeptSettings.{IsLawfulKeys}
 use Rattle.papaya_core_timeline.proofs.KeptTables.{table_low}
@@ -210,7 +210,7 @@ module _ {K V S : Type 0} (store : StoreState K V S) where
     at_state s = record { task = Get; hash = hash; mode = mode; initial = initial; made = made; remembered = held; state = s }
 
     -- after each answer the lookup goes on, or has replied
-    looks_in : (s : State) (answer : Answer) → IsLooking s → IsToldBy matches store (asks made hash s) answer → IsLooking (after (at_state s) answer).state
+    looks_in : (s : State) (answer : Answer) → IsLooking s → IsTrueOfStore matches store (asks made hash s) answer → IsLooking (after (at_state s) answer).state
     looks_in AtRoot answer looking told =
         subst (λ a. IsLooking (after (at_state AtRoot) a).state) (sym told)
         (cond_both (store.words.root == 0) (Ended Absent) (Searching (Sizing store.words.root)) IsLooking (λ _. tt)
@@ -281,7 +281,7 @@ module _ {K V S : Type 0} (store : StoreState K V S) where
 
     -- each answer does
     lowers_in : (s : State) (answer : Answer) → IsLooking s → IsRead (λ at. word_at store.words at) s
-        → IsToldBy matches store (asks made hash s) answer → Lowers s answer
+        → IsTrueOfStore matches store (asks made hash s) answer → Lowers s answer
     lowers_in AtRoot answer looking read told =
         let ahead : tables_ahead (length store.words.tables) (at_root Get held.fill store.words.root) ≤ length store.words.tables = cond_both
         (store.words.root == 0) (Ended Absent) (Searching (Sizing store.words.root))
@@ -335,7 +335,7 @@ module _ {K V S : Type 0} (store : StoreState K V S) where
   module _ (matches : K → Bool) (made : Made) (hash : ℕ) where
     -- the words that it is told stand in the tables
     prompt_in : (task : Task) (sized : (n : ℕ) (t : TableWords) → table_of store.words.tables n ≡ Some t → IsSize (length t.slots) t.limit)
-        → (s : State) (answer : Answer) → IsLooking s → IsToldBy matches store (asks made hash s) answer
+        → (s : State) (answer : Answer) → IsLooking s → IsTrueOfStore matches store (asks made hash s) answer
         → IsPrompt task (λ at. word_at store.words at) (asks made hash s) answer (λ at. word_at store.words at)
     prompt_in task sized AtRoot answer looking told = (told, λ at. refl)
     prompt_in task sized (Searching (Sizing t)) answer (table, there)
@@ -367,7 +367,7 @@ module _ {K V S : Type 0} (store : StoreState K V S) where
         go (Some p) is = none n p is
 
     -- where no pair of the log matches, it is told of none
-    unmatched_in : MatchesNone store matches → (s : State) (answer : Answer) → IsLooking s → IsToldBy matches store (asks made hash s) answer
+    unmatched_in : MatchesNone store matches → (s : State) (answer : Answer) → IsLooking s → IsTrueOfStore matches store (asks made hash s) answer
         → IsUnmatched (asks made hash s) answer
     unmatched_in none AtRoot answer looking told = (store.words.root, told)
     unmatched_in none (Searching (Sizing t)) answer (table, there) told = (length table.slots, table.limit, told ∙ ap size_of there)
@@ -421,7 +421,7 @@ pub record IsLookUp {K V S : Type 0} (matches : K → Bool) (store : StoreState 
 
 module _ {K V S : Type 0} (eq : K → K → Bool) (hash : K → ℕ) (mode : Mode) (store : StoreState K V S)
     (lawful : IsLawfulCore {A = Unit {0}} eq hash store [] mode) (keys : IsLawfulKeys eq hash) (matches : K → Bool)
-    (m : Machine) (getting : m.task ≡ Get) (looking : IsLooking store m.state) (answer : Answer) (told : IsToldBy matches store (ask_of m) answer) where
+    (m : Machine) (getting : m.task ≡ Get) (looking : IsLooking store m.state) (answer : Answer) (told : IsTrueOfStore matches store (ask_of m) answer) where
   -- a lookup that is told what stands in the tables goes on, or has replied
   pub lookup_looks : IsLooking store (after m answer).state
   lookup_looks =

@@ -25,8 +25,8 @@ use Rattle.papaya_core_store.specs.Store.{StoreState}
 use Rattle.papaya_core_store.specs.Tables.{table_of, word_at}
 use Rattle.papaya_core_timeline.specs.Kept.{IsLawfulCore}
 use Rattle.papaya_core_timeline.proofs.KeptSettings.{IsLawfulKeys}
-use Rattle.papaya_seq.specs.Looks.{Comes, IsToldBy}
-use Rattle.papaya_seq.specs.Searches.{IsTurn, SeesFrom, seen_by}
+use Rattle.papaya_seq.specs.Looks.{Comes, IsTrueOfStore}
+use Rattle.papaya_seq.specs.Searches.{IsProbeHit, SeesFrom, seen_by}
 use Rattle.papaya_seq.specs.declared.search.ProbeHit.{ProbeHit}
 use Rattle.papaya_seq.specs.declared.search.ProbeHit.TheVariants as turns
 use Rattle.papaya_seq.proofs.LookSteps.{IsLookUp, look_up_begins, look_up_goes, lookup_left, lookup_nears}
@@ -77,7 +77,7 @@ module _ {K V S : Type 0} (eq : K → K → Bool) (hash : K → ℕ) (mode : Mod
     left_at s = lookup_left (length store.words.tables) (stands_at s)
 
     -- one answer led it on
-    answered : (s : State) (answer : Answer) → IsToldBy matches store (ask_of (stands_at s)) answer → HasCome s
+    answered : (s : State) (answer : Answer) → IsTrueOfStore matches store (ask_of (stands_at s)) answer → HasCome s
         → IsLookUp matches store begun (after (stands_at s) answer) × (lookup_left (length store.words.tables) (after (stands_at s) answer) < left_at s)
     answered s answer told kept = (
       look_up_goes eq hash mode store lawful keys matches (stands_at s) kept.task kept.looking answer told begun kept,
@@ -124,7 +124,7 @@ module _ {K V S : Type 0} (eq : K → K → Bool) (hash : K → ℕ) (mode : Mod
     ]
 
     -- a search of a table led on
-    pub turned : (at : Place) (turn : ProbeHit) → IsTurn matches store h at turn → HasCome (Searching (Looking at)) → HasCome (goes begun (seen_by turn))
+    pub turned : (at : Place) (turn : ProbeHit) → IsProbeHit matches store h at turn → HasCome (Searching (Looking at)) → HasCome (goes begun (seen_by turn))
         × (left_at (goes begun (seen_by turn)) ≤ left_at (Searching (Looking at)))
     turned at turn is kept =
         let came = is.sees begun in
@@ -144,12 +144,12 @@ module _ {K V S : Type 0} (eq : K → K → Bool) (hash : K → ℕ) (mode : Mod
 
     -- a table was searched
     pub searched : (t slots limit : ℕ) → size_of (table_of store.words.tables t) ≡ Size slots limit → HasCome (numbered t) → (at : Place)
-        → at ≡ first_place h t slots limit → (turn : ProbeHit) → IsTurn matches store h at turn → HasCome (goes begun (seen_by turn))
+        → at ≡ first_place h t slots limit → (turn : ProbeHit) → IsProbeHit matches store h at turn → HasCome (goes begun (seen_by turn))
         × (left_at (goes begun (seen_by turn)) < left_at (numbered t))
     searched t slots limit size kept at is turn by =
         let (fit, looks, nearer) = first_looked t slots limit size kept in
         let first : Place = first_place h t slots limit in
-        let led = turned first turn (subst (λ p. IsTurn matches store h p turn) is by) looks in
+        let led = turned first turn (subst (λ p. IsProbeHit matches store h p turn) is by) looks in
         let further : left_at (goes begun (seen_by turn)) ≤ left_at (Searching (Looking first)) = led.1 in
         let before : left_at (Searching (Looking first)) < left_at (numbered t) = nearer in
         (led.0, omega (arith, further, before))

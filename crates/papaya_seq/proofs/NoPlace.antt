@@ -19,7 +19,7 @@ use Rattle.papaya_words_law.specs.View.{look, view, IsPassed}
 use Rattle.papaya_words_law.proofs.Codes.{code_empty}
 use Rattle.papaya_words_law.proofs.OneMap.{means_map}
 use Rattle.papaya_call_law.specs.Relies.{HasComeTo, ReliesGrowing, ReliesStage}
-use Rattle.papaya_call_law.specs.Told.{word_of}
+use Rattle.papaya_call_law.specs.TrueAnswers.{word_of}
 use Rattle.papaya_call_law.proofs.ReliesNames.{come_reached}
 use Rattle.papaya_call_law.proofs.ReliesRemovals.{moving_further}
 use Rattle.papaya_core_store.specs.declared.pairs.Running.{Running}
@@ -28,7 +28,7 @@ use Rattle.papaya_core_store.specs.Tables.{table_of, word_at, word_in}
 use Rattle.papaya_core_timeline.specs.Callers.{running}
 use Rattle.papaya_core_timeline.specs.Content.{map_in}
 use Rattle.papaya_core_timeline.specs.Core.{CoreState, IsCore}
-use Rattle.papaya_core_timeline.specs.Kept.{CallTrace, IsCall, IsKept, coding_of, low, setting_of}
+use Rattle.papaya_core_timeline.specs.Kept.{CallTrace, IsCall, IsConsistent, coding_of, low, setting_of}
 use Rattle.papaya_core_timeline.proofs.KeptLemmas.{IsLawfulKeys, hashed_setting, map_kept}
 use Rattle.papaya_seq.specs.Map.{next_in, next_of}
 
@@ -39,7 +39,7 @@ next_word (Some t) e = e
 
 module _ {K V S A : Type 0} (eq : K → K → Bool) (hash : K → ℕ) (law : IsLawfulKeys eq hash) (s : CoreState K V S A)
     (core : IsCore s.store s.callers s.mode) (es : List (Exchange (Stored K V))) (call_traces : ℕ → CallTrace K V)
-    (kept : IsKept eq hash s.mode s.store s.callers es call_traces) (caller : ℕ) (r : Running K V A) (was : running s.callers caller ≡ Some r) where
+    (kept : IsConsistent eq hash s.mode s.store s.callers es call_traces) (caller : ℕ) (r : Running K V A) (was : running s.callers caller ≡ Some r) where
   abbrev g : Setting K (Stored K V)
   g = setting_of eq (low hash) s.mode s.store.words.tables
 

@@ -27,7 +27,7 @@ use Rattle.papaya_call.specs.declared.chain.ask.Answer.TheVariants as answers
 use Rattle.papaya_call.specs.declared.chain.machine.Machine.{Machine}
 use Rattle.papaya_call.specs.ChainMachine.{after, ask_of, started}
 use Rattle.papaya_call_law.specs.Alone.{IsNumberRead}
-use Rattle.papaya_call_alone.specs.Limits.{HasNumber, IsLogging, IsNumberTaken, IsPairLogged, IsTakeAsk}
+use Rattle.papaya_call_alone.specs.Limits.{HasNumber, IsMakingPart, IsNumberTaken, IsPairMade, IsTakeAsk}
 use Rattle.papaya_call_alone.proofs.AtLimit.{limit_each, limit_logs, limit_takes}
 use Rattle.papaya_core_store.specs.declared.pairs.Running.{Running}
 use Rattle.papaya_core_store.specs.Asks.{PerformsAsk}
@@ -91,14 +91,14 @@ module _ {K V S : Type 0} (s s' : StoreState K V S) where
 
   -- What an answered ask does to the arena of pairs, and to how many numbers were taken for them.
   pub record IsLogStep (ask : Ask) (answer : Answer) : Type 0 where
-    pub pairs : (length s'.pairs ≡ length s.pairs) ⊎ (IsPairLogged ask answer × (length s'.pairs ≡ length s.pairs + 1))
+    pub pairs : (length s'.pairs ≡ length s.pairs) ⊎ (IsPairMade ask answer × (length s'.pairs ≡ length s.pairs + 1))
     pub up : s.words.made ≤ s'.words.made
     pub took : IsNumberTaken ask answer → (s.words.made < s'.words.made) × (length s'.pairs ≡ length s.pairs)
     pub still : (IsNumberTaken ask answer → ⊥) → s'.words.made ≡ s.words.made
 
   -- one that takes no number
   quiet : (ask : Ask) (answer : Answer) → (IsNumberTaken ask answer → ⊥) → (length s'.pairs ≡ length s.pairs)
-      ⊎ (IsPairLogged ask answer × (length s'.pairs ≡ length s.pairs + 1)) → s'.words.made ≡ s.words.made → IsLogStep ask answer
+      ⊎ (IsPairMade ask answer × (length s'.pairs ≡ length s.pairs + 1)) → s'.words.made ≡ s.words.made → IsLogStep ask answer
   quiet ask answer none pairs same = record { pairs = pairs; up = omega (arith, same); took = λ took. absurd (none took); still = λ _. same }
 
 not_taken : (ask : Call_ask) → (IsTakeAsk ask → ⊥) → (told : Call_answer) → IsNumberTaken (asks.Call ask) (answers.Call told) → ⊥
@@ -150,13 +150,13 @@ module _ {K V S A : Type 0} (eq : K → K → Bool) (says : Says K V A) (hash : 
       taken told plain h = absurd h
 
   -- a pair that was logged, or not
-  logs : (ask : Call_ask) → (IsTakeAsk ask → ⊥) → (told : Call_answer) → ((n : ℕ) → IsPairLogged (asks.Call ask) (answers.Call (Made_number n)))
+  logs : (ask : Call_ask) → (IsTakeAsk ask → ⊥) → (told : Call_answer) → ((n : ℕ) → IsPairMade (asks.Call ask) (answers.Call (Made_number n)))
       → LogsOrNot s r told s' r' → IsLogStep s s' (asks.Call ask) (answers.Call told)
   logs ask plain told pairs (inl (unlogged, same)) = stays ask plain told same.0
   logs ask plain told pairs (inr (key, left, (value, has, is, few, grown, moved))) =
       quiet s s' (asks.Call ask) (answers.Call told) (not_taken ask plain told)
       (inr (
-        subst (λ a. IsPairLogged (asks.Call ask) (answers.Call a)) (sym is) (pairs (length s.pairs)),
+        subst (λ a. IsPairMade (asks.Call ask) (answers.Call a)) (sym is) (pairs (length s.pairs)),
         ap
             (λ (y : StoreState K V S). length y.pairs) grown ∙ length-append s.pairs (pair_with key value ∷ []),
       ))
@@ -233,7 +233,7 @@ module _ {K V S A : Type 0} (eq : K → K → Bool) (says : Says K V A) (hash : 
       by_ask (asks.Copy ask) e (h, same) = copy_step ask e answer h
 
 -- a pair is logged where something is asked to be
-pair_logs : (ask : Ask) (answer : Answer) → IsPairLogged ask answer → IsLogging ask
+pair_logs : (ask : Ask) (answer : Answer) → IsPairMade ask answer → IsMakingPart ask
 pair_logs (asks.Call MakePair) answer h = tt
 pair_logs (asks.Call (MakePairOf n)) answer h = tt
 pair_logs (asks.Call ask) (answers.Call (Made_number n)) h = absurd h

@@ -19,13 +19,13 @@ use Rattle.papaya_words_law.specs.Exchange.{after, run, start}
 use Rattle.papaya_words_law.specs.Hints.{IsHint, IsHintOf}
 use Rattle.papaya_words_law.specs.View.{IsNextPlace, IsReached, View}
 use Rattle.papaya_words_law.proofs.Moments.{allowed_append, run-append}
-use Rattle.papaya_call_law.specs.Told.{word_of}
+use Rattle.papaya_call_law.specs.TrueAnswers.{word_of}
 use Rattle.papaya_core_store.specs.declared.store.Mode.{Mode}
 use Rattle.papaya_core_store.specs.Store.{StoreState, Stored}
 use Rattle.papaya_core_store.specs.Tables.{hint_at, table_of, word_at}
 use Rattle.papaya_words_law.specs.ChainContent.{joined}
 use Rattle.papaya_core_timeline.specs.Content.{content, pairs_from, pairs_of_slots}
-use Rattle.papaya_core_timeline.specs.Kept.{IsKept, coding_of, low, setting_of}
+use Rattle.papaya_core_timeline.specs.Kept.{IsConsistent, coding_of, low, setting_of}
 use Rattle.papaya_seq.specs.Map.{IsLawfulMap}
 use Rattle.papaya_seq.proofs.RetainLists.{slots_same}
 
@@ -203,7 +203,7 @@ module _ {K V S : Type 0} (eq : K → K → Bool) (hash : K → ℕ) (store : St
   abbrev now : State (Stored K V)
   now = run es start
 
-  kept : IsKept {A = Unit {0}} eq hash mode store [] es lawful.lawful.law.1.0
+  kept : IsConsistent {A = Unit {0}} eq hash mode store [] es lawful.lawful.law.1.0
   kept = lawful.lawful.law.1.1
 
   -- the map with the limit
@@ -244,7 +244,7 @@ module _ {K V S : Type 0} (eq : K → K → Bool) (hash : K → ℕ) (store : St
   hint_there (Buried p) n h = h
 
   -- the words with the limit keep to the law
-  kept' : IsKept {A = Unit {0}} eq hash mode' store' [] es' lawful.lawful.law.1.0
+  kept' : IsConsistent {A = Unit {0}} eq hash mode' store' [] es' lawful.lawful.law.1.0
   kept' = record {
     allowed = allowed';
     coded = λ at. ap (λ s. word_of (limited g limit) c s at) ran ∙ word_there at;
@@ -268,7 +268,7 @@ module _ {K V S : Type 0} (eq : K → K → Bool) (hash : K → ℕ) (store : St
         chunked = lawful.lawful.core.chunked;
         limit = fits;
         sizes = lawful.lawful.core.sizes;
-        standing = λ d q e.
+        valid = λ d q e.
             absurd cc;
         going = λ d q e. absurd cc;
         resizers = λ d z e. absurd cc;

@@ -15,7 +15,7 @@ use Rattle.papaya_core_store.specs.declared.pairs.Pair.TheVariants as pairs
 use Rattle.papaya_core_store.specs.declared.pairs.Part.{Part}
 use Rattle.papaya_core_store.specs.declared.pairs.Part.TheVariants.{Own, Logged}
 use Rattle.papaya_core_store.specs.Pairs.{key_from, pair_with}
-use Rattle.papaya_core_store.specs.Performs.{Exchanges, IsLogged}
+use Rattle.papaya_core_store.specs.Performs.{Exchanges, IsPushed}
 use Rattle.papaya_core_store.specs.Store.{StoreState}
 use Rattle.papaya_core_store.specs.Tables.{note, put, word_at}
 use Rattle.papaya_seq.specs.Writes.{IsKeyFor, IsStored, IsWritten, slot_of, storing}
@@ -37,7 +37,7 @@ module _ {K V S : Type 0} where
       pub is : IsPairFor (old == 0) old pair
       pub store : s' ≡ record s { pairs = s.pairs ++ pair ∷ [] }
 
-    pub pair_was_logged : (old n : ℕ) (part : Part K) → IsKeyFor s old key part → IsLogged n part (Own value) s s' → PairLogged old n
+    pub pair_was_logged : (old n : ℕ) (part : Part K) → IsKeyFor s old key part → IsPushed n part (Own value) s s' → PairLogged old n
     pair_was_logged old n part for_it (number, few, store) = record {
       number = number;
       few = few;

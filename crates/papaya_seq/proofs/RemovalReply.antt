@@ -4,7 +4,7 @@ use denote.Ref.{Bor}
 use Rattle.std.proofs.lemmas.Bool.{cases_Bool}
 use Rattle.std.specs.Cmp.{IsEquivalence}
 use Rattle.std.specs.Fn.{Mut}
-use Rattle.papaya_call_law.specs.Says.{Agrees, said_of_removal}
+use Rattle.papaya_call_law.specs.Says.{Agrees, result_of_removal}
 use Rattle.papaya_words.specs.declared.refused.Refused.{Refused as Refused_words}
 use Rattle.papaya_call.specs.declared.call.Reply.{Reply}
 use Rattle.papaya_call.specs.declared.call.Reply.TheVariants.{Absent, Found, Inserted, Replaced, Occupied, Removed, Kept, Aborted, Done, Refused}
@@ -119,7 +119,7 @@ module _ {K V S F : Type 0} (g : Mut F (Bor K × (Bor V × Unit {0})) Bool) (eq 
 
   -- what the finite map does in the removal of an owned key
   pub removal_done : (reply : Reply) → IsAnswered eq (removal_by k) (map_in eq s) reply (map_in eq s')
-      → IsJudged g matches s agrees (said_of_removal reply) f → IsRemoval eq matches (Judges g agrees) s reply s'
+      → IsJudged g matches s agrees (result_of_removal reply) f → IsRemoval eq matches (Judges g agrees) s reply s'
   removal_done Absent answered judged =
       let none = absent answered.went answered.came answered.does in
       let update = subst (λ o. IsUpdate eq k o answered.came (map_in eq s) (map_in eq s')) none.0 answered.update in
@@ -144,7 +144,7 @@ module _ {K V S F : Type 0} (g : Mut F (Bor K × (Bor V × Unit {0})) Bool) (eq 
 
 -- the closure was called for what was replied
 pub called_for : {K V S F : Type 0} (g : Mut F (Bor K × (Bor V × Unit {0})) Bool) (matches : K → Bool) (s : StoreState K V S) (agrees f : F)
-    (reply : Reply) → IsJudged g matches s agrees (said_of_removal reply) f → IsCalledFor g s reply agrees f
+    (reply : Reply) → IsJudged g matches s agrees (result_of_removal reply) f → IsCalledFor g s reply agrees f
 called_for g matches s agrees f Absent judged = judged
 called_for g matches s agrees f (Removed n) judged = judged
 called_for g matches s agrees f (Kept n) judged = judged

@@ -10,16 +10,16 @@ use Rattle.papaya_words.specs.declared.refused.Refused.{Refused}
 use Rattle.papaya_call_law.specs.Goes.{IsCause}
 use Rattle.papaya_call.specs.declared.call.Task.TheVariants.{RemoveIf}
 use Rattle.papaya_call_alone.specs.Ahead.{IsPhaseRead}
-use Rattle.papaya_call.specs.Machine.{IsStandingState}
+use Rattle.papaya_call.specs.Machine.{IsValidState}
 use Rattle.papaya_call.specs.declared.machine.State.TheVariants.{Ended}
 use Rattle.papaya_call.specs.declared.chain.ask.Answer.{Answer}
 use Rattle.papaya_call.specs.declared.chain.ask.Ask.TheVariants as asks
 use Rattle.papaya_call.specs.declared.chain.machine.Machine.{Machine}
 use Rattle.papaya_call.specs.declared.chain.machine.Phase.{Phase}
 use Rattle.papaya_call.specs.declared.chain.machine.Phase.TheVariants.{Calling, Linking, Copying as Copying_root}
-use Rattle.papaya_call.specs.ChainMachine.{IsFit, IsFitAsk, IsStanding, after, ask_of, asks_in, started}
+use Rattle.papaya_call.specs.ChainMachine.{IsFit, IsFitAsk, IsValid, after, ask_of, asks_in, started}
 use Rattle.papaya_call_law.specs.Alone.{IsRead}
-use Rattle.papaya_call_law.specs.Says.{said_in, said_of_removal}
+use Rattle.papaya_call_law.specs.Says.{result_in, result_of_removal}
 use Rattle.papaya_call_law.proofs.ReliesHeld.{ended_in}
 use Rattle.papaya_core_store.specs.Asks.{PerformsAsk}
 use Rattle.papaya_core_store.specs.Store.{StoreState}
@@ -61,7 +61,7 @@ module _ {K V S F : Type 0} (g : Mut F (Bor K × (Bor V × Unit {0})) Bool) (eq 
   -- The removal came there as one by this key, and its closure was called at most once. Where no pairs are being moved, it is in the root table.
   pub record IsMatchedRun (k : K) (s : StoreState K V S) (f : F) (m : Machine) : Type 0 where
     pub came : HasCome eq hash map (keyed_removal k) s (removing m k)
-    pub judged : IsJudged g matches map.store agrees (said_in RemoveIf m.call.state) f
+    pub judged : IsJudged g matches map.store agrees (result_in RemoveIf m.call.state) f
     pub rooted : next_of map.store ≡ 0 → IsInRoot map.store s m
 
   -- as it begins
@@ -85,11 +85,11 @@ module _ {K V S F : Type 0} (g : Mut F (Bor K × (Bor V × Unit {0})) Bool) (eq 
     performs = performed g eq hash matches k key.alike m now.came.task (ask_of m) s f answer s' f' told
 
     -- it stands as it stood, and what it has read stands there
-    stands : IsStanding m
-    stands = (now.came.lone going).lawful.core.standing 0 (removing m k) refl
+    stands : IsValid m
+    stands = (now.came.lone going).lawful.core.valid 0 (removing m k) refl
 
-    pub matched_stands : IsStandingState RemoveIf m.call.state
-    matched_stands = subst (λ t. IsStandingState t m.call.state) now.came.task stands.call.state
+    pub matched_stands : IsValidState RemoveIf m.call.state
+    matched_stands = subst (λ t. IsValidState t m.call.state) now.came.task stands.call.state
 
     read : m.phase ≡ Calling → IsRead (word_at s.words) m.call.state
     read is = (subst (IsPhaseRead m.call.mode (word_at s.words) m.call.state) is (now.came.lone going).current.read).0
@@ -127,5 +127,5 @@ module _ {K V S F : Type 0} (g : Mut F (Bor K × (Bor V × Unit {0})) Bool) (eq 
         reply (ap reply_in ends) (λ _ _ _. now.came)
 
     -- its reply is what its closure said
-    pub matched_judged : IsJudged g matches map.store agrees (said_of_removal reply) f
-    matched_judged = subst (λ st. IsJudged g matches map.store agrees (said_in RemoveIf st) f) (ended_at m reply ends) now.judged
+    pub matched_judged : IsJudged g matches map.store agrees (result_of_removal reply) f
+    matched_judged = subst (λ st. IsJudged g matches map.store agrees (result_in RemoveIf st) f) (ended_at m reply ends) now.judged

@@ -10,7 +10,7 @@ use Rattle.papaya_words.specs.declared.resize_mode.ResizeMode.{ResizeMode}
 use Rattle.papaya_words.specs.declared.resize_mode.ResizeMode.TheVariants.{Incremental, Blocking}
 use Rattle.papaya_words.specs.declared.word.Kind.{Kind}
 use Rattle.papaya_words.specs.declared.word.Kind.TheVariants as kinds
-use Rattle.papaya_call.specs.Machine.{IsStandingState, after as call_after, agreed, asks as call_asks, ask_of as call_ask_of, at_root, goes_as, left, passes, removes}
+use Rattle.papaya_call.specs.Machine.{IsValidState, after as call_after, agreed, asks as call_asks, ask_of as call_ask_of, at_root, goes_as, left, passes, removes}
 use Rattle.papaya_call.specs.declared.compute.Remembered.{Remembered}
 use Rattle.papaya_call.specs.declared.machine.Machine.{Machine as Call_machine}
 use Rattle.papaya_call.specs.declared.machine.State.{State}
@@ -41,7 +41,7 @@ use Rattle.papaya_call.specs.ChainMachine.{after, ask_of, asks_in}
 use Rattle.papaya_call_law.specs.Goes.{Goes, IsOwnStep}
 use Rattle.papaya_call_law.specs.ChainRelies.{left_by}
 use Rattle.papaya_call_law.specs.Alone.{IsRead}
-use Rattle.papaya_call_law.specs.Says.{Said, Agrees, Inserts, Makes, Removes, said_in}
+use Rattle.papaya_call_law.specs.Says.{ClosureResult, Agrees, Inserts, Makes, Removes, result_in}
 use Rattle.papaya_call_law.proofs.AloneSteps.{exchange_done}
 use Rattle.papaya_core_store.specs.Performs.{size_of}
 use Rattle.papaya_core_store.specs.Store.{StoreState, Stored, pair_of}
@@ -51,14 +51,14 @@ use Rattle.papaya_seq.specs.Removes.{IsRemovalAnswer, IsShown, JudgesTo}
 use Rattle.papaya_seq.proofs.SeekTurns.{IsAnswered}
 
 -- A state in which a removal stands on nothing that its closure said.
-abbrev pub IsUnsaid : State → Type 0
-IsUnsaid state = said_in RemoveIf state ≡ None
+abbrev pub IsWithoutResult : State → Type 0
+IsWithoutResult state = result_in RemoveIf state ≡ None
 
-passes_unsaid : (mode : ResizeMode) (fill : Option ℕ) (t : ℕ) → IsUnsaid (passes RemoveIf mode fill t)
+passes_unsaid : (mode : ResizeMode) (fill : Option ℕ) (t : ℕ) → IsWithoutResult (passes RemoveIf mode fill t)
 passes_unsaid (Incremental chunk) fill t = refl
 passes_unsaid Blocking fill t = refl
 
-removes_unsaid : (kind : Kind) (at : _) (word : ℕ) → IsUnsaid (removes kind at word)
+removes_unsaid : (kind : Kind) (at : _) (word : ℕ) → IsWithoutResult (removes kind at word)
 removes_unsaid kinds.Empty at word = refl
 removes_unsaid kinds.Live at word = refl
 removes_unsaid kinds.Marked at word = refl
@@ -67,22 +67,22 @@ removes_unsaid kinds.Buried at word = refl
 removes_unsaid kinds.Closed at word = refl
 
 -- a search leads to such a state
-goes_unsaid : (mode : ResizeMode) (held : Remembered) (sight : ProbeStep) → IsUnsaid (goes_as RemoveIf mode held sight)
+goes_unsaid : (mode : ResizeMode) (held : Remembered) (sight : ProbeStep) → IsWithoutResult (goes_as RemoveIf mode held sight)
 goes_unsaid mode held (seen.On search) = refl
 goes_unsaid mode held (seen.Empty at) = refl
 goes_unsaid mode held (seen.Here at word) = removes_unsaid (kind_of word) at word
 goes_unsaid mode held (seen.Over t) = passes_unsaid mode held.fill t
 
 -- and so does the root
-root_unsaid : (fill : Option ℕ) (word : ℕ) → IsUnsaid (at_root RemoveIf fill word)
-root_unsaid fill word = cond_both (word == 0) (Ended Absent) (Searching (Sizing word)) IsUnsaid (λ _. refl) (λ _. refl)
+root_unsaid : (fill : Option ℕ) (word : ℕ) → IsWithoutResult (at_root RemoveIf fill word)
+root_unsaid fill word = cond_both (word == 0) (Ended Absent) (Searching (Sizing word)) IsWithoutResult (λ _. refl) (λ _. refl)
 
 -- and a next table
-left_unsaid : (fill : Option ℕ) (t word : ℕ) → IsUnsaid (left RemoveIf fill t word)
-left_unsaid fill t word = cond_both (word == 0) (Ended Absent) (Searching (Sizing word)) IsUnsaid (λ _. refl) (λ _. refl)
+left_unsaid : (fill : Option ℕ) (t word : ℕ) → IsWithoutResult (left RemoveIf fill t word)
+left_unsaid fill t word = cond_both (word == 0) (Ended Absent) (Searching (Sizing word)) IsWithoutResult (λ _. refl) (λ _. refl)
 
 -- a call that is set aside is in one
-aside_unsaid : (state : State) (t : ℕ) → left_by state ≡ Some t → IsUnsaid state
+aside_unsaid : (state : State) (t : ℕ) → left_by state ≡ Some t → IsWithoutResult state
 aside_unsaid (Leaving u) t e = refl
 aside_unsaid (Growing need) t e = refl
 aside_unsaid AtRoot t e = absurd cc
@@ -102,7 +102,7 @@ aside_unsaid (Ended reply) t e = absurd cc
 
 module _ {K V S F : Type 0} (g : Mut F (Bor K × (Bor V × Unit {0})) Bool) (matches : K → Bool) (first : StoreState K V S) (agrees : F) where
   -- the closure is as it was handed in, or was called once, at the pair that it answered for
-  abbrev pub IsJudged : Option Said → F → Type 0
+  abbrev pub IsJudged : Option ClosureResult → F → Type 0
   IsJudged None f = f ≡ agrees
   IsJudged (Some (Agrees n answered)) f = (p : Stored K V) × (pair_of first n ≡ Some p) × JudgesTo g agrees f p answered
   IsJudged (Some (Inserts shown)) f = ⊥
@@ -111,10 +111,10 @@ module _ {K V S F : Type 0} (g : Mut F (Bor K × (Bor V × Unit {0})) Bool) (mat
 
   -- as a state of a removal has it
   abbrev pub IsJudgedIn : State → F → Type 0
-  IsJudgedIn state f = IsJudged (said_in RemoveIf state) f
+  IsJudgedIn state f = IsJudged (result_in RemoveIf state) f
 
   -- one that asks to show a pair has not called its closure
-  pub yet_uncalled : (made : Made) (hashed : ℕ) (state : State) (n : ℕ) → IsStandingState RemoveIf state → call_asks made hashed state ≡ ShowPair n
+  pub yet_uncalled : (made : Made) (hashed : ℕ) (state : State) (n : ℕ) → IsValidState RemoveIf state → call_asks made hashed state ≡ ShowPair n
       → (f : F) → IsJudgedIn state f → f ≡ agrees
   yet_uncalled made hashed AtRoot n stands asks f judged = judged
   yet_uncalled made hashed Making n stands asks f judged = absurd stands
@@ -133,7 +133,7 @@ module _ {K V S F : Type 0} (g : Mut F (Bor K × (Bor V × Unit {0})) Bool) (mat
   yet_uncalled made hashed (Growing need) n stands asks f judged = judged
   yet_uncalled made hashed (Ended reply) n stands asks f judged = absurd cc
 
-  unjudged : (state : State) (f f' : F) → IsUnsaid state → f' ≡ f → f ≡ agrees → IsJudgedIn state f'
+  unjudged : (state : State) (f f' : F) → IsWithoutResult state → f' ≡ f → f ≡ agrees → IsJudgedIn state f'
   unjudged state f f' unsaid same alike = subst (λ said. IsJudged said f') (sym unsaid) (same ∙ alike)
 
   module _ (eq : K → K → Bool) (hash : S → K → ℕ) (s : StoreState K V S) (f : F) (s' : StoreState K V S) (f' : F)
@@ -144,7 +144,7 @@ module _ {K V S F : Type 0} (g : Mut F (Bor K × (Bor V × Unit {0})) Bool) (mat
       at st = record { task = RemoveIf; hash = hashed; mode = mode; initial = initial; made = made; remembered = held; state = st }
 
       -- the size of a table
-      sized_unsaid : (t : ℕ) (o : Option TableWords) → IsUnsaid (call_after (at (Searching (Sizing t))) (size_of o)).state
+      sized_unsaid : (t : ℕ) (o : Option TableWords) → IsWithoutResult (call_after (at (Searching (Sizing t))) (size_of o)).state
       sized_unsaid t None = refl
       sized_unsaid t (Some table) = refl
 
@@ -166,7 +166,7 @@ module _ {K V S F : Type 0} (g : Mut F (Bor K × (Bor V × Unit {0})) Bool) (mat
           by_answer false judged = judged
 
       -- a step of the call itself
-      own_judged : (st : State) (answer : Call_answer) → IsStandingState RemoveIf st → IsRead (word_at s.words) st → IsJudgedIn st f
+      own_judged : (st : State) (answer : Call_answer) → IsValidState RemoveIf st → IsRead (word_at s.words) st → IsJudgedIn st f
           → IsRemovalAnswer g matches (call_ask_of (at st)) s f answer s' f' → IsJudgedIn (call_after (at st) answer).state f'
       own_judged AtRoot answer stands read alike (e, _, same) =
           subst (λ a. IsJudgedIn (call_after (at AtRoot) a).state f') (sym e)
@@ -245,13 +245,13 @@ module _ {K V S F : Type 0} (g : Mut F (Bor K × (Bor V × Unit {0})) Bool) (mat
     aside_same call (Copying_root copying) t answer e (performs, same) = same
 
     -- a step of the call, or of the copy that it is set aside for
-    pub judged_more : (m : Machine) → m.call.task ≡ RemoveIf → (answer : Answer) → Goes m answer → IsStandingState m.call.task m.call.state
+    pub judged_more : (m : Machine) → m.call.task ≡ RemoveIf → (answer : Answer) → Goes m answer → IsValidState m.call.task m.call.state
         → (m.phase ≡ Calling → IsRead (word_at s.words) m.call.state) → IsJudgedIn m.call.state f
         → IsAnswered eq hash g matches (ask_of m) s f answer s' f' → IsJudgedIn (after m answer).call.state f'
     judged_more m task answer goes stands read judged told = by_way goes
       where
         -- where it is set aside
-        aside : (t : ℕ) → left_by m.call.state ≡ Some t → (call : Call_machine) → IsUnsaid call.state → (after m answer).call ≡ call
+        aside : (t : ℕ) → left_by m.call.state ≡ Some t → (call : Call_machine) → IsWithoutResult call.state → (after m answer).call ≡ call
             → IsJudgedIn (after m answer).call.state f'
         aside t left call unsaid is =
             let alike : f ≡ agrees = subst (λ said. IsJudged said f) (aside_unsaid m.call.state t left) judged in
@@ -269,7 +269,7 @@ module _ {K V S F : Type 0} (g : Mut F (Bor K × (Bor V × Unit {0})) Bool) (mat
             let it : c ≡ at c.made c.hash c.mode c.initial c.remembered c.state = ap (λ t. record c { task = t }) task in
             subst (λ (d : Call_machine). IsJudgedIn d.state f') (sym own.call)
             (subst (λ (d : Call_machine). IsJudgedIn (call_after d own.told).state f') (sym it)
-            (own_judged c.made c.hash c.mode c.initial c.remembered c.state own.told (subst (λ t. IsStandingState t c.state) task stands)
+            (own_judged c.made c.hash c.mode c.initial c.remembered c.state own.told (subst (λ t. IsValidState t c.state) task stands)
             (read own.phase) judged answered))
 
         by_way : Goes m answer → IsJudgedIn (after m answer).call.state f'
@@ -278,5 +278,5 @@ module _ {K V S F : Type 0} (g : Mut F (Bor K × (Bor V × Unit {0})) Bool) (mat
         by_way (inr (inr (inl entered))) = aside entered.from entered.left (record m.call { state = Searching (Sizing entered.table) }) refl entered.call
         by_way (inr (inr (inr (inl anew)))) =
             aside anew.from anew.left (call_after (record m.call { state = AtRoot }) (Word_read anew.root))
-            (subst (λ (t : Task). IsUnsaid (at_root t m.call.remembered.fill anew.root)) (sym task) (root_unsaid m.call.remembered.fill anew.root)) anew.call
+            (subst (λ (t : Task). IsWithoutResult (at_root t m.call.remembered.fill anew.root)) (sym task) (root_unsaid m.call.remembered.fill anew.root)) anew.call
         by_way (inr (inr (inr (inr refused)))) = aside refused.from refused.left (record m.call { state = Ended _ }) refl refused.call

@@ -15,8 +15,8 @@ use Rattle.papaya_call.specs.declared.chain.ask.Ask.TheVariants as asks
 use Rattle.papaya_call.specs.declared.chain.machine.Machine.{Machine}
 use Rattle.papaya_call.specs.declared.chain.machine.Phase.{Phase}
 use Rattle.papaya_call.specs.declared.chain.machine.Phase.TheVariants.{Calling, Linking, Copying as Copying_root}
-use Rattle.papaya_call.specs.ChainMachine.{IsFit, IsFitAsk, IsStanding, after, ask_of, asks_in, started}
-use Rattle.papaya_call.specs.Machine.{IsStandingState, ask_of as call_ask_of}
+use Rattle.papaya_call.specs.ChainMachine.{IsFit, IsFitAsk, IsValid, after, ask_of, asks_in, started}
+use Rattle.papaya_call.specs.Machine.{IsValidState, ask_of as call_ask_of}
 use Rattle.papaya_call_law.specs.Relies.{IsNumberAsk}
 use Rattle.papaya_core_store.specs.Store.{StoreState}
 use Rattle.papaya_core_store.specs.Tables.{word_at}
@@ -141,7 +141,7 @@ module _ {K V S F : Type 0} (g : Mut F (Bor K × (Bor V × Unit {0})) Bool) (eq 
     unnumbered query = removal_numbers m.call.made m.call.hash m.call.state (⊎_elim
         (λ (has : HasMatch s f m). matched_stands g eq hash matches hashed map agrees has.one.pair.key (key_of query has.one) s f m has.run now.log
         answer s' f' told)
-        (λ (lacks : HasNoMatch s f m). subst (λ t. IsStandingState t m.call.state) lacks.seeking.task lacks.seeking.standing.call.state)
+        (λ (lacks : HasNoMatch s f m). subst (λ t. IsValidState t m.call.state) lacks.seeking.task lacks.seeking.valid.call.state)
         (now.way query))
 
     -- after an answer
@@ -184,21 +184,21 @@ module _ {K V S F : Type 0} (g : Mut F (Bor K × (Bor V × Unit {0})) Bool) (eq 
         (now.way query)
 
   -- it is a removal, which asks for itself what removals ask
-  pub asked_so : IsQuery → (s : StoreState K V S) (f : F) (m : Machine) → IsUnderWay s f m → IsStanding m → (ask : Call_ask)
+  pub asked_so : IsQuery → (s : StoreState K V S) (f : F) (m : Machine) → IsUnderWay s f m → IsValid m → (ask : Call_ask)
       → ask_of m ≡ asks.Call ask → ((reply : Reply) → ask ≡ Ask_done reply → ⊥) → IsRemovalAsk ask
   asked_so query s f m now stands ask e going =
       let task : m.call.task ≡ RemoveIf = ⊎_elim (λ (has : HasMatch s f m). has.run.came.task) (λ (lacks : HasNoMatch s f m). lacks.seeking.task)
       (now.way query) in
       let is : call_ask_of m.call ≡ ask = own_ask m ask e in
-      subst IsRemovalAsk is (removal_asks m.call.made m.call.hash m.call.state (subst (λ t. IsStandingState t m.call.state) task stands.call.state)
+      subst IsRemovalAsk is (removal_asks m.call.made m.call.hash m.call.state (subst (λ t. IsValidState t m.call.state) task stands.call.state)
       (λ reply done. going reply (sym is ∙ done)))
 
   -- where it asks to show a pair, it has not called its closure
-  pub shows_first : IsQuery → (s : StoreState K V S) (f : F) (m : Machine) → IsUnderWay s f m → IsStanding m → (n : ℕ)
+  pub shows_first : IsQuery → (s : StoreState K V S) (f : F) (m : Machine) → IsUnderWay s f m → IsValid m → (n : ℕ)
       → ask_of m ≡ asks.Call (ShowPair n) → f ≡ agrees
   shows_first query s f m now stands n e = ⊎_elim
       (λ (has : HasMatch s f m). yet_uncalled g matches map.store agrees m.call.made m.call.hash m.call.state n
-      (subst (λ t. IsStandingState t m.call.state) has.run.came.task stands.call.state) (own_ask m (ShowPair n) e) f has.run.judged)
+      (subst (λ t. IsValidState t m.call.state) has.run.came.task stands.call.state) (own_ask m (ShowPair n) e) f has.run.judged)
       (λ (lacks : HasNoMatch s f m). lacks.uncalled)
       (now.way query)
 

@@ -10,7 +10,7 @@ use Rattle.papaya_call.specs.declared.machine.State.TheVariants.{Writing, Offeri
 use Rattle.papaya_call.specs.declared.machine.State.TheVariants.{Pairing, Putting, Burying}
 use Rattle.papaya_call.specs.declared.machine.State.TheVariants.{Counting, Noting, Uncounting}
 use Rattle.papaya_call.specs.declared.machine.State.TheVariants.{Leaving, Growing, Ended}
-use Rattle.papaya_call.specs.Machine.{IsStandingState, asks as call_asks}
+use Rattle.papaya_call.specs.Machine.{IsValidState, asks as call_asks}
 use Rattle.papaya_call.specs.declared.made.Made.{Made}
 use Rattle.papaya_call.specs.declared.ask.Answer.{Answer as Call_answer}
 use Rattle.papaya_call.specs.declared.ask.Answer.TheVariants.{Yes}
@@ -81,7 +81,7 @@ same_matches eq matches k alike None = refl
 same_matches eq matches k alike (Some p) = alike p.key
 
 -- what a removal asks for itself, where its machine stands: it makes nothing, and shows only a pair
-pub removal_asks : (made : Made) (hash : ℕ) (state : State) → IsStandingState RemoveIf state
+pub removal_asks : (made : Made) (hash : ℕ) (state : State) → IsValidState RemoveIf state
     → ((reply : Reply) → call_asks made hash state ≡ Ask_done reply → ⊥) → IsRemovalAsk (call_asks made hash state)
 removal_asks made hash AtRoot stands going = tt
 removal_asks made hash Making stands going = absurd stands
@@ -104,7 +104,7 @@ removal_asks made hash (Growing need) stands going = tt
 removal_asks made hash (Ended reply) stands going = absurd (going reply refl)
 
 -- and it asks nothing of the numbers for pairs
-pub removal_numbers : (made : Made) (hash : ℕ) (state : State) → IsStandingState RemoveIf state → IsNumberAsk (call_asks made hash state) → ⊥
+pub removal_numbers : (made : Made) (hash : ℕ) (state : State) → IsValidState RemoveIf state → IsNumberAsk (call_asks made hash state) → ⊥
 removal_numbers made hash AtRoot stands asks = asks
 removal_numbers made hash Making stands asks = asks
 removal_numbers made hash (Opening t) stands asks = asks

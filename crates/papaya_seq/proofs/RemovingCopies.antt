@@ -5,7 +5,7 @@ use Rattle.std.specs.Fn.{Mut}
 use Rattle.papaya_call.specs.declared.chain.ask.Answer.{Answer}
 use Rattle.papaya_call.specs.declared.chain.ask.Ask.TheVariants as asks
 use Rattle.papaya_call.specs.declared.chain.machine.Machine.{Machine}
-use Rattle.papaya_call.specs.ChainMachine.{IsStanding, after, ask_of}
+use Rattle.papaya_call.specs.ChainMachine.{IsValid, after, ask_of}
 use Rattle.papaya_call_law.proofs.ChainStanding.{chain_ask_fits, chain_stands}
 use Rattle.papaya_core_store.specs.Store.{StoreState}
 use Rattle.papaya_seq.specs.Copies.{Copies, IsSized, copy_of}
@@ -29,15 +29,15 @@ module _ {K V S F : Type 0} (g : Mut F (Bor K × (Bor V × Unit {0})) Bool) (eq 
 
   -- each answer leads it on, and brings it nearer to its end
   pub removing_copies : (told : List Answer) (s : StoreState K V S) (f : F) (m : Machine) (s' : StoreState K V S) (m' : Machine)
-      → Copies eq hash copy_of after told s m s' m' → IsStanding m → IsGoing s f m → IsGoing s' f m' × IsStanding m' × (left_of s' m' ≤ left_of s m)
-  removing_copies [] s f m s' m' (same, is) standing now =
-      subst (λ x. IsGoing x f m' × IsStanding m' × (left_of x m' ≤ left_of s m)) (sym same)
-      (subst (λ (y : Machine). IsGoing s f y × IsStanding y × (left_of s y ≤ left_of s m)) (sym is) (now, standing, omega arith))
-  removing_copies (answer ∷ rest) s f m s' m' (copy, asked, middle, performs, more) standing now =
+      → Copies eq hash copy_of after told s m s' m' → IsValid m → IsGoing s f m → IsGoing s' f m' × IsValid m' × (left_of s' m' ≤ left_of s m)
+  removing_copies [] s f m s' m' (same, is) valid now =
+      subst (λ x. IsGoing x f m' × IsValid m' × (left_of x m' ≤ left_of s m)) (sym same)
+      (subst (λ (y : Machine). IsGoing s f y × IsValid y × (left_of s y ≤ left_of s m)) (sym is) (now, valid, omega arith))
+  removing_copies (answer ∷ rest) s f m s' m' (copy, asked, middle, performs, more) valid now =
       let is : ask_of m ≡ asks.Copy copy = copy_asked (ask_of m) copy asked in
       let answered = answered_copy g eq hash matches m copy (sym is) s f answer middle performs answer middle f refl refl refl in
-      let fit = under_way_fit g eq hash matches hashed map agrees s f m now answer middle f answered query (chain_ask_fits m standing) in
+      let fit = under_way_fit g eq hash matches hashed map agrees s f m now answer middle f answered query (chain_ask_fits m valid) in
       let next = under_way_more g eq hash matches hashed map agrees s f m now answer middle f answered in
       let nearer = under_way_nears g eq hash matches hashed map agrees s f m now answer middle f answered query in
-      let (end, stands, near) = removing_copies rest middle f (after m answer) s' m' more (chain_stands m standing answer fit) next in
+      let (end, stands, near) = removing_copies rest middle f (after m answer) s' m' more (chain_stands m valid answer fit) next in
       (end, stands, omega (arith, near, nearer))

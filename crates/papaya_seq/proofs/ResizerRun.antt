@@ -20,7 +20,7 @@ use Rattle.papaya_call.specs.declared.chain.resizer.Resizer.{Resizer}
 use Rattle.papaya_call.specs.declared.chain.resizer.ResizerState.{ResizerState}
 use Rattle.papaya_call.specs.declared.chain.resizer.ResizerState.TheVariants as stages
 use Rattle.papaya_call.specs.ChainMachine.{IsFit}
-use Rattle.papaya_call.specs.Resizer.{IsStandingResizer, after, ask_of, asks_in, begun, reply_in, reply_of}
+use Rattle.papaya_call.specs.Resizer.{IsValidResizer, after, ask_of, asks_in, begun, reply_in, reply_of}
 use Rattle.papaya_call.specs.TableSize.{entries_of}
 use Rattle.papaya_words_keys.specs.Hashes.{hash_of}
 use Rattle.papaya_core_store.specs.CopyAsks.{PerformsCopy}
@@ -102,7 +102,7 @@ module _ {K V S : Type 0} (eq : K → K → Bool) (hash : S → K → ℕ) (s : 
     pub call : ResizeCall K V resize
     pub came : HasResizedTo eq hash s resize call store z
     pub causes : IsCaused eq hash s resize store z
-    pub standing : IsStandingResizer z
+    pub valid : IsValidResizer z
 
 module _ {K V S H : Type 0} (eq : K → K → Bool) (input : K → List (List ℕ)) (build : S → H) (write : H → List ℕ → H) (finish : H → ℕ)
     (classes : IsEquivalence eq) (respects : (x y : K) → eq x y ≡ true → input x ≡ input y) (s : MapState K V S) (resize : Resize)
@@ -115,14 +115,14 @@ module _ {K V S H : Type 0} (eq : K → K → Bool) (input : K → List (List �
 
   -- it begins
   pub resizing_begun : (resize ≡ resizes.Chunk → ⊥) → (z : Resizer) (number : ℕ) → z ≡ begun resize s.mode.resize s.initial number
-      → IsStandingResizer z → IsGoing s.store z
-  resizing_begun whole z number is standing =
+      → IsValidResizer z → IsGoing s.store z
+  resizing_begun whole z number is valid =
       let call = call_for resize whole in
       subst (IsGoing s.store) (sym is) (record {
         call = call;
         came = resize_begun eq input build write finish classes respects s resize call lawful number;
         causes = caused_begun eq hash s resize (begun resize s.mode.resize s.initial number) call.at_root;
-        standing = subst IsStandingResizer is standing;
+        valid = subst IsValidResizer is valid;
       })
 
   module _ (fits : FitsSigned w64 s.store.count.sum) where
@@ -143,22 +143,22 @@ module _ {K V S H : Type 0} (eq : K → K → Bool) (input : K → List (List �
       -- the answer is within the limits
       pub resizing_fit : IsFit answer
       resizing_fit = (performed_copy eq hash false ask store answer store'
-          (unnumbered store.words.tables (now.came.lone (asking_goes z ask asked)).lawful.core.sizes) (resizer_fits z now.standing ask asked) performs).fit
+          (unnumbered store.words.tables (now.came.lone (asking_goes z ask asked)).lawful.core.sizes) (resizer_fits z now.valid ask asked) performs).fit
 
       -- less is left
       pub resizing_nears : resizer_left store' (after z answer) < resizer_left store z
       resizing_nears = resize_nears eq input build write finish classes respects s resize now.call lawful store z ask answer store' asked performs now.came
 
       -- and it goes on
-      pub resizing_more : IsStandingResizer (after z answer) → IsGoing store' (after z answer)
-      resizing_more standing = record {
+      pub resizing_more : IsValidResizer (after z answer) → IsGoing store' (after z answer)
+      resizing_more valid = record {
         call = now.call;
         came = resize_more eq input build write finish classes respects s resize now.call lawful store z ask answer store' asked performs now.came;
         causes = caused_more eq hash s resize pairs slots_most store z ask answer store' asked performs
             (resize_grown eq input build write finish classes respects s resize now.call lawful store z ask answer store' asked performs now.came)
             (resize_caused eq input build write finish classes respects s resize now.call lawful store z ask answer store' asked performs now.came)
             now.came.resize_is now.came.initial_is now.came.logs now.causes;
-        standing = standing;
+        valid = valid;
       }
 
     module _ (store : StoreState K V S) (z : Resizer) (now : IsGoing store z) where

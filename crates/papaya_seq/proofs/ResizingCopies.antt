@@ -44,6 +44,6 @@ module _ {K V S H : Type 0} (eq : K → K → Bool) (input : K → List (List �
       let fit = resizing_fit eq input build write finish classes respects s resize lawful fits store z copy answer middle asked performs now in
       let nearer = resizing_nears eq input build write finish classes respects s resize lawful fits store z copy answer middle asked performs now in
       let next = resizing_more eq input build write finish classes respects s resize lawful fits store z copy answer middle asked performs now
-      (resizer_stands z answer now.standing fit) in
+      (resizer_stands z answer now.valid fit) in
       let (end, near) = resizing_copies rest middle (after z answer) store' z' more next in
       (end, omega (arith, near, nearer))

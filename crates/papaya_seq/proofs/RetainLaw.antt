@@ -16,7 +16,7 @@ use Rattle.papaya_words.specs.declared.word.Kind.TheVariants as kinds
 use Rattle.papaya_call.specs.Search.{IsSize}
 use Rattle.papaya_call.specs.declared.ask.At.{At}
 use Rattle.papaya_call.specs.declared.ask.At.TheVariants.{Root, Next, Aborted, Done, Slot, Made}
-use Rattle.papaya_call_law.specs.ChainTold.{nothing_loaded}
+use Rattle.papaya_call_law.specs.ChainAnswers.{nothing_loaded}
 use Rattle.papaya_words_law.specs.Allows.{MayBury}
 use Rattle.papaya_words_law.specs.ChainContent.{joined}
 use Rattle.papaya_words_law.specs.Code.{Coding, IsHashed, IsOfKind, code}
@@ -30,10 +30,10 @@ use Rattle.papaya_words_law.proofs.CodeViews.{word_of_kind}
 use Rattle.papaya_words_law.proofs.Moments.{allowed_append, run-append}
 use Rattle.papaya_words_law.proofs.OneMap.{keeping, root_reached}
 use Rattle.papaya_words_law.proofs.Slots.{put_elsewhere, put_there, slot_cases}
-use Rattle.papaya_call_law.specs.Told.{word_of}
+use Rattle.papaya_call_law.specs.TrueAnswers.{word_of}
 use Rattle.papaya_core_timeline.specs.Content.{content, pairs_from, pairs_of_kind, pairs_of_slots}
 use Rattle.papaya_core_timeline.specs.Core.{CoreState}
-use Rattle.papaya_core_timeline.specs.Kept.{CallTrace, IsKept, IsLawfulCore, coding_of, low, setting_of}
+use Rattle.papaya_core_timeline.specs.Kept.{CallTrace, IsConsistent, IsLawfulCore, coding_of, low, setting_of}
 use Rattle.papaya_core_store.specs.Store.{StoreState, Stored, pair_of}
 use Rattle.papaya_core_store.specs.Tables.{put, table_of, word_at, word_in, written}
 use Rattle.papaya_core_timeline.proofs.CoreLemmas.{cases_same}
@@ -116,7 +116,7 @@ module _ {K V S : Type 0} (eq : K → K → Bool) (hash : K → ℕ) (s : MapSta
   abbrev store' : StoreState K V S
   store' = buried_at s.store i
 
-  kept : IsKept {A = Unit {0}} eq hash s.mode s.store [] es call_traces
+  kept : IsConsistent {A = Unit {0}} eq hash s.mode s.store [] es call_traces
   kept = lawful.lawful.law.1.1
 
   hashed : IsHashed g c
@@ -231,7 +231,7 @@ module _ {K V S : Type 0} (eq : K → K → Bool) (hash : K → ℕ) (s : MapSta
     mine_apart = λ d r runs differ q q' mine other. absurd mine;
   }
 
-  kept' : (call_traces' : ℕ → CallTrace K V) × IsKept {A = Unit {0}} eq hash s.mode store' [] (es ++ made) call_traces'
+  kept' : (call_traces' : ℕ → CallTrace K V) × IsConsistent {A = Unit {0}} eq hash s.mode store' [] (es ++ made) call_traces'
   kept' = (
     _,
     leaves_kept eq hash keys (core_of s) 0 core' refl es call_traces lawful.lawful.core kept made nothing_loaded leaving None refl
@@ -278,7 +278,7 @@ module _ {K V S : Type 0} (eq : K → K → Bool) (hash : K → ℕ) (s : MapSta
       chunked = lawful.lawful.core.chunked;
       limit = lawful.lawful.core.limit;
       sizes = sizes';
-      standing = λ d q e.
+      valid = λ d q e.
           absurd cc;
       going = λ d q e. absurd cc;
       resizers = λ d z e. absurd cc;

@@ -8,14 +8,14 @@ use Rattle.papaya_words_law.proofs.Moments.{allowed_first}
 use Rattle.papaya_words_law.proofs.OneMap.{later, sound}
 use Rattle.papaya_core_store.specs.Store.{StoreState, Stored}
 use Rattle.papaya_core_timeline.specs.Core.{IsCore}
-use Rattle.papaya_core_timeline.specs.Kept.{CallTrace, IsKept, coding_of, low, setting_of}
+use Rattle.papaya_core_timeline.specs.Kept.{CallTrace, IsConsistent, coding_of, low, setting_of}
 use Rattle.papaya_core_timeline.specs.declared.seat.Seat.{Seat}
 use Rattle.papaya_core_timeline.proofs.KeptSettings.{IsLawfulKeys, tables_hashed}
 
 module _ {K V S A : Type 0} (eq : K → K → Bool) (hash : K → ℕ) (keys : IsLawfulKeys eq hash) (mode : Mode) (store store' : StoreState K V S)
     (callers callers' : List (Seat K V A)) where
   pub root_stays : (es made : List (Exchange (Stored K V))) (call_traces call_traces' : ℕ → CallTrace K V)
-      → IsKept eq hash mode store callers es call_traces → IsCore store' callers' mode → IsKept eq hash mode store' callers' (es ++ made) call_traces'
+      → IsConsistent eq hash mode store callers es call_traces → IsCore store' callers' mode → IsConsistent eq hash mode store' callers' (es ++ made) call_traces'
       → 0 < store.words.root → 0 < store'.words.root
   root_stays es made call_traces call_traces' kept core kept' some =
       let g : Setting K (Stored K V) = setting_of eq (low hash) mode store'.words.tables in

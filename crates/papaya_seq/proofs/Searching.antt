@@ -29,7 +29,7 @@ use Rattle.papaya_core_store.specs.Store.{StoreState, pair_of}
 use Rattle.papaya_core_store.specs.Performs.{size_of}
 use Rattle.papaya_core_store.specs.Tables.{Tables, hint_at, slot_hint, table_of, word_at, word_in}
 use Rattle.papaya_seq.specs.Looks.{Comes, matches_in}
-use Rattle.papaya_seq.specs.Searches.{GoesOnIn, IsMatchedBy, IsPassedTo, IsThere, IsTurn, IsTurnFrom, IsTurned, Sees, SeesFrom, StandsBy, left_at, left_to, passed_by, passed_on}
+use Rattle.papaya_seq.specs.Searches.{ContinuesIn, IsMatchedBy, IsPassedTo, IsThere, IsProbeHit, IsHitFrom, HasStopped, Sees, SeesFrom, HoldsWord, left_at, left_to, passed_by, passed_on}
 use Rattle.papaya_seq.specs.Searches.{seen_by}
 use Rattle.papaya_seq.specs.declared.search.ProbeHit.{ProbeHit}
 use Rattle.papaya_seq.specs.declared.search.ProbeHit.TheVariants as turns
@@ -53,13 +53,13 @@ hint_read w t i hint table there within read = index_got table.hints i hint read
 
 module _ (so : (number slots : ℕ) → Type 0) where
   -- a search goes on in the table where it stands
-  on_in : (at : Place) → so at.table at.len → GoesOnIn so (go_on at)
-  on_in at is = cond_both (nat_lt at.probe.len at.limit) (On (Looking (next_place at))) (Over at.table) (GoesOnIn so) (λ _. is) (λ _. tt)
+  on_in : (at : Place) → so at.table at.len → ContinuesIn so (go_on at)
+  on_in at is = cond_both (nat_lt at.probe.len at.limit) (On (Looking (next_place at))) (Over at.table) (ContinuesIn so) (λ _. is) (λ _. tt)
 
-  pub hinted_in : (at : Place) (hash hint : ℕ) → so at.table at.len → GoesOnIn so (hinted at hash hint)
-  hinted_in at hash hint is = cond_both (may_hold hint hash) (On (Reading at)) (go_on at) (GoesOnIn so) (λ _. is) (λ _. on_in at is)
+  pub hinted_in : (at : Place) (hash hint : ℕ) → so at.table at.len → ContinuesIn so (hinted at hash hint)
+  hinted_in at hash hint is = cond_both (may_hold hint hash) (On (Reading at)) (go_on at) (ContinuesIn so) (λ _. is) (λ _. on_in at is)
 
-  pub look_in : (kind : Kind) (at : Place) (word : ℕ) → so at.table at.len → GoesOnIn so (look_at kind at word)
+  pub look_in : (kind : Kind) (at : Place) (word : ℕ) → so at.table at.len → ContinuesIn so (look_at kind at word)
   look_in kinds.Empty at word is = tt
   look_in kinds.Live at word is = is
   look_in kinds.Marked at word is = is
@@ -67,7 +67,7 @@ module _ (so : (number slots : ℕ) → Type 0) where
   look_in kinds.Buried at word is = on_in at is
   look_in kinds.Closed at word is = on_in at is
 
-  match_in : (kind : Kind) (at : Place) (word : ℕ) → GoesOnIn so (match_at kind at word)
+  match_in : (kind : Kind) (at : Place) (word : ℕ) → ContinuesIn so (match_at kind at word)
   match_in kinds.Empty at word = tt
   match_in kinds.Live at word = tt
   match_in kinds.Marked at word = tt
@@ -75,7 +75,7 @@ module _ (so : (number slots : ℕ) → Type 0) where
   match_in kinds.Buried at word = tt
   match_in kinds.Closed at word = tt
 
-  pub yes_in : (at : Place) (word : ℕ) (same : Bool) → so at.table at.len → GoesOnIn so (at_yes (Comparing at word) same)
+  pub yes_in : (at : Place) (word : ℕ) (same : Bool) → so at.table at.len → ContinuesIn so (at_yes (Comparing at word) same)
   yes_in at word true is = match_in (kind_of word) at word
   yes_in at word false is = on_in at is
 
@@ -128,12 +128,12 @@ turn_left (turns.Empty at) = refl
 turn_left (turns.Here at word) = refl
 turn_left (turns.Over t) = refl
 
-on_turned : (at : Place) → IsTurned (go_on at)
-on_turned at = cond_both (nat_lt at.probe.len at.limit) (On (Looking (next_place at))) (Over at.table) IsTurned (λ _. tt) (λ _. tt)
+on_turned : (at : Place) → HasStopped (go_on at)
+on_turned at = cond_both (nat_lt at.probe.len at.limit) (On (Looking (next_place at))) (Over at.table) HasStopped (λ _. tt) (λ _. tt)
 
 -- a word whose pair's key is not to be compared
 abbrev Uncompared : ProbeStep → Type 0
-Uncompared seen = ((at : Place) (word : ℕ) → seen ≡ On (Comparing at word) → ⊥) → IsTurned seen
+Uncompared seen = ((at : Place) (word : ℕ) → seen ≡ On (Comparing at word) → ⊥) → HasStopped seen
 
 pub look_turned : (kind : Kind) (at : Place) (word : ℕ) → Uncompared (look_at kind at word)
 look_turned kinds.Empty at word = λ none. tt
@@ -143,7 +143,7 @@ look_turned kinds.Copied at word = λ none. none at word refl
 look_turned kinds.Buried at word = λ none. on_turned at
 look_turned kinds.Closed at word = λ none. on_turned at
 
-match_turned : (kind : Kind) (at : Place) (word : ℕ) → IsTurned (match_at kind at word)
+match_turned : (kind : Kind) (at : Place) (word : ℕ) → HasStopped (match_at kind at word)
 match_turned kinds.Empty at word = tt
 match_turned kinds.Live at word = tt
 match_turned kinds.Marked at word = tt
@@ -152,17 +152,17 @@ match_turned kinds.Buried at word = tt
 match_turned kinds.Closed at word = tt
 
 -- after a comparison it is so
-pub yes_turned : (at : Place) (word : ℕ) (same : Bool) → IsTurned (at_yes (Comparing at word) same)
+pub yes_turned : (at : Place) (word : ℕ) (same : Bool) → HasStopped (at_yes (Comparing at word) same)
 yes_turned at word true = match_turned (kind_of word) at word
 yes_turned at word false = on_turned at
 
 -- a search that goes on stands by no word
-stands_on : (words : At → ℕ) (at : Place) → StandsBy words (go_on at)
-stands_on words at = cond_both (nat_lt at.probe.len at.limit) (On (Looking (next_place at))) (Over at.table) (StandsBy words) (λ _. tt) (λ _. tt)
+stands_on : (words : At → ℕ) (at : Place) → HoldsWord words (go_on at)
+stands_on words at = cond_both (nat_lt at.probe.len at.limit) (On (Looking (next_place at))) (Over at.table) (HoldsWord words) (λ _. tt) (λ _. tt)
 
 -- what a word tells stands by the word
 pub stands_look : (words : At → ℕ) (kind : Kind) (at : Place) (word : ℕ) → words (Slot at.table at.probe.i) ≡ word → kind_of word ≡ kind
-    → StandsBy words (look_at kind at word)
+    → HoldsWord words (look_at kind at word)
 stands_look words kinds.Empty at word is empty = ap kind_of is ∙ empty
 stands_look words kinds.Live at word is e = is
 stands_look words kinds.Marked at word is e = is
@@ -170,7 +170,7 @@ stands_look words kinds.Copied at word is e = is
 stands_look words kinds.Buried at word is e = stands_on words at
 stands_look words kinds.Closed at word is e = stands_on words at
 
-stands_match : (words : At → ℕ) (kind : Kind) (at : Place) (word : ℕ) → words (Slot at.table at.probe.i) ≡ word → StandsBy words (match_at kind at word)
+stands_match : (words : At → ℕ) (kind : Kind) (at : Place) (word : ℕ) → words (Slot at.table at.probe.i) ≡ word → HoldsWord words (match_at kind at word)
 stands_match words kinds.Empty at word is = is
 stands_match words kinds.Live at word is = is
 stands_match words kinds.Marked at word is = is
@@ -180,7 +180,7 @@ stands_match words kinds.Closed at word is = is
 
 -- and so does a comparison
 pub stands_yes : (words : At → ℕ) (at : Place) (word : ℕ) (same : Bool) → words (Slot at.table at.probe.i) ≡ word
-    → StandsBy words (at_yes (Comparing at word) same)
+    → HoldsWord words (at_yes (Comparing at word) same)
 stands_yes words at word true is = stands_match words (kind_of word) at word is
 stands_yes words at word false is = stands_on words at
 
@@ -194,7 +194,7 @@ hinted_led first at hash hint near = cond_both (may_hold hint hash) (On (Reading
     (λ _ none. absurd (none (next_place at) refl)) (λ _ none. tt))
 
 -- a search that passed by places stands by no word, and has found no pair
-pub passed_stands : (words : At → ℕ) (first : Place) (seen : ProbeStep) → IsPassedTo first seen → StandsBy words seen
+pub passed_stands : (words : At → ℕ) (first : Place) (seen : ProbeStep) → IsPassedTo first seen → HoldsWord words seen
 passed_stands words first (On (Sizing n)) led = tt
 passed_stands words first (On (Looking at)) led = tt
 passed_stands words first (On (Reading at)) led = tt
@@ -282,13 +282,13 @@ module _ {K V S : Type 0} (matches : K → Bool) (store : StoreState K V S) wher
 
       -- what was seen is a turn
       pub turn_seen : (state : State) (turn : ProbeHit) (seen : ProbeStep) → seen_by turn ≡ seen → SeesFrom matches store hash state seen → IsProbed seen
-          → GoesOnIn (IsThere store) seen → StandsBy (λ w. word_at store.words w) seen → IsMatchedBy matches store hash seen → IsTurnFrom matches store hash state turn
+          → ContinuesIn (IsThere store) seen → HoldsWord (λ w. word_at store.words w) seen → IsMatchedBy matches store hash seen → IsHitFrom matches store hash state turn
       turn_seen state turn seen is sees within there stands
           matched = record {
             sees = subst (SeesFrom matches store hash state) (sym is) sees;
             within = subst IsProbed (sym is) within;
-            there = subst (GoesOnIn (IsThere store)) (sym is) there;
-            stands = subst (StandsBy (λ w. word_at store.words w)) (sym is) stands;
+            there = subst (ContinuesIn (IsThere store)) (sym is) there;
+            stands = subst (HoldsWord (λ w. word_at store.words w)) (sym is) stands;
             matched = subst (IsMatchedBy matches store hash) (sym is) matched;
           }
 
@@ -326,8 +326,8 @@ module _ {K V S : Type 0} (matches : K → Bool) (store : StoreState K V S) wher
         passed_then at (λ next. passed_by store hash n next) (λ next. sees_passed n next) (hinted at hash (hint_there at)) (sees_hint at)
 
     -- a turn from where the turns before it led
-    pub turns_on : (at place : Place) (turn : ProbeHit) → IsTurn matches store hash at (turns.Next place) → IsTurn matches store hash place turn
-        → IsTurn matches store hash at turn
+    pub turns_on : (at place : Place) (turn : ProbeHit) → IsProbeHit matches store hash at (turns.Next place) → IsProbeHit matches store hash place turn
+        → IsProbeHit matches store hash at turn
     turns_on at place turn before next = record {
       sees = sees_on at (Looking place) (seen_by turn) before.sees next.sees;
       within = next.within;

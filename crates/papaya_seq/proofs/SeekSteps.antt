@@ -27,11 +27,11 @@ use Rattle.papaya_call.specs.declared.chain.ask.Ask.{Ask}
 use Rattle.papaya_call.specs.declared.chain.ask.Answer.{Answer}
 use Rattle.papaya_call.specs.declared.chain.machine.Machine.{Machine}
 use Rattle.papaya_call.specs.declared.chain.machine.Phase.TheVariants.{Calling}
-use Rattle.papaya_call.specs.ChainMachine.{IsFit, IsFitAsk, IsStanding, after, ask_of, asks_in, follows_of, kind_of_ask}
+use Rattle.papaya_call.specs.ChainMachine.{IsFit, IsFitAsk, IsValid, after, ask_of, asks_in, follows_of, kind_of_ask}
 use Rattle.papaya_call.specs.declared.chain.ask.Ask.TheVariants as asks
 use Rattle.papaya_call.specs.declared.chain.ask.Answer.TheVariants as answers
 use Rattle.papaya_call_law.specs.Goes.{IsInOrder, IsOwnStep, link_in}
-use Rattle.papaya_call_law.specs.ChainTold.{IsTold}
+use Rattle.papaya_call_law.specs.ChainAnswers.{IsTrueOf}
 use Rattle.papaya_call_law.proofs.Goes.{machine_goes}
 use Rattle.papaya_call_law.proofs.Names.{call_asks}
 use Rattle.papaya_call_law.proofs.Order.{in_order}
@@ -52,7 +52,7 @@ use Rattle.papaya_words_law.proofs.Logs.{on_comes}
 use Rattle.papaya_words_law.proofs.OneMap.{keeping, keeping_sound}
 use Rattle.papaya_call_law.specs.Alone.{HasMetNone, IsSeeker, IsUnmatched}
 use Rattle.papaya_call_law.specs.Copier.{HasWords}
-use Rattle.papaya_call_law.specs.Told.{word_of}
+use Rattle.papaya_call_law.specs.TrueAnswers.{word_of}
 use Rattle.papaya_call_law.proofs.AloneUnmatched.{machine_meets_none}
 use Rattle.papaya_core_store.specs.Asks.{PerformsAsk}
 use Rattle.papaya_core_store.specs.Performs.{own_key, Exchanges, MakesTable, Refuses}
@@ -63,7 +63,7 @@ use Rattle.papaya_core_store.specs.CopyAsks.{PerformsCopy}
 use Rattle.papaya_core_timeline.proofs.KeptAnswer.{IsAnswered as IsLeft}
 use Rattle.papaya_core_timeline.specs.Advances.{reply_in}
 use Rattle.papaya_core_timeline.specs.Core.{IsCore}
-use Rattle.papaya_core_timeline.specs.Kept.{CallTrace, IsKept, IsMadeFor, slots_in}
+use Rattle.papaya_core_timeline.specs.Kept.{CallTrace, IsConsistent, IsMadeFor, slots_in}
 use Rattle.papaya_core_timeline.specs.Solo.{whatever}
 use Rattle.papaya_core_timeline.proofs.BudgetSpends.{kept_bounded, budget_bounded}
 use Rattle.papaya_core_timeline.proofs.KeptSettings.{IsLawfulKeys}
@@ -158,11 +158,11 @@ module _ {K V S : Type 0} (eq : K → K → Bool) (hash : S → K → ℕ) (s : 
       by_look : (ask : Call_ask) → ask_of m ≡ asks.Call ask → (told : Call_answer) → answer ≡ answers.Call told → Looks store ask told
           → store' ≡ store → IsKeptAsked answer store'
       by_look (Load at) e told is looks same = performed_ask eq hash whatever false (asks.Call (Load at)) store r answer store' r all
-          (subst IsFitAsk e (chain_ask_fits m seeking.standing)) (told, is, (looks, (same, refl)))
+          (subst IsFitAsk e (chain_ask_fits m seeking.valid)) (told, is, (looks, (same, refl)))
       by_look (SizeOf t) e told is looks same = performed_ask eq hash whatever false (asks.Call (SizeOf t)) store r answer store' r all
-          (subst IsFitAsk e (chain_ask_fits m seeking.standing)) (told, is, (looks, (same, refl)))
+          (subst IsFitAsk e (chain_ask_fits m seeking.valid)) (told, is, (looks, (same, refl)))
       by_look (LoadHint t x) e told is looks same = performed_ask eq hash whatever false (asks.Call (LoadHint t x)) store r answer store' r all
-          (subst IsFitAsk e (chain_ask_fits m seeking.standing)) (told, is, (looks, (same, refl)))
+          (subst IsFitAsk e (chain_ask_fits m seeking.valid)) (told, is, (looks, (same, refl)))
       by_look (SameKey n) e told is looks same = record { fit = subst IsFit (sym (is ∙ ap answers.Call looks)) tt; sized = numbered_back }
         where
           numbered_back : AllSized store'.words.tables
@@ -173,7 +173,7 @@ module _ {K V S : Type 0} (eq : K → K → Bool) (hash : S → K → ℕ) (s : 
       by_ask : (ask : Ask) → ask_of m ≡ ask → IsTurn eq hash store ask answer store' → IsKeptAsked answer store'
       by_ask (asks.Call ask) e (told, is, looks, same) = by_look ask e told is looks same
       by_ask (asks.Copy ask) e copied = performed_ask eq hash whatever false (asks.Copy ask) store r answer store' r all
-          (subst IsFitAsk e (chain_ask_fits m seeking.standing)) (copied, refl)
+          (subst IsFitAsk e (chain_ask_fits m seeking.valid)) (copied, refl)
 
   pub seek_fit : IsFit answer
   seek_fit = fits_all.fit
@@ -183,15 +183,15 @@ module _ {K V S : Type 0} (eq : K → K → Bool) (hash : S → K → ℕ) (s : 
     chunked = seeking.core.chunked;
     limit = seeking.core.limit;
     sizes = numbered store'.words.tables fits_all.sized;
-    standing = λ d q
+    valid = λ d q
         e. absurd cc;
     going = λ d q e. absurd cc;
     resizers = λ d z e. absurd cc;
     scanners = λ d v e. absurd cc;
   }
 
-  pub standing' : IsStanding (after m answer)
-  standing' = chain_stands m seeking.standing answer seek_fit
+  pub standing' : IsValid (after m answer)
+  standing' = chain_stands m seeking.valid answer seek_fit
 
   -- it is an answer to what was asked
   ordered : IsInOrder m answer m.phase
@@ -245,13 +245,13 @@ module _ {K V S : Type 0} (eq : K → K → Bool) (hash : S → K → ℕ) (s : 
       let met : HasMetNone m.call.state = met_none m.call.made m.call.hash m.call.state seeking.seeks (ap reply_in (sym asking) ∙ going) in
       subst (λ (y : Call_machine). Seeks y.state) (sym own.call) (seeks_none _ (machine_meets_none m.call seeker own.told met
       (unmatched (calls.ask_of m.call) own.told own.is (subst (λ y. IsTurn eq hash store y answer store') asking turn)
-      (subst (λ y. IsTold gq cq None (run es start) (kind_of_ask m) (follows_of m) call_trace.loaded y answer left.made left.loaded) asking left.told))))
+      (subst (λ y. IsTrueOf gq cq None (run es start) (kind_of_ask m) (follows_of m) call_trace.loaded y answer left.made left.loaded) asking left.told))))
     where
       same_told : (a b : Call_answer) → answer ≡ answers.Call a → answer ≡ answers.Call b → a ≡ b
       same_told a b e f = let g : answers.Call a ≡ answers.Call b = sym e ∙ f in cc
 
       unmatched : (ask : Call_ask) (told : Call_answer) → answer ≡ answers.Call told → IsTurn eq hash store (asks.Call ask) answer store'
-          → IsTold gq cq None (run es start) (kind_of_ask m) (follows_of m) call_trace.loaded (asks.Call ask) answer left.made left.loaded → IsUnmatched ask told
+          → IsTrueOf gq cq None (run es start) (kind_of_ask m) (follows_of m) call_trace.loaded (asks.Call ask) answer left.made left.loaded → IsUnmatched ask told
       unmatched (Load at) told is (a, a_is, looks, same) t = (_, same_told told a is a_is ∙ looks)
       unmatched (LoadHint i x) told is (a, a_is, looks, same) t = (_, same_told told a is a_is ∙ looks)
       unmatched (SameKey n) told is (a, a_is, looks, same) t = same_told told a is a_is ∙ looks
@@ -296,7 +296,7 @@ module _ {K V S : Type 0} (eq : K → K → Bool) (hash : S → K → ℕ) (s : 
     first = λ calling making. absurd (subst Seeks making seeking.seeks);
     stays = root_stays {A = Unit {0}} eq (hash s.store.hasher) keys s.mode store store' [] [] es left.made (λ d. call_trace)
         (λ d. turns.call_trace' eq hash s h keys fits store m answer store' seeking going turn) seeking.kept core'
-        (subst (λ l. IsKept {A = Unit {0}} eq (hash s.store.hasher) s.mode store' [] l
+        (subst (λ l. IsConsistent {A = Unit {0}} eq (hash s.store.hasher) s.mode store' [] l
         (λ d. turns.call_trace' eq hash s h keys fits store m answer store' seeking going turn))
         (sym (append_assoc call_trace.begun call_trace.since left.made)) (turns.kept' eq hash s h keys fits store m answer store' seeking going turn));
   }
@@ -323,7 +323,7 @@ module _ {K V S : Type 0} (eq : K → K → Bool) (hash : S → K → ℕ) (s : 
     carried = λ p l. ⊎_elim (λ old. left.logged p.number p (seeking.carried p old)) (λ told. left.logged p.number p (seeking.last p told)) (left.carried p l);
     made = λ p l. elim (left.new p l) [ inl old ↦ left.logged p.number p (seeking.made p old) | inr new ↦ new.2 ];
     links = links';
-    standing = standing';
+    valid = standing';
     current = current';
     task = (chain_task m answer ordered).0 ∙ seeking.task;
     hash_is = (chain_task m answer ordered).1 ∙ seeking.hash_is;

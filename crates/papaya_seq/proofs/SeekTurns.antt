@@ -25,7 +25,7 @@ use Rattle.papaya_call.specs.declared.chain.ask.Answer.TheVariants as answers
 use Rattle.papaya_call.specs.declared.chain.machine.Machine.{Machine}
 use Rattle.papaya_call.specs.ChainMachine.{after, ask_of, follows_of, kind_of_ask}
 use Rattle.papaya_call_law.specs.ChainRelies.{Relies}
-use Rattle.papaya_call_law.specs.ChainTold.{IsTold}
+use Rattle.papaya_call_law.specs.ChainAnswers.{IsTrueOf}
 use Rattle.papaya_call_law.proofs.Learns.{all_learns}
 use Rattle.papaya_call_law.proofs.Names.{call_asks, copies_there}
 use Rattle.papaya_call_law.proofs.Stable.{all_carries as relies_carries}
@@ -48,7 +48,7 @@ use Rattle.papaya_words_law.proofs.Hints.{hint_agrees, hint_lasts}
 use Rattle.papaya_words_law.proofs.Later.{later_run}
 use Rattle.papaya_call_law.specs.Copier.{HasWords, IsCopyAsked}
 use Rattle.papaya_call_law.specs.Relies.{change_after, change_in}
-use Rattle.papaya_call_law.specs.Told.{IsTold as IsCallTold, LoadedPairs as Call_loaded, told_of, word_of}
+use Rattle.papaya_call_law.specs.TrueAnswers.{IsTrueOf as IsTrueOfCall, LoadedPairs as Call_loaded, told_of, word_of}
 use Rattle.papaya_call_law.proofs.ReliesNames.{IsNamed, ask_named}
 use Rattle.papaya_core_store.specs.CopyAsks.{IsCallAnswer, PerformsCopy}
 use Rattle.papaya_core_store.specs.Performs.{own_key, size_of}
@@ -59,7 +59,7 @@ use Rattle.papaya_core_store.specs.declared.pairs.Running.{Running}
 use Rattle.papaya_core_timeline.specs.Advances.{reply_in}
 use Rattle.papaya_core_timeline.specs.Content.{map_in}
 use Rattle.papaya_core_timeline.specs.Core.{IsCore}
-use Rattle.papaya_core_timeline.specs.Kept.{CallTrace, IsKept, IsLogged, IsMade, IsMadeFor, places_in, slots_in}
+use Rattle.papaya_core_timeline.specs.Kept.{CallTrace, IsConsistent, IsInArena, IsMade, IsMadeFor, places_in, slots_in}
 use Rattle.papaya_core_timeline.proofs.KeptAnswer.{IsAnswered as IsLeft, Stands, own_told, quiet, told_last, told_made}
 use Rattle.papaya_call.specs.declared.call.Reply.TheVariants.{Refused as Reply_refused}
 use Rattle.papaya_words.specs.declared.refused.Refused.{Refused}
@@ -254,7 +254,7 @@ module _ {K V S : Type 0} (eq : K → K → Bool) (hash : S → K → ℕ) (s : 
 
   -- a look leaves the words
   answered_quietly : (ask : Call_ask) → ask_of m ≡ asks.Call ask → (told : Call_answer) (loaded : Call_loaded (Stored K V)) → store' ≡ store
-      → IsCallTold gq cq None (run es start) (kind_of_ask m) call_trace.loaded.call ask told [] loaded
+      → IsTrueOfCall gq cq None (run es start) (kind_of_ask m) call_trace.loaded.call ask told [] loaded
       → IsLook ask → ((p : Stored K V) → loaded.last ≡ Some p → (call_trace.loaded.call.last ≡ Some p) ⊎ Stands (run es start) p)
       → loaded.made ≡ call_trace.loaded.call.made → Leaves (asks.Call ask) (answers.Call told)
   answered_quietly ask e told loaded same tells look stood made =
@@ -349,7 +349,7 @@ module _ {K V S : Type 0} (eq : K → K → Bool) (hash : S → K → ℕ) (s : 
   pub still_made : (t chunks : ℕ) → IsMadeFor store t chunks → IsMadeFor store' t chunks
   still_made t chunks w = let grown = left.grown t w.0 w.1 in (grown.0, grown.1, subst (λ n. chunks ≤ n) (sym grown.4) w.2)
 
-  pub stood_logged : (p : Stored K V) → Stands (run es start) p → IsLogged store' p
+  pub stood_logged : (p : Stored K V) → Stands (run es start) p → IsInArena store' p
   stood_logged p (t, x, names) = left.logged p.number p (seeking.kept.logged t x p names)
 
   -- what a hint says lasts
@@ -368,7 +368,7 @@ module _ {K V S : Type 0} (eq : K → K → Bool) (hash : S → K → ℕ) (s : 
   ]
 
   -- the words keep to the law
-  pub kept' : IsKept {A = Unit {0}} eq (hash s.store.hasher) s.mode store' [] es' (λ d. call_trace')
+  pub kept' : IsConsistent {A = Unit {0}} eq (hash s.store.hasher) s.mode store' [] es' (λ d. call_trace')
   kept' = record {
     allowed = all_carries g own_law.lawful g' es' start (λ k. None) (start_keeps g own_law.lawful) all_own agrees;
     coded = λ at. ap (λ l. word_of g c (run l start) at) (sym assoc)
@@ -420,17 +420,17 @@ module _ {K V S : Type 0} (eq : K → K → Bool) (hash : S → K → ℕ) (s : 
       × IsCopyAsked cq kind at new (run es start) call_trace.loaded.kept by × (left.made ≡ by ∷ []))
   no_exchange (asks.Call ask) e looks = inl
       (look_made ask (asked_look m seeking.seeks going ask e)
-      (subst (λ y. IsTold gq cq None (run es start) (kind_of_ask m) (follows_of m) call_trace.loaded y answer left.made left.loaded) e left.told))
+      (subst (λ y. IsTrueOf gq cq None (run es start) (kind_of_ask m) (follows_of m) call_trace.loaded y answer left.made left.loaded) e left.told))
     where
       look_made : (ask : Call_ask) → IsLook ask
-          → IsTold gq cq None (run es start) (kind_of_ask m) (follows_of m) call_trace.loaded (asks.Call ask) answer left.made left.loaded → left.made ≡ []
+          → IsTrueOf gq cq None (run es start) (kind_of_ask m) (follows_of m) call_trace.loaded (asks.Call ask) answer left.made left.loaded → left.made ≡ []
       look_made (Load at) look told = told.tells.1
       look_made (LoadHint t x) look told = told.tells.1.0
       look_made (SameKey n) look told = told.tells.1.0
       look_made (SizeOf n) look told = told.tells.1.0
       look_made other look told = absurd look
   no_exchange (asks.Copy ask) e copied = elim (copy_told gq cq (run es start) (kind_of_ask m) (follows_of m) call_trace.loaded ask answer left.made
-      left.loaded (subst (λ y. IsTold gq cq None (run es start) (kind_of_ask m) (follows_of m) call_trace.loaded y answer left.made left.loaded) e left.told)) [
+      left.loaded (subst (λ y. IsTrueOf gq cq None (run es start) (kind_of_ask m) (follows_of m) call_trace.loaded y answer left.made left.loaded) e left.told)) [
         | inl none ↦ inl none
         | inr one ↦ inr (kind_of_ask m, one.at, one.new, one.by, one.asked, one.made)
       ]

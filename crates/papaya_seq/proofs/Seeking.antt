@@ -13,11 +13,11 @@ use Rattle.papaya_call.specs.declared.call.Task.TheVariants.{RemoveIf}
 use Rattle.papaya_call.specs.declared.machine.State.{State}
 use Rattle.papaya_call.specs.declared.machine.State.TheVariants.{AtRoot, Searching, Leaving, Ended}
 use Rattle.papaya_call.specs.declared.chain.machine.Machine.{Machine}
-use Rattle.papaya_call.specs.ChainMachine.{IsStanding, started}
+use Rattle.papaya_call.specs.ChainMachine.{IsValid, started}
 use Rattle.papaya_call.specs.declared.copy.link.Link.TheVariants.{Linking}
 use Rattle.papaya_call_law.specs.Goes.{link_in}
 use Rattle.papaya_call_law.specs.ChainRelies.{Relies}
-use Rattle.papaya_call_law.specs.ChainTold.{nothing_loaded}
+use Rattle.papaya_call_law.specs.ChainAnswers.{nothing_loaded}
 use Rattle.papaya_call_law.proofs.ChainStanding.{started_stands}
 use Rattle.papaya_call_alone.specs.Ahead.{IsCurrent}
 use Rattle.papaya_words_law.specs.Code.{Coding, IsHashed}
@@ -27,12 +27,12 @@ use Rattle.papaya_words_law.specs.Further.{IsLawfulKey, coding_with, with_key}
 use Rattle.papaya_words_law.proofs.Further.{key_code, key_lawful}
 use Rattle.papaya_call_law.specs.Relies.{IsModeOf}
 use Rattle.papaya_call_law.proofs.ReliesLearnPairs.{wanted_relies}
-use Rattle.papaya_call_law.specs.Told.{IsOneOf, word_of}
+use Rattle.papaya_call_law.specs.TrueAnswers.{IsOneOf, word_of}
 use Rattle.papaya_core_store.specs.Store.{StoreState, Stored}
 use Rattle.papaya_core_store.specs.Tables.{table_of, word_at}
 use Rattle.papaya_core_timeline.specs.Core.{IsCore}
-use Rattle.papaya_call_law.specs.ScanTold as scans
-use Rattle.papaya_core_timeline.specs.Kept.{CallTrace, IsKept, IsLogged, IsMadeFor, coding_of, is_blocking, low, setting_of, slots_in}
+use Rattle.papaya_call_law.specs.ScanAnswers as scans
+use Rattle.papaya_core_timeline.specs.Kept.{CallTrace, IsConsistent, IsInArena, IsMadeFor, coding_of, is_blocking, low, setting_of, slots_in}
 use Rattle.papaya_core_timeline.proofs.KeptSettings.{IsLawfulKeys, tables_hashed}
 use Rattle.papaya_seq.proofs.CallLengths.{IsLong, long_begun}
 use Rattle.papaya_seq.proofs.Numbered.{begun_number}
@@ -74,13 +74,13 @@ module _ {K V S : Type 0} (eq : K → K → Bool) (hash : S → K → ℕ) (s : 
   pub record IsSeeking (store : StoreState K V S) (m : Machine) : Type 0 where
     pub call_trace : CallTrace K V
     pub core : IsCore {A = Unit {0}} store [] s.mode
-    pub kept : IsKept {A = Unit {0}} eq (hash s.store.hasher) s.mode store [] (call_trace.begun ++ call_trace.since) (λ d. call_trace)
+    pub kept : IsConsistent {A = Unit {0}} eq (hash s.store.hasher) s.mode store [] (call_trace.begun ++ call_trace.since) (λ d. call_trace)
     pub relies : Relies (sought_setting store.words.tables) sought_coding call_trace.begun call_trace.since None m call_trace.loaded
-    pub last : (p : Stored K V) → call_trace.loaded.call.last ≡ Some p → IsLogged store p
-    pub carried : (p : Stored K V) → call_trace.loaded.kept ≡ Some p → IsLogged store p
-    pub made : (p : Stored K V) → IsOneOf call_trace.loaded.call.made p → IsLogged store p
+    pub last : (p : Stored K V) → call_trace.loaded.call.last ≡ Some p → IsInArena store p
+    pub carried : (p : Stored K V) → call_trace.loaded.kept ≡ Some p → IsInArena store p
+    pub made : (p : Stored K V) → IsOneOf call_trace.loaded.call.made p → IsInArena store p
     pub links : (behind t chunks : ℕ) → link_in m.phase ≡ Some (Linking behind t chunks) → IsMadeFor store t chunks
-    pub standing : IsStanding m
+    pub valid : IsValid m
     pub current : IsCurrent (word_at store.words) m
     pub task : m.call.task ≡ RemoveIf
     pub hash_is : m.call.hash ≡ h
@@ -143,7 +143,7 @@ module _ {K V S : Type 0} (eq : K → K → Bool) (hash : S → K → ℕ) (s : 
         record {
           call_trace = call_trace;
           core = core;
-          kept = subst (λ l. IsKept {A = Unit {0}} eq (hash s.store.hasher) s.mode s.store [] l (λ d. call_trace)) same_es
+          kept = subst (λ l. IsConsistent {A = Unit {0}} eq (hash s.store.hasher) s.mode s.store [] l (λ d. call_trace)) same_es
               (record {
                 allowed = kept.allowed;
                 coded = kept.coded;
@@ -181,7 +181,7 @@ module _ {K V S : Type 0} (eq : K → K → Bool) (hash : S → K → ℕ) (s : 
           carried = λ p l. absurd cc;
           made = λ p l. absurd l;
           links = λ behind t chunks l. absurd cc;
-          standing = started_stands RemoveIf h s.mode.resize s.initial number s.mode.limit core.limit core.chunked lawful.power;
+          valid = started_stands RemoveIf h s.mode.resize s.initial number s.mode.limit core.limit core.chunked lawful.power;
           current = record { number = begun_number s.mode.limit (λ at. word_at s.store.words at); read = (tt, tt) };
           task = refl;
           hash_is = refl;

@@ -5,7 +5,7 @@ use Rattle.papaya_core_store.specs.declared.store.Mode.{Mode}
 use Rattle.papaya_call.specs.declared.call.Reply.{Reply}
 use Rattle.papaya_call.specs.declared.call.Reply.TheVariants.{Refused as Reply_refused}
 use Rattle.papaya_call_law.specs.Relies.{change_in}
-use Rattle.papaya_call_law.specs.Says.{IsSaidBy, Said, ShowsPairs, StandsOn}
+use Rattle.papaya_call_law.specs.Says.{IsResultBy, ClosureResult, NamesPairs, ActsOn}
 use Rattle.papaya_call.specs.declared.ask.At.TheVariants.{Made}
 use Rattle.papaya_call.specs.declared.copy_ask.CopyAsk.TheVariants.{Exchange}
 use Rattle.papaya_call.specs.declared.chain.ask.Answer.{Answer}
@@ -82,7 +82,7 @@ module _ {K V S : Type 0} (eq : K → K → Bool) (hash : S → K → ℕ) (s : 
     pub own : own_key store r ≡ Some call.key
     pub task : r.machine.call.task ≡ call.task
     pub hash_is : r.machine.call.hash ≡ hash s.store.hasher call.key
-    pub shows : ShowsPairs r.machine.call
+    pub shows : NamesPairs r.machine.call
     pub hasher : store.hasher ≡ s.store.hasher
     -- where there is a limit, a number was taken for each pair
     pub numbered : IsNumbered s.mode.limit store r.machine
@@ -213,9 +213,9 @@ module _ {K V S : Type 0} (eq : K → K → Bool) (hash : S → K → ℕ) (s : 
     made_logs = log_step eq whatever hash false r.machine store store' r later (came.lone going).current.number takes_none answer performs
 
     -- what it stands on it stood on, or its closure says so with this answer
-    pub made_says : (said : Said) → StandsOn (after r.machine answer).call said → StandsOn r.machine.call said
-        ⊎ ((own : IsOwnStep r.machine answer) × IsSaidBy r.machine.call own.told said)
-    made_says said stands = chain_said r.machine answer made_ordered (now_lawful.core.standing 0 r refl).call came.shows said stands
+    pub made_says : (said : ClosureResult) → ActsOn (after r.machine answer).call said → ActsOn r.machine.call said
+        ⊎ ((own : IsOwnStep r.machine answer) × IsResultBy r.machine.call own.told said)
+    made_says said stands = chain_said r.machine answer made_ordered (now_lawful.core.valid 0 r refl).call came.shows said stands
 
     -- it comes nearer its end
     lone_step_to : (o : Option Reply) → reply ≡ o → o ≡ None → IsNearer eq hash now r (seated store' (Some next) s.mode s.initial)

@@ -33,7 +33,7 @@ use Rattle.papaya_words_law.proofs.Slots.{view_leaving}
 use Rattle.papaya_words_law.proofs.Views.{active-own, held-active}
 use Rattle.papaya_core_timeline.specs.declared.seat.Seat.{Seat}
 use Rattle.papaya_core_timeline.specs.Content.{content, pairs_from, pairs_of_slots}
-use Rattle.papaya_core_timeline.specs.Kept.{IsKept, IsLawfulCore, coding_of, is_blocking, low, places_in, setting_of}
+use Rattle.papaya_core_timeline.specs.Kept.{IsConsistent, IsLawfulCore, coding_of, is_blocking, low, places_in, setting_of}
 use Rattle.papaya_core_timeline.specs.Kept as kept_words
 use Rattle.papaya_core_store.specs.Store.{StoreState, Stored, pair_of}
 use Rattle.papaya_core_store.specs.Tables.{table_of, word_at}
@@ -64,7 +64,7 @@ module _ {K V S A : Type 0} (eq : K → K → Bool) (hash : K → ℕ) (callers 
   abbrev pub now : State (Stored K V)
   now = run es start
 
-  kept : IsKept eq hash mode store callers es lawful.law.1.0
+  kept : IsConsistent eq hash mode store callers es lawful.law.1.0
   kept = lawful.law.1.1
 
   hashed : IsHashed g c

@@ -29,9 +29,9 @@ use Rattle.papaya_core_timeline.proofs.KeptSettings.{IsLawfulKeys}
 use Rattle.papaya_core_timeline.proofs.KeptTables.{table_low}
 use Rattle.papaya_seq.specs.Map.{MapState, slots_in}
 use Rattle.papaya_seq.specs.Walks.{HasMark, HasNoMark, HasNoMarkIn, IsHeld, IsInRoot, IsNext, IsNextHere}
-use Rattle.papaya_seq.specs.Walks.{IsStand, IsStepped, IsWord, has_in, left_from, left_to, pairs_at}
+use Rattle.papaya_seq.specs.Walks.{IsPosition, IsStepped, IsWord, has_in, left_from, left_to, pairs_at}
 use Rattle.papaya_seq.specs.Walks.{table_after}
-use Rattle.papaya_seq.specs.declared.walks.Stand.{Stand}
+use Rattle.papaya_seq.specs.declared.walks.Position.{Position}
 use Rattle.papaya_seq.proofs.WalkLaw.{after_far, after_low, after_on, blocking_end, none_unmarked, now, pair_logged, some_marked}
 use Rattle.papaya_seq.proofs.WalkLists.{given, left_bare, left_none, left_pair, left_past, pairs_of_word}
 use Rattle.papaya_seq.proofs.Lawful.{core_next_rises, core_next_there}
@@ -89,7 +89,7 @@ module _ {K V S : Type 0} (store : StoreState K V S) where
     })
 
   -- the search goes past tables that have no pair of the key
-  pub record IsPassing (eq : K → K → Bool) (n : ℕ) (at : Stand) (t passed : ℕ) : Type 0 where
+  pub record IsPassing (eq : K → K → Bool) (n : ℕ) (at : Position) (t passed : ℕ) : Type 0 where
     pub links : ℕ
     pub all : links + passed ≡ at.passed
     pub here : table_after store links store.words.root ≡ t
@@ -109,7 +109,7 @@ module _ {K V S : Type 0} (eq : K → K → Bool) (hash : K → ℕ) (s : MapSta
   slots_there t None there some = absurd (omega (arith, some))
   slots_there t (Some table) there some = (table, there)
 
-  module _ (at : Stand) (stand : IsStand s at) where
+  module _ (at : Position) (stand : IsPosition s at) where
     -- where a table was passed, the mode is not blocking
     going : 0 < at.passed → is_blocking s.mode.resize ≡ false
     going some = of_mode s.mode.resize refl
@@ -280,13 +280,13 @@ module _ {K V S : Type 0} (eq : K → K → Bool) (hash : K → ℕ) (s : MapSta
 
       module _ (some : word_at s.store.words (Next at.table) ≡ 0 → ⊥) (going_on : s.mode.resize ≡ Blocking → ⊥) where
         -- the stand before the next table's first slot
-        abbrev pub next_stand : Stand
+        abbrev pub next_stand : Position
         next_stand = record { table = word_at s.store.words (Next at.table); slot = 0; passed = at.passed + 1 }
 
         next_more : at.passed + 1 ≡ suc at.passed
         next_more = omega arith
 
-        pub next_stands : IsStand s next_stand
+        pub next_stands : IsPosition s next_stand
         next_stands = record { on = ap (λ n. table_after s.store n s.store.words.root) next_more ∙ next_after; alone = λ blocks. absurd (going_on blocks) }
 
         pub next_left : left_to eq s.store at ≡ left_to eq s.store next_stand
@@ -311,45 +311,45 @@ module _ {K V S : Type 0} (eq : K → K → Bool) (hash : K → ℕ) (s : MapSta
 
 module _ {K V S : Type 0} (eq : K → K → Bool) (store : StoreState K V S) where
   -- a step that gave a pair, after some that gave none
-  pub stepped_here : (first at : Stand) (o : Option ℕ) → left_to eq store first ≡ left_to eq store at → IsStepped eq store at o → is_some o ≡ true
+  pub stepped_here : (first at : Position) (o : Option ℕ) → left_to eq store first ≡ left_to eq store at → IsStepped eq store at o → is_some o ≡ true
       → IsNextHere eq store first o (record at { slot = at.slot + 1 })
   stepped_here first at None same step some = absurd cc
   stepped_here first at (Some n) same (p, logged, left) some = (p, logged, same ∙ left)
 
   -- a pair of a table, after tables that gave none
-  pub here_next : (first at at' : Stand) (o : Option ℕ) → left_to eq store first ≡ left_to eq store at → IsNextHere eq store at o at'
+  pub here_next : (first at at' : Position) (o : Option ℕ) → left_to eq store first ≡ left_to eq store at → IsNextHere eq store at o at'
       → is_some o ≡ true → IsNext eq store first o at'
   here_next first at at' None same step some = absurd cc
   here_next first at at' (Some n) same (p, logged, left) some = (p, logged, same ∙ left)
 
   -- a table that gave none
-  pub here_none : (at at' : Stand) (o : Option ℕ) → IsNextHere eq store at o at' → is_some o ≡ false → (left_to eq store at ≡ left_to eq store at')
+  pub here_none : (at at' : Position) (o : Option ℕ) → IsNextHere eq store at o at' → is_some o ≡ false → (left_to eq store at ≡ left_to eq store at')
       × (slots_in (table_of store.words.tables at'.table) ≤ at'.slot)
   here_none at at' None step none = step
   here_none at at' (Some n) step none = absurd cc
 
   -- what comes next, where the way to there gave nothing
-  pub next_later : (first at at' : Stand) (o : Option ℕ) → left_to eq store first ≡ left_to eq store at → IsNext eq store at o at' → IsNext eq store first o at'
+  pub next_later : (first at at' : Position) (o : Option ℕ) → left_to eq store first ≡ left_to eq store at → IsNext eq store at o at' → IsNext eq store first o at'
   next_later first at at' None same next = (same ∙ next.0, next.1)
   next_later first at at' (Some n) same (p, logged, left) = (p, logged, same ∙ left)
 
   -- before any table was passed, as many are passed as said
-  pub left_of_root : (at : Stand) → at.passed ≡ 0 → left_to eq store at ≡ left_to eq store (record at { passed = 0 })
+  pub left_of_root : (at : Position) → at.passed ≡ 0 → left_to eq store at ≡ left_to eq store (record at { passed = 0 })
   left_of_root at none = ap (λ n. left_from eq store n at.slot (length store.words.tables) store.words.root) none
 
 -- a walk that holds a table stands there, and has passed none
-pub held_some : {K V S : Type 0} (store : StoreState K V S) (at : Stand) (o : Option (Bor TableWords)) (root : Bor TableWords) (slots : ℕ) → o ≡ Some root
+pub held_some : {K V S : Type 0} (store : StoreState K V S) (at : Position) (o : Option (Bor TableWords)) (root : Bor TableWords) (slots : ℕ) → o ≡ Some root
     → 0 < slots → IsHeld store at o slots → (table_of store.words.tables at.table ≡ Some root.now) × (at.passed ≡ 0) × (slots ≡ length root.now.slots)
 held_some store at o root slots is some (inl none) = absurd (omega (arith, none, some))
 held_some store at o root slots is some (inr held) = subst (λ x. IsInRoot store at x slots) is held
 
 -- the next pair of a map is one that it has logged
-pub next_logged : {K V S : Type 0} (eq : K → K → Bool) (store : StoreState K V S) (at at' : Stand) (o : Option ℕ) (n : ℕ) → o ≡ Some n
+pub next_logged : {K V S : Type 0} (eq : K → K → Bool) (store : StoreState K V S) (at at' : Position) (o : Option ℕ) (n : ℕ) → o ≡ Some n
     → IsNext eq store at o at' → (p : Stored K V) × (pair_of store n ≡ Some p) × (left_to eq store at ≡ p ∷ left_to eq store at')
 next_logged eq store at at' o n is next = subst (λ v. IsNext eq store at v at') is next
 
 -- a stand in the same table
-pub stand_same : {K V S : Type 0} (s : MapState K V S) (at at' : Stand) → at'.table ≡ at.table → at'.passed ≡ at.passed → IsStand s at → IsStand s at'
+pub stand_same : {K V S : Type 0} (s : MapState K V S) (at at' : Position) → at'.table ≡ at.table → at'.passed ≡ at.passed → IsPosition s at → IsPosition s at'
 stand_same s at at' table passed stand = record {
   on = ap (λ n. table_after s.store n s.store.words.root) passed ∙ stand.on ∙ sym table;
   alone = λ blocks. passed ∙ stand.alone blocks;

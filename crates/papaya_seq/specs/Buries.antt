@@ -26,26 +26,26 @@ itself m = record { call = m; number = 0; helped = false; phase = Calling }
 
 module _ {K V S F : Type 0} (g : Mut F (Bor K × (Bor V × Unit {0})) Bool) (matches : K → Bool) where
   -- one ask of the removal was answered, by the store or by its closure
-  pub record IsLed (s : StoreState K V S) (f : F) (m : Machine) (answer : Answer)
+  pub record IsCallStep (s : StoreState K V S) (f : F) (m : Machine) (answer : Answer)
       (s' : StoreState K V S) (f' : F) : Type 0 where
     pub ask : Ask
     pub asked : asks.Call ask ≡ ask_of m
     pub answered : IsRemovalAnswer g matches ask s f answer s' f'
 
   -- these answers were given to its asks, one after the other
-  abbrev pub Leads : List Answer → StoreState K V S → F → Machine → StoreState K V S → F → Machine
+  abbrev pub StepsTo : List Answer → StoreState K V S → F → Machine → StoreState K V S → F → Machine
       → Type 0
-  Leads [] s f m s' f' m' = (s' ≡ s) × (f' ≡ f) × (m' ≡ m)
-  Leads (answer ∷ rest) s f m s' f' m' = (middle : StoreState K V S) × (later : F)
-      × IsLed s f m answer middle later
-      × Leads rest middle later (after m (answers.Call answer)) s' f' m'
+  StepsTo [] s f m s' f' m' = (s' ≡ s) × (f' ≡ f) × (m' ≡ m)
+  StepsTo (answer ∷ rest) s f m s' f' m' = (middle : StoreState K V S) × (later : F)
+      × IsCallStep s f m answer middle later
+      × StepsTo rest middle later (after m (answers.Call answer)) s' f' m'
 
   -- after some answers the removal has replied `reply`
   pub record IsRemovedFrom (s : StoreState K V S) (f : F) (m : Machine) (reply : Reply)
       (s' : StoreState K V S) (f' : F) : Type 0 where
     pub answers : List Answer
     pub end : Machine
-    pub leads : Leads answers s f m s' f' end
+    pub leads : StepsTo answers s f m s' f' end
     pub replied : ask_of end ≡ asks.Call (Done reply)
 
   -- any removal that is about to call its closure with the pair of `removal` comes to this reply

@@ -58,11 +58,11 @@ IsJudged says a (Kept n) s = Gives says a s n false
 IsJudged says a _ s = Unit {0}
 
 -- the reply of a call with a closure follows from what its closure returned
-abbrev pub IsSaid : {K V S A : Type 0} → (K → K → Bool) → Says K V A → Call K V A → MapState K V S
+abbrev pub FollowsResult : {K V S A : Type 0} → (K → K → Bool) → Says K V A → Call K V A → MapState K V S
     → Reply → StoreState K V S → Type 0
-IsSaid eq says (RemoveIf k a) s reply s' = IsJudged says a reply s.store
-IsSaid eq says (Compute k a) s reply s' = IsOperated says a s (map_in eq s.store k) s' reply
-IsSaid eq says _ s reply s' = Unit {0}
+FollowsResult eq says (RemoveIf k a) s reply s' = IsJudged says a reply s.store
+FollowsResult eq says (Compute k a) s reply s' = IsOperated says a s (map_in eq s.store k) s' reply
+FollowsResult eq says _ s reply s' = Unit {0}
 
 -- When a call may be refused. A lookup never is. An insertion and a compute are refused for a cause
 -- of `IsWriteCauseAt`, a `TryInsert` for a cause of `IsTryCause`, and a compute also if its closure
@@ -130,7 +130,7 @@ module _ {K V S A : Type 0} (eq : K → K → Bool) (says : Says K V A) where
       (s' : MapState K V S) : Type 0 where
     pub answered : IsAnswered eq call (map_in eq s.store) reply (map_in eq s'.store)
     pub fresh : IsNewIn s.store reply
-    pub said : IsSaid eq says call s reply s'.store
+    pub said : FollowsResult eq says call s reply s'.store
     pub cause : (refused : words.Refused) → reply ≡ Refused refused
         → MayRefuse eq s call refused s'
     pub done : reply ≡ Done → IsDone eq says call s.store s'.store

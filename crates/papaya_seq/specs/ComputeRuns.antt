@@ -53,9 +53,9 @@ show_of None = ShowNone
 show_of (Some p) = ShowPair p.number
 
 -- the pair, if there is one, is in the arena under its number
-abbrev pub IsLogged : {K V S : Type 0} → StoreState K V S → Option (Stored K V) → Type 0
-IsLogged s None = Unit {0}
-IsLogged s (Some p) = pair_of s p.number ≡ Some p
+abbrev pub IsInArena : {K V S : Type 0} → StoreState K V S → Option (Stored K V) → Type 0
+IsInArena s None = Unit {0}
+IsInArena s (Some p) = pair_of s p.number ≡ Some p
 
 -- What a compute does at the place `at` after its closure returned this operation. The closure was
 -- called with the pair that the old word names, or with None if the place is empty.
@@ -89,7 +89,7 @@ module _ {K V S T : Type 0} (eq : K → K → Bool) (hash : S → K → ℕ) (ke
     pub comes : Comes (eq key) s begun loads shows
     pub held : Option (Stored K V)
     pub asked : ask_of shows ≡ show_of held
-    pub logged : IsLogged s held
+    pub logged : IsInArena s held
     pub shown_is : shown ≡ option_map (λ p. p.number) held
     pub operation : Operation V T
     pub answered : said held operation

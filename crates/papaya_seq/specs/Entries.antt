@@ -75,7 +75,7 @@ module _ {K V S A : Type 0} (eq : K → K → Bool) (shows : A → K × V) where
 
 module _ {K V A : Type 0} (S : Type 0) (eq : K → K → Bool) (shows : A → K × V) where
   -- the entries of the items were inserted into a new map, and that of the next item was refused
-  pub record IsCutAnew (items : List A) (item : A) (refused : Refused) : Type 0 where
+  pub record IsCutNew (items : List A) (item : A) (refused : Refused) : Type 0 where
     pub new : MapState K V S
     pub left : MapState K V S
     pub is_new : IsNew {A = Unit {0}} (Incremental DEFAULT_CHUNK) 0 1 new.store.hasher (core_of new)
@@ -87,7 +87,7 @@ module _ {K V A : Type 0} (S : Type 0) (eq : K → K → Bool) (shows : A → K 
     pub item : A
     pub rest : List A
     pub whole : items ≡ done ++ item ∷ rest
-    pub cut : IsCutAnew done item refused
+    pub cut : IsCutNew done item refused
 
 module _ {U T A : Type 0} (becomes : U → T → Type 0) (steps : T → Option A → T → Type 0) where
   -- the iterator of `iter` has returned some items, and `so` holds for them and for the iterator

@@ -31,24 +31,24 @@ IsSearchAsk _ = ⊥
 module _ {K V S : Type 0} (matches : K → Bool) (store : StoreState K V S) where
   -- `answer` is true of the store: a load is answered by the word or the hint that is there, a size
   -- by the table, and a comparison by whether the pair's key matches
-  abbrev pub IsToldBy : Ask → Answer → Type 0
-  IsToldBy (Load at) answer = answer ≡ Word (word_at store.words at)
-  IsToldBy (LoadHint t i) answer = answer ≡ Word (hint_at store.words t i)
-  IsToldBy (SameKey n) answer = answer ≡ Yes (matches_in matches (pair_of store n))
-  IsToldBy (SizeOf t) answer = answer ≡ size_of (table_of store.words.tables t)
-  IsToldBy _ answer = ⊥
+  abbrev pub IsTrueOfStore : Ask → Answer → Type 0
+  IsTrueOfStore (Load at) answer = answer ≡ Word (word_at store.words at)
+  IsTrueOfStore (LoadHint t i) answer = answer ≡ Word (hint_at store.words t i)
+  IsTrueOfStore (SameKey n) answer = answer ≡ Yes (matches_in matches (pair_of store n))
+  IsTrueOfStore (SizeOf t) answer = answer ≡ size_of (table_of store.words.tables t)
+  IsTrueOfStore _ answer = ⊥
 
   -- the machine replies `reply` when these answers are given to its asks, and each is true of the
   -- store
   abbrev pub Replies : Machine → List Answer → Reply → Type 0
   Replies m [] reply = ask_of m ≡ Done reply
-  Replies m (answer ∷ rest) reply = IsToldBy (ask_of m) answer × Replies (after m answer) rest reply
+  Replies m (answer ∷ rest) reply = IsTrueOfStore (ask_of m) answer × Replies (after m answer) rest reply
 
   -- the machine m becomes m' when these answers are given to its asks, which are asks of a search,
   -- and each is true of the store
   abbrev pub Comes : Machine → List Answer → Machine → Type 0
   Comes m [] m' = m' ≡ m
-  Comes m (answer ∷ rest) m' = IsSearchAsk (ask_of m) × IsToldBy (ask_of m) answer
+  Comes m (answer ∷ rest) m' = IsSearchAsk (ask_of m) × IsTrueOfStore (ask_of m) answer
       × Comes (after m answer) rest m'
 
 -- the reply to a lookup that found this: the number of the pair, or `Absent`

@@ -23,14 +23,14 @@ use Rattle.papaya_seq.specs.declared.search.ProbeHit.{ProbeHit}
 use Rattle.papaya_seq.specs.declared.search.ProbeHit.TheVariants as turns
 
 -- after this step the search has no word to load, no key to compare and no size to ask for
-abbrev pub IsTurned : ProbeStep → Type 0
-IsTurned (On (Sizing t)) = ⊥
-IsTurned (On (Looking at)) = Unit {0}
-IsTurned (On (Reading at)) = ⊥
-IsTurned (On (Comparing at word)) = ⊥
-IsTurned (Empty at) = Unit {0}
-IsTurned (Here at word) = Unit {0}
-IsTurned (Over t) = Unit {0}
+abbrev pub HasStopped : ProbeStep → Type 0
+HasStopped (On (Sizing t)) = ⊥
+HasStopped (On (Looking at)) = Unit {0}
+HasStopped (On (Reading at)) = ⊥
+HasStopped (On (Comparing at word)) = ⊥
+HasStopped (Empty at) = Unit {0}
+HasStopped (Here at word) = Unit {0}
+HasStopped (Over t) = Unit {0}
 
 -- the outcome of one place, as a step of the machine's search
 abbrev pub seen_by : ProbeHit → ProbeStep
@@ -51,11 +51,11 @@ left_to _ = 0
 
 -- If the search stopped at an empty place, the word of that place is that of an empty slot. If it
 -- found a pair or is to compare one, the word of the place is the one that it loaded.
-abbrev pub StandsBy : (At → ℕ) → ProbeStep → Type 0
-StandsBy words (Empty at) = kind_of (words (Slot at.table at.probe.i)) ≡ Is_empty
-StandsBy words (Here at word) = words (Slot at.table at.probe.i) ≡ word
-StandsBy words (On (Comparing at word)) = words (Slot at.table at.probe.i) ≡ word
-StandsBy words _ = Unit {0}
+abbrev pub HoldsWord : (At → ℕ) → ProbeStep → Type 0
+HoldsWord words (Empty at) = kind_of (words (Slot at.table at.probe.i)) ≡ Is_empty
+HoldsWord words (Here at word) = words (Slot at.table at.probe.i) ≡ word
+HoldsWord words (On (Comparing at word)) = words (Slot at.table at.probe.i) ≡ word
+HoldsWord words _ = Unit {0}
 
 -- there is a table of this number, and it has `slots` slots
 abbrev pub IsThere : {K V S : Type 0} → StoreState K V S → (number slots : ℕ) → Type 0
@@ -63,14 +63,14 @@ IsThere store number slots =
     (t : TableWords) × (table_of store.words.tables number ≡ Some t) × (length t.slots ≡ slots)
 
 -- a search that goes on at a place is in a table whose number and length satisfy `so`
-abbrev pub GoesOnIn : ((number slots : ℕ) → Type 0) → ProbeStep → Type 0
-GoesOnIn so (On (Sizing t)) = Unit {0}
-GoesOnIn so (On (Looking at)) = so at.table at.len
-GoesOnIn so (On (Reading at)) = so at.table at.len
-GoesOnIn so (On (Comparing at word)) = so at.table at.len
-GoesOnIn so (Empty at) = Unit {0}
-GoesOnIn so (Here at word) = Unit {0}
-GoesOnIn so (Over t) = Unit {0}
+abbrev pub ContinuesIn : ((number slots : ℕ) → Type 0) → ProbeStep → Type 0
+ContinuesIn so (On (Sizing t)) = Unit {0}
+ContinuesIn so (On (Looking at)) = so at.table at.len
+ContinuesIn so (On (Reading at)) = so at.table at.len
+ContinuesIn so (On (Comparing at word)) = so at.table at.len
+ContinuesIn so (Empty at) = Unit {0}
+ContinuesIn so (Here at word) = Unit {0}
+ContinuesIn so (Over t) = Unit {0}
 
 module _ {K V S : Type 0} (matches : K → Bool) (store : StoreState K V S) (hash : ℕ) where
   -- a pair that was found has a key that matches
@@ -91,25 +91,25 @@ module _ {K V S : Type 0} (matches : K → Bool) (store : StoreState K V S) (has
 
   -- One step of the search brings a call in `state` to the outcome `turn`, and what the outcome
   -- names is in the tables.
-  pub record IsTurnFrom (state : State) (turn : ProbeHit) : Type 0 where
+  pub record IsHitFrom (state : State) (turn : ProbeHit) : Type 0 where
     pub sees : SeesFrom state (seen_by turn)
     pub within : IsProbed (seen_by turn)
-    pub there : GoesOnIn (IsThere store) (seen_by turn)
-    pub stands : StandsBy (λ at. word_at store.words at) (seen_by turn)
+    pub there : ContinuesIn (IsThere store) (seen_by turn)
+    pub stands : HoldsWord (λ at. word_at store.words at) (seen_by turn)
     pub matched : IsMatchedBy (seen_by turn)
 
-  -- One step from the place `at`: `IsTurn` begins with its hint, and loads its word if the hint
-  -- says nothing or is the key's; `IsReadTurn` begins with its word.
-  abbrev pub IsTurn : Place → ProbeHit → Type 0
-  IsTurn at turn = IsTurnFrom (Searching (Looking at)) turn
+  -- One step from the place `at`: `IsProbeHit` begins with its hint, and loads its word if the hint
+  -- says nothing or is the key's; `IsReadHit` begins with its word.
+  abbrev pub IsProbeHit : Place → ProbeHit → Type 0
+  IsProbeHit at turn = IsHitFrom (Searching (Looking at)) turn
 
-  abbrev pub IsReadTurn : Place → ProbeHit → Type 0
-  IsReadTurn at turn = IsTurnFrom (Searching (Reading at)) turn
+  abbrev pub IsReadHit : Place → ProbeHit → Type 0
+  IsReadHit at turn = IsHitFrom (Searching (Reading at)) turn
 
   -- The search of the root brings a call that begins to the outcome `turn`.
-  pub record IsRootTurn (turn : ProbeHit) : Type 0 where
+  pub record IsRootHit (turn : ProbeHit) : Type 0 where
     pub sees : SeesFrom AtRoot (seen_by turn)
-    pub stands : StandsBy (λ at. word_at store.words at) (seen_by turn)
+    pub stands : HoldsWord (λ at. word_at store.words at) (seen_by turn)
     pub matched : IsMatchedBy (seen_by turn)
 
 -- A search skipped the places of other keys, from `first` on: it is about to load the word of a
@@ -139,5 +139,5 @@ module _ {K V S : Type 0} (store : StoreState K V S) (hash : ℕ) where
   pub record IsPassed (at : Place) (seen : ProbeStep) : Type 0 where
     pub hints : (n : ℕ) × (seen ≡ passed_by n at)
     pub within : IsProbed seen
-    pub there : GoesOnIn (IsThere store) seen
+    pub there : ContinuesIn (IsThere store) seen
     pub led : IsPassedTo at seen

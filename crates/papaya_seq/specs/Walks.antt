@@ -13,7 +13,7 @@ use Rattle.papaya_core_timeline.specs.Content.{pairs_from, pairs_of_slots}
 use Rattle.papaya_core_store.specs.Store.{StoreState, Stored, pair_of}
 use Rattle.papaya_core_store.specs.Tables.{table_of, word_at}
 use Rattle.papaya_seq.specs.Map.{MapState, entry_of, slots_in}
-use Rattle.papaya_seq.specs.declared.walks.Stand.{Stand}
+use Rattle.papaya_seq.specs.declared.walks.Position.{Position}
 
 module _ {K V S : Type 0} (store : StoreState K V S) where
   -- the pairs of a table, if it is there
@@ -78,54 +78,54 @@ module _ {K V S : Type 0} (eq : K → K → Bool) (store : StoreState K V S) whe
       (left_from passed slot n (word_at store.words (Next t)))
 
   -- the pairs that an iteration at this position has yet to return
-  abbrev pub left_to : Stand → List (Stored K V)
+  abbrev pub left_to : Position → List (Stored K V)
   left_to at = left_from at.passed at.slot (length store.words.tables) store.words.root
 
-  abbrev pub entries_left : Stand → List (K × V)
+  abbrev pub entries_left : Position → List (K × V)
   entries_left at = map entry_of (left_to at)
 
   -- A step over a slot returns None if the same pairs are left after it, and otherwise the first
   -- pair that was left.
-  abbrev pub IsStepped : Stand → Option ℕ → Type 0
+  abbrev pub IsStepped : Position → Option ℕ → Type 0
   IsStepped at None = left_to at ≡ left_to (record at { slot = at.slot + 1 })
   IsStepped at (Some n) = (p : Stored K V) × (pair_of store n ≡ Some p)
       × (left_to at ≡ p ∷ left_to (record at { slot = at.slot + 1 }))
 
   -- The position of an iteration after it was asked for the next pair of its table: after that
   -- pair, or, if it returned None, after the last slot of the table.
-  abbrev pub IsNextHere : Stand → Option ℕ → Stand → Type 0
+  abbrev pub IsNextHere : Position → Option ℕ → Position → Type 0
   IsNextHere at None at' = (left_to at ≡ left_to at')
       × (slots_in (table_of store.words.tables at'.table) ≤ at'.slot)
   IsNextHere at (Some n) at' = (p : Stored K V) × (pair_of store n ≡ Some p)
       × (left_to at ≡ p ∷ left_to at')
 
   -- the same for the next pair of the map; None means that no pair is left
-  abbrev pub IsNext : Stand → Option ℕ → Stand → Type 0
+  abbrev pub IsNext : Position → Option ℕ → Position → Type 0
   IsNext at None at' = (left_to at ≡ []) × (left_to at' ≡ [])
   IsNext at (Some n) at' = (p : Stored K V) × (pair_of store n ≡ Some p)
       × (left_to at ≡ p ∷ left_to at')
 
 -- the word at this position is Live or Marked and names the pair of number n
-pub record IsWord {K V S : Type 0} (store : StoreState K V S) (at : Stand) (n : ℕ) : Type 0 where
+pub record IsWord {K V S : Type 0} (store : StoreState K V S) (at : Position) (n : ℕ) : Type 0 where
   pub within : at.slot < slots_in (table_of store.words.tables at.table)
   pub kind : (kind_of (word_at store.words (Slot at.table at.slot)) ≡ Live)
       ⊎ (kind_of (word_at store.words (Slot at.table at.slot)) ≡ Marked)
   pub names : number_of (word_at store.words (Slot at.table at.slot)) ≡ n
 
 -- the iteration is in the root, to which `root` refers and which has `slots` slots
-abbrev pub IsInRoot : {K V S : Type 0} → StoreState K V S → Stand → Option (Bor TableWords) → ℕ
+abbrev pub IsInRoot : {K V S : Type 0} → StoreState K V S → Position → Option (Bor TableWords) → ℕ
     → Type 0
 IsInRoot store at None slots = ⊥
 IsInRoot store at (Some root) slots = (table_of store.words.tables at.table ≡ Some root.now)
     × (at.passed ≡ 0) × (slots ≡ length root.now.slots)
 
 -- the same, or the iteration has no slots to read
-abbrev pub IsHeld : {K V S : Type 0} → StoreState K V S → Stand → Option (Bor TableWords) → ℕ
+abbrev pub IsHeld : {K V S : Type 0} → StoreState K V S → Position → Option (Bor TableWords) → ℕ
     → Type 0
 IsHeld store at root slots = (slots ≡ 0) ⊎ IsInRoot store at root slots
 
 -- an iteration may be at this position: its table comes `passed` links after the root
-pub record IsStand {K V S : Type 0} (s : MapState K V S) (at : Stand) : Type 0 where
+pub record IsPosition {K V S : Type 0} (s : MapState K V S) (at : Position) : Type 0 where
   pub on : table_after s.store at.passed s.store.words.root ≡ at.table
   -- with blocking the root has all pairs
   pub alone : s.mode.resize ≡ Blocking → at.passed ≡ 0

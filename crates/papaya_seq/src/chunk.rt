@@ -3,9 +3,9 @@
 ghost use Rattle.std.specs.Prelude.{◌≡◌, ℕ};
 ghost use Rattle.papaya_call.specs.Search.{IsWithin};
 ghost use Rattle.papaya_call.specs.declared.ask.At.TheVariants as words;
-ghost use Rattle.papaya_call.specs.ChainMachine.{IsStanding};
-ghost use Rattle.papaya_call.specs.Resizer.{IsStandingResizer};
-ghost use Rattle.papaya_call.specs.Step.{IsStandingChunk, IsStandingCursor};
+ghost use Rattle.papaya_call.specs.ChainMachine.{IsValid};
+ghost use Rattle.papaya_call.specs.Resizer.{IsValidResizer};
+ghost use Rattle.papaya_call.specs.Step.{IsValidChunk, IsValidCursor};
 ghost use Rattle.papaya_call.specs.declared.copy.carry.Carry.TheVariants as carries;
 ghost use Rattle.papaya_call.specs.declared.copy.settle.Settle.TheVariants as settles;
 ghost use Rattle.papaya_call.specs.declared.copy.settle.Settled.TheVariants.{On};
@@ -144,7 +144,7 @@ fn copy_slot<K: Hash + Eq, V, S: BuildHasher>(
 /// Writes that a chunk is copied, and passes the copied ones after it. Returns the copy's state.
 #[inline]
 fn advance<K: Hash + Eq, V, S: BuildHasher>(store: &mut Store<K, V, S>, mut cursor: Cursor) -> Step
-    requires { IsStandingCursor cursor }
+    requires { IsValidCursor cursor }
     ensures { (mode : modes.ResizeMode) → Steps K.eq
         (hash_of K.hash_input S.build_hasher S.Hasher.write S.Hasher.finish) mode store.old
         (steps.Advancing cursor) store.new result }
@@ -171,7 +171,7 @@ fn copy_slots<K: Hash + Eq, V, S: BuildHasher>(
     chunk: Chunk,
 ) -> Step
     requires sized { IsSized store.old }
-    requires standing { IsStandingChunk chunk }
+    requires valid { IsValidChunk chunk }
     ensures { Steps K.eq (hash_of K.hash_input S.build_hasher S.Hasher.write S.Hasher.finish) mode
         store.old (steps.Settling chunk settles.Looking) store.new result }
 {
@@ -194,7 +194,7 @@ pub(crate) fn copy_for_call<K: Hash + Eq, V, S: BuildHasher>(
     machine: &mut Machine,
 )
     requires sized { IsSized store.old }
-    requires standing { IsStanding machine.old }
+    requires valid { IsValid machine.old }
     ensures { CopiesCall K.eq (hash_of K.hash_input S.build_hasher S.Hasher.write S.Hasher.finish)
         store.old machine.old store.new machine.new }
 {
@@ -214,7 +214,7 @@ pub(crate) fn copy_for_resizer<K: Hash + Eq, V, S: BuildHasher>(
     resizer: &mut Resizer,
 )
     requires sized { IsSized store.old }
-    requires standing { IsStandingResizer resizer.old }
+    requires valid { IsValidResizer resizer.old }
     ensures { CopiesResizer K.eq
         (hash_of K.hash_input S.build_hasher S.Hasher.write S.Hasher.finish) store.old resizer.old
         store.new resizer.new }

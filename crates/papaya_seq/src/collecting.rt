@@ -3,11 +3,11 @@ ghost use Rattle.std.specs.Prelude.{◌≡◌, ◌⊎◌, IfOk, IfErr};
 ghost use Rattle.std.specs.Iterator.{IsFiniteIterable};
 ghost use Rattle.std.specs.declared.hash.FoldHasher.{FoldHasher};
 ghost use Rattle.std.specs.declared.hash.BuildHasherDefault.{BuildHasherDefault};
-ghost use Rattle.papaya_seq.specs.Entries.{AllCome, ComesNext, Extends, HasJust, IsCutAnew};
+ghost use Rattle.papaya_seq.specs.Entries.{AllCome, ComesNext, Extends, HasJust, IsCutNew};
 ghost use Rattle.papaya_seq.specs.Entries.{IsCutIn, IsPut};
 ghost use Rattle.papaya_words_keys.specs.Hashes.{hash_of};
 ghost use Rattle.papaya_seq.specs.MadeAlone.{IsDoneAlone};
-ghost use Rattle.papaya_seq.specs.Map.{LogsOne, deref_pair};
+ghost use Rattle.papaya_seq.specs.Map.{PushesOne, deref_pair};
 ghost use Rattle.papaya_seq.specs.PutAlone.{ExtendsAlone, IsFilledAlone};
 
 use crate::seq::HashMap;
@@ -30,7 +30,7 @@ impl<K: Hash + Eq + Drop, V: Drop, S: BuildHasher> HashMap<K, V, S> {
         ensures alone { IsDoneAlone K.eq
             (hash_of K.hash_input S.build_hasher S.Hasher.write S.Hasher.finish) self.old
             (Call.Insert key value) result self.new }
-        ensures logs { LogsOne self.old.store self.new.store }
+        ensures stores { PushesOne self.old.store self.new.store }
     {
         let (reply, _) = self.insert_by(key, value, true);
         match reply {
@@ -131,7 +131,7 @@ impl<K: Hash + Eq + Drop, V: Drop, S: BuildHasher + Default + Drop> HashMap<K, V
         ensures hasher { IfOk result (λ map. S.is_default map.store.hasher) }
         ensures err { IfErr result (λ e. (e ≡ Refused.Memory)
             ⊎ ComesNext U.into_iter_gives U.IntoIter.next_gives iter
-            (λ items item. IsCutAnew S K.eq (λ p. p) items item e)) }
+            (λ items item. IsCutNew S K.eq (λ p. p) items item e)) }
     {
         let mut map = HashMap::with_hasher(alloc, S::default())?;
         match map.extend(iter) {

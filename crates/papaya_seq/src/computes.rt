@@ -170,7 +170,7 @@ impl<K: Hash + Eq + Drop, V: Drop, S: BuildHasher> HashMap<K, V, S> {
             },
         );
         match computed? {
-            Computed::Updated { new, .. } => Ok(Some(self.logged(new))),
+            Computed::Updated { new, .. } => Ok(Some(self.stored_value(new))),
             Computed::Aborted(()) => Ok(None),
             _ => unreachable!(),
         }
@@ -247,8 +247,8 @@ impl<K: Hash + Eq + Drop, V: Drop, S: BuildHasher> HashMap<K, V, S> {
             },
         );
         match computed? {
-            Computed::Inserted(pair) => Ok(self.logged(pair)),
-            Computed::Updated { new, .. } => Ok(self.logged(new)),
+            Computed::Inserted(pair) => Ok(self.stored_value(pair)),
+            Computed::Updated { new, .. } => Ok(self.stored_value(new)),
             _ => unreachable!(),
         }
     }
@@ -294,8 +294,8 @@ impl<K: Hash + Eq + Drop, V: Drop, S: BuildHasher> HashMap<K, V, S> {
             },
         );
         match (computed?, shown) {
-            (Computed::Inserted(pair), _) => Ok(Ok(self.logged(pair))),
-            (Computed::Aborted(()), Some(pair)) => Ok(Err(self.logged(pair))),
+            (Computed::Inserted(pair), _) => Ok(Ok(self.stored_value(pair))),
+            (Computed::Aborted(()), Some(pair)) => Ok(Err(self.stored_value(pair))),
             _ => unreachable!(),
         }
     }

@@ -6,7 +6,7 @@ ghost use Rattle.papaya_core_timeline.specs.Content.{map_in};
 ghost use Rattle.papaya_core_timeline.specs.Solo.{IsAnswered, IsNewIn};
 ghost use Rattle.papaya_seq.specs.Drives.{IsLedTo, led_state, value_left};
 ghost use Rattle.papaya_seq.specs.MadeAlone.{IsMadeAlone};
-ghost use Rattle.papaya_seq.specs.Map.{IsTryCause, IsWriteCauseAt, KeepsAndGrows, LogsOne, insertion};
+ghost use Rattle.papaya_seq.specs.Map.{IsTryCause, IsWriteCauseAt, KeepsAndGrows, PushesOne, insertion};
 
 use crate::chunk::copy_for_call;
 use crate::resizing::copies_from;
@@ -62,7 +62,7 @@ impl<K: Hash + Eq + Drop, V: Drop, S: BuildHasher> HashMap<K, V, S> {
             (hash_of K.hash_input S.build_hasher S.Hasher.write S.Hasher.finish) self.old
             (insertion replace key value) result.0 self.new }
         ensures keeps { KeepsAndGrows self.old self.new }
-        ensures logs { LogsOne self.old.store self.new.store }
+        ensures stores { PushesOne self.old.store self.new.store }
     {
         // A call that takes a number for its pair runs the machine.
         if self.mode.limit.is_some() {
@@ -94,7 +94,7 @@ impl<K: Hash + Eq + Drop, V: Drop, S: BuildHasher> HashMap<K, V, S> {
             (hash_of K.hash_input S.build_hasher S.Hasher.write S.Hasher.finish) self.old
             (insertion replace key value) result.0 self.new }
         ensures keeps { KeepsAndGrows self.old self.new }
-        ensures logs { LogsOne self.old.store self.new.store }
+        ensures stores { PushesOne self.old.store self.new.store }
     {
         let hash = self.store.hash(&key);
         let number = copies_from(&self.store);

@@ -13,7 +13,7 @@ ghost use Rattle.papaya_seq.specs.ComputeRuns.{IsComputedFast, IsOperated, Takes
 ghost use Rattle.papaya_seq.specs.Computes.{ComputesBy, Says, Takes};
 ghost use Rattle.papaya_seq.specs.Computing.{IsComputed, IsKept, Replies};
 ghost use Rattle.papaya_seq.specs.MadeAlone.{IsComputedAlone};
-ghost use Rattle.papaya_seq.specs.Searches.{IsRootTurn};
+ghost use Rattle.papaya_seq.specs.Searches.{IsRootHit};
 ghost use Rattle.papaya_seq.specs.Writes.{slot_of};
 ghost use Rattle.papaya_seq.specs.declared.search.ProbeHit.{ProbeHit};
 
@@ -59,7 +59,7 @@ fn decide<K, V, T, F: FnOnce(Option<(&K, &V)>) -> Operation<V, T>>(
 }
 
 /// Calls the closure, which was not called yet, with the entry or without one. Keeps its result.
-fn show<K, V: Drop, T: Drop, F: FnOnce(Option<(&K, &V)>) -> Operation<V, T>>(
+fn call_closure<K, V: Drop, T: Drop, F: FnOnce(Option<(&K, &V)>) -> Operation<V, T>>(
     shown: Option<(&K, &V)>,
     closure: &mut Option<F>,
     value: &mut Option<Part<V>>,
@@ -151,7 +151,7 @@ fn compute_fast<
     requires sized { (n : ℕ) (t : _) → table_of store.old.words.tables n ≡ Some t
         → IsSize (length t.slots) t.limit }
     requires bare { IsBare (λ at. word_at store.old.words at) }
-    requires takes { (turn : _) → IsRootTurn (K.eq key) store.old hash turn
+    requires takes { (turn : _) → IsRootHit (K.eq key) store.old hash turn
         → TakesAt (F.pre f) store.old turn }
     ensures ok { IfOk result (λ done. IsComputedFast K.eq
         (hash_of K.hash_input S.build_hasher S.Hasher.write S.Hasher.finish) key (Says (F.post f))
@@ -166,7 +166,7 @@ fn compute_fast<
         }
         Some(ProbeHit::Here(place, word)) if Word(word).kind() == Kind::Live => {
             let pair = Word(word).pair();
-            let operation = decide(Some(store.logged(pair)), f);
+            let operation = decide(Some(store.stored_entry(pair)), f);
             let at = Write { place, old: word };
             Ok((Some(pair), operate(store, alloc, key, hash, at, operation)))
         }
@@ -242,12 +242,22 @@ impl<K: Hash + Eq + Drop, V: Drop, S: BuildHasher> HashMap<K, V, S> {
             let answer = match ask {
                 Ask::Call(CallAsk::ShowNone) => {
                     let entry = no_pair(&self.store);
-                    Answer::Call(show(entry, &mut closure, &mut running.value, &mut aborted))
+                    Answer::Call(call_closure(
+                        entry,
+                        &mut closure,
+                        &mut running.value,
+                        &mut aborted,
+                    ))
                 }
                 Ask::Call(CallAsk::ShowPair(pair)) => {
                     shown = Some(pair);
                     let entry = self.store.pair(pair);
-                    Answer::Call(show(entry, &mut closure, &mut running.value, &mut aborted))
+                    Answer::Call(call_closure(
+                        entry,
+                        &mut closure,
+                        &mut running.value,
+                        &mut aborted,
+                    ))
                 }
                 Ask::Call(CallAsk::Done(reply)) => return (shown, computed(reply, aborted)),
                 _ => self

@@ -31,7 +31,7 @@ use std::hash::{BuildHasher, Hash};
 
 /// Calls the closure of a removal with a pair.
 #[inline]
-pub(crate) fn show<K: Hash + Eq, V, S: BuildHasher, F: FnMut(&K, &V) -> bool>(
+pub(crate) fn call_closure<K: Hash + Eq, V, S: BuildHasher, F: FnMut(&K, &V) -> bool>(
     store: &Store<K, V, S>,
     pair: u64,
     agrees: &mut F,
@@ -65,7 +65,7 @@ fn answer_removal<K: Hash + Eq, V, S: BuildHasher, Q: Equivalent<K>, F: FnMut(&K
         CallAsk::Exchange(at, old, new) => store.exchange(at, old, new),
         CallAsk::LoadHint(table, slot) => CallAnswer::Word(store.hint(table, slot)),
         CallAsk::SameKey(pair) => CallAnswer::Yes(matches(store, pair, key)),
-        CallAsk::ShowPair(pair) => show(store, pair, agrees),
+        CallAsk::ShowPair(pair) => call_closure(store, pair, agrees),
         CallAsk::SizeOf(table) => store.size_of(table),
         CallAsk::AddToShard(by) => {
             store.add_to_shard(0, by);
@@ -112,7 +112,7 @@ fn bury<K: Hash + Eq, V, S: BuildHasher, F: FnMut(&K, &V) -> bool>(
         result store.new agrees.new }
 {
     let pair = removal.pair();
-    match show(store, pair, agrees) {
+    match call_closure(store, pair, agrees) {
         CallAnswer::Yes(true) => {}
         CallAnswer::Yes(false) => return Reply::Kept(pair),
         _ => unreachable!(),

@@ -4,7 +4,7 @@ ghost use Rattle.papaya_seq.specs.Map.{Keeps, KeepsSlots, Unchanged, next_of, sl
 ghost use Rattle.papaya_seq.specs.Resizes.{IsCopyCause};
 ghost use Rattle.papaya_seq.specs.Retains.{IsRetained, IsRetainedTo, IsRetaining};
 
-use crate::removal::show;
+use crate::removal::call_closure;
 use crate::seq::HashMap;
 use papaya_call::ask::{Answer, At};
 use papaya_words::refused::Refused;
@@ -30,7 +30,7 @@ impl<K: Hash + Eq + Drop, V: Drop, S: BuildHasher> HashMap<K, V, S> {
         if word.kind() != Kind::Live {
             return;
         }
-        match show(&self.store, word.pair(), agrees) {
+        match call_closure(&self.store, word.pair(), agrees) {
             Answer::Yes(false) => {}
             _ => return,
         }

@@ -2,7 +2,7 @@
 ghost use Rattle.std.specs.Prelude.{◌≡◌, ◌+◌, ◌<◌, ℕ, Some, length};
 ghost use Rattle.papaya_call.specs.Search.{IsSize, IsWithin};
 ghost use Rattle.papaya_core_store.specs.Tables.{table_of};
-ghost use Rattle.papaya_seq.specs.Searches.{IsPassed, IsReadTurn, IsRootTurn, IsThere, IsTurn, IsTurned};
+ghost use Rattle.papaya_seq.specs.Searches.{IsPassed, IsReadHit, IsRootHit, IsThere, IsProbeHit, HasStopped};
 ghost use Rattle.papaya_seq.specs.Searches.{left_at, left_to, seen_by};
 ghost use Rattle.papaya_seq.specs.declared.search.ProbeHit.TheVariants.{Next};
 
@@ -29,8 +29,8 @@ pub(crate) enum ProbeHit {
 
 /// Returns the outcome of a step that leaves no word to load and no key to compare.
 #[inline(always)]
-fn turn_of(seen: ProbeStep) -> ProbeHit
-    requires { IsTurned seen }
+fn hit_of(seen: ProbeStep) -> ProbeHit
+    requires { HasStopped seen }
     ensures { seen_by result ≡ seen }
 {
     match seen {
@@ -51,7 +51,7 @@ fn read_at<K: Hash + Eq, V, S: BuildHasher, Q: Equivalent<K>>(
 ) -> ProbeHit
     requires within { IsWithin at }
     requires there { IsThere store.now at.table at.len }
-    ensures turn { (hash : ℕ) → IsReadTurn (Q.matches key.now) store.now hash at result }
+    ensures turn { (hash : ℕ) → IsReadHit (Q.matches key.now) store.now hash at result }
     ensures fewer { left_to result + 1 < left_at at }
 {
     let Some(table) = store.table(at.table) else {
@@ -62,9 +62,9 @@ fn read_at<K: Hash + Eq, V, S: BuildHasher, Q: Equivalent<K>>(
     match seen {
         ProbeStep::On(Search::Comparing(place, named)) => {
             let same = matches(store, Word(named).pair(), key);
-            turn_of(Search::Comparing(place, named).at_yes(same))
+            hit_of(Search::Comparing(place, named).at_yes(same))
         }
-        _ => turn_of(seen),
+        _ => hit_of(seen),
     }
 }
 
@@ -94,7 +94,7 @@ pub(crate) fn pass_by<K: Hash + Eq, V, S: BuildHasher>(
 
 /// Passes places, up to one whose hint is 0 or the key's, and looks at its word.
 #[inline(always)]
-fn look_at<K: Hash + Eq, V, S: BuildHasher, Q: Equivalent<K>>(
+fn probe_at<K: Hash + Eq, V, S: BuildHasher, Q: Equivalent<K>>(
     store: &Store<K, V, S>,
     key: &Q,
     hash: u64,
@@ -102,13 +102,13 @@ fn look_at<K: Hash + Eq, V, S: BuildHasher, Q: Equivalent<K>>(
 ) -> ProbeHit
     requires within { IsWithin at }
     requires there { IsThere store.now at.table at.len }
-    ensures turn { IsTurn (Q.matches key.now) store.now hash at result }
+    ensures turn { IsProbeHit (Q.matches key.now) store.now hash at result }
     ensures fewer { left_to result < left_at at }
 {
     let seen = pass_by(store, hash, at);
     match seen {
         ProbeStep::On(Search::Reading(place)) => read_at(store, key, place),
-        _ => turn_of(seen),
+        _ => hit_of(seen),
     }
 }
 
@@ -122,12 +122,12 @@ pub(crate) fn search<K: Hash + Eq, V, S: BuildHasher, Q: Equivalent<K>>(
 ) -> ProbeHit
     requires within { IsWithin at }
     requires there { IsThere store.now at.table at.len }
-    ensures turn { IsTurn (Q.matches key.now) store.now hash at result }
+    ensures turn { IsProbeHit (Q.matches key.now) store.now hash at result }
     ensures over { (place : _) → result ≡ Next place → ⊥ }
 {
     let mut place = at;
     loop {
-        match look_at(store, key, hash, place) {
+        match probe_at(store, key, hash, place) {
             ProbeHit::Next(next) => place = next,
             turn => return turn,
         }
@@ -143,7 +143,7 @@ pub(crate) fn search_root<K: Hash + Eq, V, S: BuildHasher, Q: Equivalent<K>>(
 ) -> Option<ProbeHit>
     requires { (n : ℕ) (t : _) → table_of store.now.words.tables n ≡ Some t
         → IsSize (length t.slots) t.limit }
-    ensures { (turn : _) → result ≡ Some turn → IsRootTurn (Q.matches key.now) store.now hash turn }
+    ensures { (turn : _) → result ≡ Some turn → IsRootHit (Q.matches key.now) store.now hash turn }
 {
     let number = store.word(At::Root);
     let table = store.table(number)?;

@@ -307,7 +307,7 @@ impl<K: Hash + Eq, V, S: BuildHasher> HashMap<K, V, S> {
             × (option_map (λ v. v.now) result ≡ value_of found) }
     {
         match self.look_up(key) {
-            Some(pair) => Some(self.store.logged_value(pair)),
+            Some(pair) => Some(self.store.stored_value(pair)),
             None => None,
         }
     }
@@ -328,7 +328,7 @@ impl<K: Hash + Eq, V, S: BuildHasher> HashMap<K, V, S> {
             × (option_map deref_pair result ≡ option_map entry_of found) }
     {
         match self.look_up(key) {
-            Some(pair) => Some(self.store.logged(pair)),
+            Some(pair) => Some(self.store.stored_entry(pair)),
             None => None,
         }
     }
@@ -360,16 +360,16 @@ impl<K: Hash + Eq, V, S: BuildHasher> HashMap<K, V, S> {
         ensures { pair_of self.now.store n ≡ Some
             (record { number = n; key = result.0.now; value = result.1.now }) }
     {
-        self.store.logged(n)
+        self.store.stored_entry(n)
     }
 
     /// Returns the value of a pair that is in the arena.
     #[inline(always)]
-    pub(crate) fn logged(&self, n: u64) -> &V
+    pub(crate) fn stored_value(&self, n: u64) -> &V
         requires { IsSome (pair_of self.now.store n) }
         ensures { (p : _) → pair_of self.now.store n ≡ Some p → result.now ≡ p.value }
     {
-        self.store.logged_value(n)
+        self.store.stored_value(n)
     }
 }
 
@@ -412,7 +412,7 @@ impl<K: Hash + Eq + Drop, V: Drop, S: BuildHasher> HashMap<K, V, S> {
     {
         let (reply, _) = self.insert_by(key, value, true);
         match reply {
-            Reply::Replaced { old, .. } => Ok(Some(self.logged(old))),
+            Reply::Replaced { old, .. } => Ok(Some(self.stored_value(old))),
             Reply::Refused(refused) => Err(refused),
             _ => Ok(None),
         }
@@ -474,10 +474,10 @@ impl<K: Hash + Eq + Drop, V: Drop, S: BuildHasher> HashMap<K, V, S> {
     {
         let (pair, unstored) = self.insert_absent(key, value)?;
         match unstored {
-            None => Ok(Ok(self.logged(pair))),
+            None => Ok(Ok(self.stored_value(pair))),
             Some(value) => {
                 *left = Some(value);
-                Ok(Err(self.logged(pair)))
+                Ok(Err(self.stored_value(pair)))
             }
         }
     }
@@ -541,7 +541,7 @@ impl<K: Hash + Eq + Drop, V: Drop, S: BuildHasher> HashMap<K, V, S> {
             × ((map_in K.eq self.old.store key ≡ None) ⊎ IsResizing self.old)) }
     {
         let (pair, _) = self.insert_absent(key, value)?;
-        Ok(self.logged(pair))
+        Ok(self.stored_value(pair))
     }
 
     /// Removes a key's entry, and returns its value: `remove` of 0.2.5. Without a resize under way

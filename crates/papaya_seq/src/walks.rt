@@ -7,7 +7,7 @@ ghost use Rattle.papaya_core_store.specs.Tables.{table_of};
 ghost use Rattle.papaya_core_timeline.specs.Content.{content};
 ghost use Rattle.papaya_words_keys.specs.Hashes.{hash_of};
 ghost use Rattle.papaya_seq.specs.Map.{IsOrderly, deref_pair, entry_of};
-ghost use Rattle.papaya_seq.specs.Walks.{HasMark, HasNoMark, IsHeld, IsNext, IsNextHere, IsStand};
+ghost use Rattle.papaya_seq.specs.Walks.{HasMark, HasNoMark, IsHeld, IsNext, IsNextHere, IsPosition};
 ghost use Rattle.papaya_seq.specs.Walks.{IsStepped, IsWord, has_in, left_to};
 
 use crate::seq::HashMap;
@@ -53,8 +53,8 @@ impl<K: Hash + Eq, V, S: BuildHasher> HashMap<K, V, S> {
     /// when a call was refused.
     #[cold]
     #[inline(never)]
-    fn is_copy(&self, pair: u64, at: Stand) -> bool
-        requires stands { IsStand self.now at }
+    fn is_copy(&self, pair: u64, at: Position) -> bool
+        requires stands { IsPosition self.now at }
         requires word { IsWord self.now.store at pair }
         ensures { (p : _) → pair_of self.now.store pair ≡ Some p
             → result ≡ has_in K.eq self.now.store at.passed self.now.store.words.root p.key }
@@ -77,10 +77,10 @@ impl<K: Hash + Eq, V, S: BuildHasher> HashMap<K, V, S> {
 
     /// Returns the pair of the word at this position, if it has one that was not returned before.
     #[inline(always)]
-    fn given(&self, table: &Table, at: Stand) -> Option<u64>
+    fn given(&self, table: &Table, at: Position) -> Option<u64>
         requires orderly { IsOrderly K.eq
             (hash_of K.hash_input S.build_hasher S.Hasher.write S.Hasher.finish) self.now }
-        requires stands { IsStand self.now at }
+        requires stands { IsPosition self.now at }
         requires table { table_of self.now.store.words.tables at.table ≡ Some table.now }
         requires within { at.slot < length table.now.slots }
         ensures { IsStepped K.eq self.now.store at result }
@@ -100,10 +100,10 @@ impl<K: Hash + Eq, V, S: BuildHasher> HashMap<K, V, S> {
 
     /// Returns the next pair of this table of `end` slots, from the iteration's position on.
     #[inline(always)]
-    fn next_in(&self, table: &Table, end: usize, at: &mut Stand) -> Option<u64>
+    fn next_in(&self, table: &Table, end: usize, at: &mut Position) -> Option<u64>
         requires orderly { IsOrderly K.eq
             (hash_of K.hash_input S.build_hasher S.Hasher.write S.Hasher.finish) self.now }
-        requires stands { IsStand self.now at.old }
+        requires stands { IsPosition self.now at.old }
         requires table { table_of self.now.store.words.tables at.old.table ≡ Some table.now }
         requires end { end ≡ length table.now.slots }
         ensures same { (at.new.table ≡ at.old.table) × (at.new.passed ≡ at.old.passed) }
@@ -120,8 +120,8 @@ impl<K: Hash + Eq, V, S: BuildHasher> HashMap<K, V, S> {
     }
 
     /// Returns the next pair of the table at the iteration's position, if there is such a table.
-    fn next_here(&self, at: &mut Stand) -> Option<u64>
-        requires { IsStand self.now at.old }
+    fn next_here(&self, at: &mut Position) -> Option<u64>
+        requires { IsPosition self.now at.old }
         ensures same { (at.new.table ≡ at.old.table) × (at.new.passed ≡ at.old.passed) }
         ensures next { IsNextHere K.eq self.now.store at.old result at.new }
     {
@@ -133,9 +133,9 @@ impl<K: Hash + Eq, V, S: BuildHasher> HashMap<K, V, S> {
 
     /// Returns the next pair of the map. With blocking the root has all of them.
     #[inline(never)]
-    fn next_pair(&self, at: &mut Stand) -> Option<u64>
-        requires { IsStand self.now at.old }
-        ensures stands { IsStand self.now at.new }
+    fn next_pair(&self, at: &mut Position) -> Option<u64>
+        requires { IsPosition self.now at.old }
+        ensures stands { IsPosition self.now at.new }
         ensures next { IsNext K.eq self.now.store at.old result at.new }
     {
         loop {
@@ -150,7 +150,7 @@ impl<K: Hash + Eq, V, S: BuildHasher> HashMap<K, V, S> {
             if next == 0 {
                 return None;
             }
-            *at = Stand {
+            *at = Position {
                 table: next,
                 slot: 0,
                 passed: at.passed + 1,
@@ -160,12 +160,12 @@ impl<K: Hash + Eq, V, S: BuildHasher> HashMap<K, V, S> {
 
     /// Returns the next pair of the map. The iterator holds the root, of `end` slots, to its end.
     #[inline(always)]
-    fn next_held(&self, root: Option<&Table>, end: &mut usize, at: &mut Stand) -> Option<u64>
+    fn next_held(&self, root: Option<&Table>, end: &mut usize, at: &mut Position) -> Option<u64>
         requires orderly { IsOrderly K.eq
             (hash_of K.hash_input S.build_hasher S.Hasher.write S.Hasher.finish) self.now }
-        requires stands { IsStand self.now at.old }
+        requires stands { IsPosition self.now at.old }
         requires held { IsHeld self.now.store at.old root end.old }
-        ensures stands { IsStand self.now at.new }
+        ensures stands { IsPosition self.now at.new }
         ensures held { IsHeld self.now.store at.new root.entry end.new }
         ensures next { IsNext K.eq self.now.store at.old result at.new }
     {
@@ -188,12 +188,12 @@ impl<K: Hash + Eq, V, S: BuildHasher> HashMap<K, V, S> {
 
     /// Returns the position at which an iteration begins.
     #[inline]
-    fn first(&self) -> Stand
-        ensures stands { IsStand self.now result }
+    fn first(&self) -> Position
+        ensures stands { IsPosition self.now result }
         ensures root { (result.table ≡ self.now.store.words.root) × (result.passed ≡ 0) }
         ensures whole { left_to K.eq self.now.store result ≡ content K.eq self.now.store }
     {
-        Stand {
+        Position {
             table: self.store.word(At::Root),
             slot: 0,
             passed: 0,
@@ -268,20 +268,20 @@ pub struct Iter<'a, K: Hash + Eq, V, S: BuildHasher> {
     root: Option<&'a Table>,
     /// The number of slots of the root while the iteration is in it, and 0 afterwards.
     end: usize,
-    at: Stand,
+    at: Position,
 }
 
 impl<'a, K: Hash + Eq, V, S: BuildHasher> Model for Iter<'a, K, V, S> {
     ghost use Rattle.std.specs.Prelude.{List};
     ghost use Rattle.papaya_words_keys.specs.Hashes.{hash_of};
     ghost use Rattle.papaya_seq.specs.Map.{IsOrderly};
-    ghost use Rattle.papaya_seq.specs.Walks.{IsHeld, IsStand, entries_left};
+    ghost use Rattle.papaya_seq.specs.Walks.{IsHeld, IsPosition, entries_left};
 
     ghost Value = { List (K × V) };
 
     ghost view = { λ it. entries_left K.eq it.map.now.store it.at };
 
-    ghost invariant = { λ it. IsStand it.map.now it.at
+    ghost invariant = { λ it. IsPosition it.map.now it.at
         × IsHeld it.map.now.store it.at it.root it.end
         × IsOrderly K.eq
         (hash_of K.hash_input S.build_hasher S.Hasher.write S.Hasher.finish) it.map.now };
@@ -379,7 +379,7 @@ impl<'a, K: Hash + Eq, V, S: BuildHasher> Iterator for Values<'a, K, V, S> {
 
 /// A position before this slot of this table. `passed` tables come before it, from the root.
 #[derive(Clone, Copy)]
-pub(crate) struct Stand {
+pub(crate) struct Position {
     pub(crate) table: u64,
     pub(crate) slot: usize,
     pub(crate) passed: usize,

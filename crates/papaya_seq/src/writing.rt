@@ -58,7 +58,7 @@ pub(crate) fn write<K: Hash + Eq + Drop, V: Drop, S: BuildHasher>(
     let old = Word(write.old).pair();
     let mut key = key_for(store, key, write.old);
     let mut value = Part::Own(value);
-    let pair = match store.log_pair(&mut key, &mut value) {
+    let pair = match store.store_pair(&mut key, &mut value) {
         Ok(pair) => pair,
         Err(refused) => return (Reply::Refused(refused), value.own()),
     };

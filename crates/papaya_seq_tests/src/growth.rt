@@ -160,14 +160,14 @@ fn changes_while_moving(rt: &impl Abort, map: &mut Numbers) {
 #[derive(Clone, Copy)]
 enum Case {
     GetsSmaller,
-    GoesOn,
+    Continues,
 }
 
 impl Work<Times> for Case {
     fn is_done<R: Abort>(self, rt: &R, _alloc: Global, map: &mut Numbers) -> Result<(), Fail> {
         match self {
             Case::GetsSmaller => gets_smaller(rt, map),
-            Case::GoesOn => {
+            Case::Continues => {
                 fills(rt, map, &[(9, 8, true)]);
                 insertions_while_moving(rt, map);
                 changes_while_moving(rt, map);
@@ -187,5 +187,5 @@ fn removed_pairs_leave_a_smaller_table(rt: HostRuntime) -> Result<(), Fail> {
 #[test]
 fn calls_go_on_while_pairs_are_moved(rt: HostRuntime) -> Result<(), Fail> {
     let parts = Parts::All(ResizeMode::Incremental(1), 6, APART);
-    on_made(&rt, rt.alloc(), parts, Case::GoesOn)
+    on_made(&rt, rt.alloc(), parts, Case::Continues)
 }

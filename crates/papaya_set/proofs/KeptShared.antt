@@ -4,7 +4,7 @@ use denote.Ref.{Bor}
 use Rattle.std.specs.Fn.{Called, Mut}
 use Rattle.papaya_words.specs.declared.refused.Refused.{Refused}
 use Rattle.papaya_map_book.specs.Logs.{Stored}
-use Rattle.papaya_map_change.specs.Showings.{HasSaid, Judges}
+use Rattle.papaya_map_change.specs.ClosureCalls.{HasReturned, Judges}
 use Rattle.papaya_map_lookup.specs.History.{Change}
 use Rattle.papaya_map_scan.specs.Leaving.{HasKept}
 use Rattle.papaya_set.specs.Shared.{JudgesKey}
@@ -14,8 +14,8 @@ module _ {F W K : Type 0} (g : Mut F (Bor K × Unit {0}) Bool) (h : Mut W (Bor K
     (asks : (w w' : W) (key : Bor K) (value : Bor (Unit {0})) (agrees : Bool) → Called h w (key, (value, tt)) agrees w'
     → Called g (of w) (key, tt) agrees (of w')) where
   -- what the one answered, the other did
-  said_of : (first : W) (said : List (Stored K (Unit {0}) × Bool)) (left : W) → HasSaid (Judges h) first said left
-      → HasSaid (JudgesKey g) (of first) said (of left)
+  said_of : (first : W) (said : List (Stored K (Unit {0}) × Bool)) (left : W) → HasReturned (Judges h) first said left
+      → HasReturned (JudgesKey g) (of first) said (of left)
   said_of first [] left is = ap of is
   said_of first (last ∷ before) left (w, earlier, (key, value, are, called)) =
       (of w, said_of first before w earlier, (key, are.0, asks w left key value last.1 called))

@@ -3,7 +3,7 @@ ghost use Rattle.std.specs.Prelude.{◌≡◌, ◌⊎◌, IfOk, IfErr};
 ghost use Rattle.std.specs.Iterator.{IsFiniteIterable};
 ghost use Rattle.std.specs.declared.hash.FoldHasher.{FoldHasher};
 ghost use Rattle.std.specs.declared.hash.BuildHasherDefault.{BuildHasherDefault};
-ghost use Rattle.papaya_seq.specs.Entries.{AllCome, ComesNext, Extends, HasJust, IsCutAnew};
+ghost use Rattle.papaya_seq.specs.Entries.{AllCome, ComesNext, Extends, HasJust, IsCutNew};
 ghost use Rattle.papaya_seq.specs.Entries.{IsCutIn};
 ghost use Rattle.papaya_set.specs.Sets.{entry_of_key, entry_of_ref};
 
@@ -88,7 +88,7 @@ impl<K: Hash + Eq + Drop, S: BuildHasher + Default + Drop> HashSet<K, S> {
         ensures hasher { IfOk result (λ set. S.is_default set.store.hasher) }
         ensures err { IfErr result (λ e. (e ≡ Refused.Memory)
             ⊎ ComesNext U.into_iter_gives U.IntoIter.next_gives iter
-            (λ items item. IsCutAnew S K.eq entry_of_key items item e)) }
+            (λ items item. IsCutNew S K.eq entry_of_key items item e)) }
     {
         let mut set = HashSet::with_hasher(alloc, S::default())?;
         match set.extend(iter) {

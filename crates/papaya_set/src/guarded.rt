@@ -18,7 +18,7 @@ ghost use Rattle.papaya_set.specs.Shared.{IsKeyFoundBetween, IsRemovedKeyBetween
 use crate::iter::Iter;
 use crate::set::HashSet;
 use logbook::Rule;
-use papaya_map::told::{Saying, Told};
+use papaya_map::observed::{Observed, Saying};
 use papaya_map_book::rule::entry::{Event, Named};
 use papaya_map_book::rule::law::Law;
 use papaya_words::refused::Refused;
@@ -57,7 +57,7 @@ impl<K: Hash + Eq, S: BuildHasher> HashSet<K, S> {
 
     /// Returns a refusal, with the history observed up to the set's creation, and no change.
     #[inline(always)]
-    fn tell_refused<B>(&self, refused: Refused) -> Saying<Result<B, Refused>, K, (), S>
+    fn observe_refused<B>(&self, refused: Refused) -> Saying<Result<B, Refused>, K, (), S>
         ensures answer { result.answer ≡ Err refused }
         ensures book { result.book ≡ self.now.book }
         ensures legal { IsLegalHistory K.eq key_of (history_of result.log) }
@@ -70,7 +70,7 @@ impl<K: Hash + Eq, S: BuildHasher> HashSet<K, S> {
 
     /// Performs [`HashSet::contains`], and returns the observed history as well.
     #[inline(always)]
-    fn contains_told<Q: Equivalent<K>, G: Guard>(
+    fn contains_observed<Q: Equivalent<K>, G: Guard>(
         &self,
         key: &Q,
         guard: &G,
@@ -87,7 +87,7 @@ impl<K: Hash + Eq, S: BuildHasher> HashSet<K, S> {
             → result.answer ≡ Err Refused.WrongGuard }
     {
         if let Err(refused) = self.verify(guard) {
-            return self.tell_refused(refused);
+            return self.observe_refused(refused);
         }
         let mut pass = self.map.begun(None);
         let found = self.map.pin().get_as(key, &mut pass).is_some();
@@ -113,13 +113,13 @@ impl<K: Hash + Eq, S: BuildHasher> HashSet<K, S> {
         ensures wrong { (G.collector_number guard.now ≡ self.now.collector → ⊥)
             → result ≡ Err Refused.WrongGuard }
     {
-        let Told { answer, marker: _ } = self.contains_told(key, guard);
+        let Observed { answer, marker: _ } = self.contains_observed(key, guard);
         answer
     }
 
     /// Performs [`HashSet::get`], and returns the observed history as well.
     #[inline(always)]
-    fn get_told<'g, Q: Equivalent<K>, G: Guard>(
+    fn get_observed<'g, Q: Equivalent<K>, G: Guard>(
         &'g self,
         key: &Q,
         guard: &'g G,
@@ -136,7 +136,7 @@ impl<K: Hash + Eq, S: BuildHasher> HashSet<K, S> {
             → result.answer ≡ Err Refused.WrongGuard }
     {
         if let Err(refused) = self.verify(guard) {
-            return self.tell_refused(refused);
+            return self.observe_refused(refused);
         }
         let mut session = self.map.begun_session(None);
         match session.get_key_value(key) {
@@ -168,13 +168,13 @@ impl<K: Hash + Eq, S: BuildHasher> HashSet<K, S> {
         ensures wrong { (G.collector_number guard.now ≡ self.now.collector → ⊥)
             → result ≡ Err Refused.WrongGuard }
     {
-        let Told { answer, marker: _ } = self.get_told(key, guard);
+        let Observed { answer, marker: _ } = self.get_observed(key, guard);
         answer
     }
 
     /// Performs [`HashSet::remove`], and returns the observed history as well.
     #[inline(always)]
-    fn remove_told<R: Wait, Q: Equivalent<K>, G: Guard>(
+    fn remove_observed<R: Wait, Q: Equivalent<K>, G: Guard>(
         &self,
         rt: &R,
         key: &Q,
@@ -193,7 +193,7 @@ impl<K: Hash + Eq, S: BuildHasher> HashSet<K, S> {
             → result.answer ≡ Err Refused.WrongGuard }
     {
         if let Err(refused) = self.verify(guard) {
-            return self.tell_refused(refused);
+            return self.observe_refused(refused);
         }
         let mut pass = self.map.begun(Some(guard.number()));
         match self.map.pin().remove_as(rt, key, &mut pass) {
@@ -226,7 +226,7 @@ impl<K: Hash + Eq, S: BuildHasher> HashSet<K, S> {
         ensures wrong { (G.collector_number guard.now ≡ self.now.collector → ⊥)
             → result ≡ Err Refused.WrongGuard }
     {
-        let Told { answer, marker: _ } = self.remove_told(rt, key, guard);
+        let Observed { answer, marker: _ } = self.remove_observed(rt, key, guard);
         answer
     }
 
@@ -253,7 +253,7 @@ impl<K: Hash + Eq, S: BuildHasher> HashSet<K, S> {
 
     /// Performs [`HashSet::clear`], and returns the observed history as well.
     #[inline(always)]
-    fn clear_told<R: Wait, G: Guard>(
+    fn clear_observed<R: Wait, G: Guard>(
         &self,
         rt: &R,
         guard: &G,
@@ -273,7 +273,7 @@ impl<K: Hash + Eq, S: BuildHasher> HashSet<K, S> {
             → result.answer ≡ Err Refused.WrongGuard }
     {
         if let Err(refused) = self.verify(guard) {
-            return self.tell_refused(refused);
+            return self.observe_refused(refused);
         }
         let mut session = self.map.begun_session(Some(guard.number()));
         let answer = session.clear(rt);
@@ -298,13 +298,13 @@ impl<K: Hash + Eq, S: BuildHasher> HashSet<K, S> {
         ensures wrong { (G.collector_number guard.now ≡ self.now.collector → ⊥)
             → result ≡ Err Refused.WrongGuard }
     {
-        let Told { answer, marker: _ } = self.clear_told(rt, guard);
+        let Observed { answer, marker: _ } = self.clear_observed(rt, guard);
         answer
     }
 
     /// Performs [`HashSet::retain`], and returns the observed history as well.
     #[inline(always)]
-    fn retain_told<R: Wait, F: FnMut(&K) -> bool, G: Guard>(
+    fn retain_observed<R: Wait, F: FnMut(&K) -> bool, G: Guard>(
         &self,
         rt: &R,
         mut stays: F,
@@ -325,7 +325,7 @@ impl<K: Hash + Eq, S: BuildHasher> HashSet<K, S> {
             → result.answer ≡ Err Refused.WrongGuard }
     {
         if let Err(refused) = self.verify(guard) {
-            return self.tell_refused(refused);
+            return self.observe_refused(refused);
         }
         let mut session = self.map.begun_session(Some(guard.number()));
         let answer = session.retain(rt, move |key, _| stays(key));
@@ -358,7 +358,7 @@ impl<K: Hash + Eq, S: BuildHasher> HashSet<K, S> {
         ensures wrong { (G.collector_number guard.now ≡ self.now.collector → ⊥)
             → result ≡ Err Refused.WrongGuard }
     {
-        let Told { answer, marker: _ } = self.retain_told(rt, stays, guard);
+        let Observed { answer, marker: _ } = self.retain_observed(rt, stays, guard);
         answer
     }
 
@@ -388,7 +388,7 @@ impl<K: Hash + Eq, S: BuildHasher> HashSet<K, S> {
 impl<K: Hash + Eq + Drop, S: BuildHasher> HashSet<K, S> {
     /// Performs [`HashSet::insert`], and returns the observed history as well.
     #[inline(always)]
-    fn insert_told<R: Wait, G: Guard>(
+    fn insert_observed<R: Wait, G: Guard>(
         &self,
         rt: &R,
         key: K,
@@ -407,7 +407,7 @@ impl<K: Hash + Eq + Drop, S: BuildHasher> HashSet<K, S> {
             → result.answer ≡ Err Refused.WrongGuard }
     {
         if let Err(refused) = self.verify(guard) {
-            return self.tell_refused(refused);
+            return self.observe_refused(refused);
         }
         let mut pass = self.map.begun(Some(guard.number()));
         match self.map.pin().insert_as(rt, key, (), &mut pass) {
@@ -435,7 +435,7 @@ impl<K: Hash + Eq + Drop, S: BuildHasher> HashSet<K, S> {
         ensures wrong { (G.collector_number guard.now ≡ self.now.collector → ⊥)
             → result ≡ Err Refused.WrongGuard }
     {
-        let Told { answer, marker: _ } = self.insert_told(rt, key, guard);
+        let Observed { answer, marker: _ } = self.insert_observed(rt, key, guard);
         answer
     }
 }

@@ -17,7 +17,7 @@ ghost use Rattle.papaya_set.specs.Shared.{IsKeyFoundBetween, IsRemovedKeyBetween
 use crate::iter::Iter;
 use crate::set::{HashSet, HashSetRef};
 use logbook::Rule;
-use papaya_map::told::{Saying, Told};
+use papaya_map::observed::{Observed, Saying};
 use papaya_map_book::rule::entry::{Event, Named};
 use papaya_map_book::rule::law::Law;
 use papaya_words::refused::Refused;
@@ -61,7 +61,7 @@ impl<'a, K: Hash + Eq, S: BuildHasher> HashSetRef<'a, K, S> {
 
     /// Performs [`HashSetRef::contains`], and returns the observed history as well.
     #[inline(always)]
-    fn contains_told<Q: Equivalent<K>>(&self, key: &Q) -> Saying<bool, K, (), S>
+    fn contains_observed<Q: Equivalent<K>>(&self, key: &Q) -> Saying<bool, K, (), S>
         ensures made { history_of result.made ≡ [] }
         ensures book { result.book ≡ self.now.map.book }
         ensures legal { IsLegalHistory K.eq key_of (history_of result.log) }
@@ -92,13 +92,13 @@ impl<'a, K: Hash + Eq, S: BuildHasher> HashSetRef<'a, K, S> {
         ensures contained { IsOfHistorySince self.now K.eq
             (λ h. IsContainedBetween K.eq (Q.matches key.now) self.now.seen h result) }
     {
-        let Told { answer, marker: _ } = self.contains_told(key);
+        let Observed { answer, marker: _ } = self.contains_observed(key);
         answer
     }
 
     /// Performs [`HashSetRef::get`], and returns the observed history as well.
     #[inline(always)]
-    fn get_told<Q: Equivalent<K>>(&self, key: &Q) -> Saying<Option<&'a K>, K, (), S>
+    fn get_observed<Q: Equivalent<K>>(&self, key: &Q) -> Saying<Option<&'a K>, K, (), S>
         ensures made { history_of result.made ≡ [] }
         ensures book { result.book ≡ self.now.map.book }
         ensures legal { IsLegalHistory K.eq key_of (history_of result.log) }
@@ -123,13 +123,13 @@ impl<'a, K: Hash + Eq, S: BuildHasher> HashSetRef<'a, K, S> {
         ensures found { IsOfHistorySince self.now K.eq
             (λ h. IsKeyFoundBetween K.eq (Q.matches key.now) self.now.seen h result) }
     {
-        let Told { answer, marker: _ } = self.get_told(key);
+        let Observed { answer, marker: _ } = self.get_observed(key);
         answer
     }
 
     /// Performs [`HashSetRef::remove`], and returns the observed history as well.
     #[inline(always)]
-    fn remove_told<R: Wait, Q: Equivalent<K>>(
+    fn remove_observed<R: Wait, Q: Equivalent<K>>(
         &self,
         rt: &R,
         key: &Q,
@@ -164,7 +164,7 @@ impl<'a, K: Hash + Eq, S: BuildHasher> HashSetRef<'a, K, S> {
             (λ h. IfOk result (IsRemovedKeyBetween K.eq (Q.matches key.now) self.now.seen h)) }
         ensures refused { IfErr result IsMemoryOrCapacity }
     {
-        let Told { answer, marker: _ } = self.remove_told(rt, key);
+        let Observed { answer, marker: _ } = self.remove_observed(rt, key);
         answer
     }
 
@@ -183,7 +183,7 @@ impl<'a, K: Hash + Eq, S: BuildHasher> HashSetRef<'a, K, S> {
 
     /// Performs [`HashSetRef::clear`], and returns the observed history as well.
     #[inline(always)]
-    fn clear_told<R: Wait>(&self, rt: &R) -> Saying<Result<(), Refused>, K, (), S>
+    fn clear_observed<R: Wait>(&self, rt: &R) -> Saying<Result<(), Refused>, K, (), S>
         ensures made { HasDropped K.eq self.now.seen (history_of result.log) []
             (history_of result.made) }
         ensures book { result.book ≡ self.now.map.book }
@@ -212,13 +212,13 @@ impl<'a, K: Hash + Eq, S: BuildHasher> HashSetRef<'a, K, S> {
             (λ h. IfOk result (λ _. IsCleared K.eq self.now.seen h)) }
         ensures refused { IfErr result IsMemoryOrCapacity }
     {
-        let Told { answer, marker: _ } = self.clear_told(rt);
+        let Observed { answer, marker: _ } = self.clear_observed(rt);
         answer
     }
 
     /// Performs [`HashSetRef::retain`], and returns the observed history as well.
     #[inline(always)]
-    fn retain_told<R: Wait, F: FnMut(&K) -> bool>(
+    fn retain_observed<R: Wait, F: FnMut(&K) -> bool>(
         &self,
         rt: &R,
         mut stays: F,
@@ -257,7 +257,7 @@ impl<'a, K: Hash + Eq, S: BuildHasher> HashSetRef<'a, K, S> {
             result) }
         ensures refused { IfErr result IsMemoryOrCapacity }
     {
-        let Told { answer, marker: _ } = self.retain_told(rt, stays);
+        let Observed { answer, marker: _ } = self.retain_observed(rt, stays);
         answer
     }
 
@@ -284,7 +284,7 @@ impl<'a, K: Hash + Eq, S: BuildHasher> HashSetRef<'a, K, S> {
 impl<'a, K: Hash + Eq + Drop, S: BuildHasher> HashSetRef<'a, K, S> {
     /// Performs [`HashSetRef::insert`], and returns the observed history as well.
     #[inline(always)]
-    fn insert_told<R: Wait>(&self, rt: &R, key: K) -> Saying<Result<bool, Refused>, K, (), S>
+    fn insert_observed<R: Wait>(&self, rt: &R, key: K) -> Saying<Result<bool, Refused>, K, (), S>
         ensures made { Makes (is_ok result.answer) [] (history_of result.made)
             (history_of result.log) }
         ensures book { result.book ≡ self.now.map.book }
@@ -325,7 +325,7 @@ impl<'a, K: Hash + Eq + Drop, S: BuildHasher> HashSetRef<'a, K, S> {
             (λ h. IfOk result (IsInsertedBetween K.eq key self.now.seen h)) }
         ensures refused { IfErr result (IsPlainRefusal self.now.map.begun.limit) }
     {
-        let Told { answer, marker: _ } = self.insert_told(rt, key);
+        let Observed { answer, marker: _ } = self.insert_observed(rt, key);
         answer
     }
 }

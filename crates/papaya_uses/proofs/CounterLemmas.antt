@@ -4,7 +4,7 @@ use Rattle.std.specs.Prelude.{Result, option_map}
 use Rattle.std.specs.Borrow.{Bor}
 use Rattle.std.specs.Fn.{Called, Mut}
 use Rattle.papaya.specs.Types.{Compute, Inserted, Updated, Removed, Aborted, Operation, Insert, Remove, Abort, Refused}
-use Rattle.papaya.specs.Threads.{AreShown, IsComputeBy, IsLegalHistory, IsOperated, Member, Operates, Stored, WasLast, key_of}
+use Rattle.papaya.specs.Threads.{AreRefsTo, IsComputeBy, IsLegalHistory, IsOperated, Member, Operates, Stored, WasLast, key_of}
 use Rattle.papaya_uses.specs.Counters.{HasAdded, Seen, next_count}
 use Rattle.papaya_uses.proofs.PutLemmas.{put_at}
 use Rattle.papaya_uses.proofs.Said.{said_each}
@@ -25,7 +25,7 @@ abbrev answer_to : ℕ → Option (Stored ℕ ℕ) → Operation ℕ (Unit {0})
 answer_to by held = Insert (next_count by (option_map (λ p. p.value.value) held))
 
 -- the same by references
-answer_by : (by : ℕ) (shown : Option (Bor ℕ × Bor ℕ)) (held : Option (Stored ℕ ℕ)) → AreShown shown held
+answer_by : (by : ℕ) (shown : Option (Bor ℕ × Bor ℕ)) (held : Option (Stored ℕ ℕ)) → AreRefsTo shown held
     → Insert (next_count by (option_map (λ p. p.1.now) shown)) ≡ answer_to by held
 answer_by by None None are = refl
 answer_by by (Some entry) (Some p) are = ap (λ v. Insert (next_count by (Some v))) are.1

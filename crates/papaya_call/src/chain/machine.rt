@@ -3,10 +3,10 @@ ghost use Rattle.std.specs.Prelude.{◌≡◌};
 ghost use Rattle.std.specs.Int.{IsPowerOfTwo};
 ghost use Rattle.papaya_words.specs.Mode.{IsChunked};
 ghost use Rattle.papaya_call.specs.Machine.{IsFit as IsCallFit};
-ghost use Rattle.papaya_call.specs.Copying.{IsStandingCopied, IsStandingCopying};
-ghost use Rattle.papaya_call.specs.Link.{IsStandingLink, IsStandingLinked};
-ghost use Rattle.papaya_call.specs.ChainMachine.{IsFit, IsFitAsk, IsStanding, after, after_copied, after_linked, ask_of};
-ghost use Rattle.papaya_call.specs.ChainMachine.{begins_anew, called, copying_after, enters, follows_of, grows, kind_of_ask};
+ghost use Rattle.papaya_call.specs.Copying.{IsValidCopied, IsValidCopying};
+ghost use Rattle.papaya_call.specs.Link.{IsValidLink, IsValidLinked};
+ghost use Rattle.papaya_call.specs.ChainMachine.{IsFit, IsFitAsk, IsValid, after, after_copied, after_linked, ask_of};
+ghost use Rattle.papaya_call.specs.ChainMachine.{restarted, called, copying_after, enters, follows_of, grows, kind_of_ask};
 ghost use Rattle.papaya_call.specs.ChainMachine.{link_after, onward, refuses, started, stepped};
 
 use crate::ask::{Answer as CallAnswer, StepKind};
@@ -36,11 +36,11 @@ pub enum Phase {
 /// Returns the outcome of an answer while a table is made. Ignores an answer to another ask.
 #[inline]
 pub(crate) fn link_after(link: Link, answer: Answer, mode: ResizeMode, initial: usize) -> Linked
-    requires standing { IsStandingLink link }
+    requires valid { IsValidLink link }
     requires initial { IsPowerOfTwo initial }
     requires fit { IsFit answer }
     ensures value { result ≡ link_after link mode initial answer }
-    ensures standing { IsStandingLinked result }
+    ensures valid { IsValidLinked result }
 {
     match answer {
         Answer::Call(CallAnswer::Size { len, limit }) => Linked::On(link.at_size(len, limit)),
@@ -62,11 +62,11 @@ pub(crate) fn copying_after(
     initial: usize,
     number: u64,
 ) -> Copied
-    requires standing { IsStandingCopying copying }
+    requires valid { IsValidCopying copying }
     requires initial { IsPowerOfTwo initial }
     requires fit { IsFit answer }
     ensures value { result ≡ copying_after copying mode initial number answer }
-    ensures standing { IsStandingCopied result }
+    ensures valid { IsValidCopied result }
 {
     match answer {
         Answer::Call(CallAnswer::Word(word)) => copying.at_word(mode, word),
@@ -117,7 +117,7 @@ impl Machine {
         requires chunked { IsChunked mode }
         requires initial { IsPowerOfTwo initial }
         ensures value { result ≡ started task hash mode initial number limit }
-        ensures standing { IsStanding result }
+        ensures valid { IsValid result }
     {
         Machine {
             call: CallMachine::new(task, hash, mode, initial, limit),
@@ -130,7 +130,7 @@ impl Machine {
     /// Returns the next ask: the same until it is answered.
     #[inline(always)]
     pub fn ask(&self) -> Ask
-        requires { IsStanding self.now }
+        requires { IsValid self.now }
         ensures value { result ≡ ask_of self.now }
         ensures size { IsFitAsk result }
     {
@@ -168,10 +168,10 @@ impl Machine {
     /// Continues after an answer to the last ask. A call that has replied does not change.
     #[inline(always)]
     pub fn answer(&mut self, answer: Answer)
-        requires standing { IsStanding self.old }
+        requires valid { IsValid self.old }
         requires fit { IsFit answer }
         ensures after { self.new ≡ after self.old answer }
-        ensures standing { IsStanding self.new }
+        ensures valid { IsValid self.new }
     {
         match self.phase {
             Phase::Calling => {
@@ -202,10 +202,10 @@ impl Machine {
     #[inline(always)]
     #[tactic(auto, using(crate::proofs::Settings::settings_stable))]
     fn step(&mut self, answer: CallAnswer)
-        requires standing { IsStanding self.old }
+        requires valid { IsValid self.old }
         requires fit { IsCallFit answer }
         ensures after { self.new ≡ stepped self.old answer }
-        ensures standing { IsStanding self.new }
+        ensures valid { IsValid self.new }
     {
         self.call.answer(answer);
     }
@@ -213,10 +213,10 @@ impl Machine {
     /// Continues after an answer to the call, which the next table's number sets aside.
     #[inline(always)]
     fn called(&mut self, answer: CallAnswer)
-        requires standing { IsStanding self.old }
+        requires valid { IsValid self.old }
         requires fit { IsCallFit answer }
         ensures after { self.new ≡ called self.old answer }
-        ensures standing { IsStanding self.new }
+        ensures valid { IsValid self.new }
     {
         match (self.call.state, answer) {
             (State::Leaving(_), CallAnswer::Word(next)) if self.call.task != Task::Get => {
@@ -235,9 +235,9 @@ impl Machine {
     /// of this table is copied first, to whichever table takes it.
     #[inline]
     fn grows(&mut self, need: Need, next: u64)
-        requires standing { IsStanding self.old }
+        requires valid { IsValid self.old }
         ensures after { self.new ≡ grows self.old need next }
-        ensures standing { IsStanding self.new }
+        ensures valid { IsValid self.new }
     {
         match self.call.mode {
             ResizeMode::Blocking => {
@@ -260,9 +260,9 @@ impl Machine {
     /// once a call, and the slot in which it met its key's pair.
     #[inline]
     fn onward(&mut self, next: u64)
-        requires standing { IsStanding self.old }
+        requires valid { IsValid self.old }
         ensures after { self.new ≡ onward self.old next }
-        ensures standing { IsStanding self.new }
+        ensures valid { IsValid self.new }
     {
         let aim = match self.call.state {
             State::Growing(Need::Pair(from, index)) => Aim::Settle(SlotToCopy {
@@ -286,9 +286,9 @@ impl Machine {
     /// Continues the call with a search of this table.
     #[inline]
     fn enter(&mut self, table: u64)
-        requires standing { IsStanding self.old }
+        requires valid { IsValid self.old }
         ensures after { self.new ≡ enters self.old table }
-        ensures standing { IsStanding self.new }
+        ensures valid { IsValid self.new }
     {
         self.call.state = State::Searching(Search::Sizing(table));
         self.phase = Phase::Calling;
@@ -296,10 +296,10 @@ impl Machine {
 
     /// Continues the call at the root, as one that begins.
     #[inline]
-    fn begin_anew(&mut self, root: u64)
-        requires standing { IsStanding self.old }
-        ensures after { self.new ≡ begins_anew self.old root }
-        ensures standing { IsStanding self.new }
+    fn restart(&mut self, root: u64)
+        requires valid { IsValid self.old }
+        ensures after { self.new ≡ restarted self.old root }
+        ensures valid { IsValid self.new }
     {
         self.call.state = State::AtRoot;
         self.phase = Phase::Calling;
@@ -309,9 +309,9 @@ impl Machine {
     /// Ends the call because a table could not be made.
     #[inline]
     fn refuse(&mut self, refused: Refused)
-        requires standing { IsStanding self.old }
+        requires valid { IsValid self.old }
         ensures after { self.new ≡ refuses self.old refused }
-        ensures standing { IsStanding self.new }
+        ensures valid { IsValid self.new }
     {
         self.call.state = State::Ended(Reply::Refused(refused));
         self.phase = Phase::Calling;
@@ -320,10 +320,10 @@ impl Machine {
     /// Continues with the outcome of making the next table.
     #[inline]
     fn linked(&mut self, linked: Linked)
-        requires standing { IsStanding self.old }
-        requires link { IsStandingLinked linked }
+        requires valid { IsValid self.old }
+        requires link { IsValidLinked linked }
         ensures after { self.new ≡ after_linked self.old linked }
-        ensures standing { IsStanding self.new }
+        ensures valid { IsValid self.new }
     {
         match linked {
             Linked::On(link) => self.phase = Phase::Linking(link),
@@ -336,15 +336,15 @@ impl Machine {
     /// start, at the present root. No call copies only a chunk.
     #[inline]
     fn copied(&mut self, copied: Copied)
-        requires standing { IsStanding self.old }
-        requires copying { IsStandingCopied copied }
+        requires valid { IsValid self.old }
+        requires copying { IsValidCopied copied }
         ensures after { self.new ≡ after_copied self.old copied }
-        ensures standing { IsStanding self.new }
+        ensures valid { IsValid self.new }
     {
         match copied {
             Copied::On(copying) => self.phase = Phase::Copying(copying),
             Copied::Search(table) => self.enter(table),
-            Copied::Root(root) => self.begin_anew(root),
+            Copied::Root(root) => self.restart(root),
             Copied::Chunk => self.phase = Phase::Calling,
             Copied::Refused(refused) => self.refuse(refused),
         }

@@ -4,13 +4,13 @@ ghost use Rattle.std.specs.Prelude.{◌≡◌, ◌+◌};
 ghost use Rattle.std.specs.Int.{IsPowerOfTwo};
 ghost use Rattle.papaya_words.specs.Mode.{IsChunked};
 ghost use Rattle.papaya_call.specs.Search.{IsSize};
-ghost use Rattle.papaya_call.specs.Link.{IsFitCopyAsk, IsStandingLink, IsStandingLinked};
-ghost use Rattle.papaya_call.specs.Copying.{IsStandingCopied, IsStandingCopying};
+ghost use Rattle.papaya_call.specs.Link.{IsFitCopyAsk, IsValidLink, IsValidLinked};
+ghost use Rattle.papaya_call.specs.Copying.{IsValidCopied, IsValidCopying};
 ghost use Rattle.papaya_call.specs.ChainMachine.{IsFit};
-ghost use Rattle.papaya_call.specs.Resizer.{IsStandingIn, IsStandingResizer, after, ask_of, at_count};
+ghost use Rattle.papaya_call.specs.Resizer.{IsValidIn, IsValidResizer, after, ask_of, at_count};
 ghost use Rattle.papaya_call.specs.Resizer.{at_next, at_root, begun, called, copied, follows_of};
 ghost use Rattle.papaya_call.specs.Resizer.{kind_of_ask, linked, makes, over, reply_of};
-ghost use Rattle.papaya_call.specs.TableSize.{IsStandingRoom, room_of};
+ghost use Rattle.papaya_call.specs.TableSize.{IsValidRoom, room_of};
 
 use crate::ask::{Answer as CallAnswer, At, StepKind};
 use crate::call::Reply;
@@ -90,7 +90,7 @@ pub enum ResizerState {
 #[tactic(auto, using(crate::proofs::TableSizes::too_many, crate::proofs::TableSizes::too_long, crate::proofs::TableSizes::fits, crate::proofs::TableSizes::fits_size))]
 fn room_for(count: usize, more: usize) -> Option<TableSize>
     ensures value { result ≡ room_of (count + more) }
-    ensures standing { IsStandingRoom result }
+    ensures valid { IsValidRoom result }
 {
     let pairs = count.checked_add(more)?;
     match entries_for(pairs) {
@@ -109,7 +109,7 @@ impl ResizerState {
     /// Makes the first table, for this many pairs.
     fn making(more: usize) -> ResizerState
         ensures value { result ≡ makes (room_of more) }
-        ensures standing { IsStandingIn result }
+        ensures valid { IsValidIn result }
     {
         match room_for(0, more) {
             Some(room) => ResizerState::Making(room),
@@ -120,7 +120,7 @@ impl ResizerState {
     /// Copies all of this root.
     fn copying(root: u64) -> ResizerState
         ensures value { result ≡ Rattle.papaya_call.specs.Resizer.copies root }
-        ensures standing { IsStandingIn result }
+        ensures valid { IsValidIn result }
     {
         ResizerState::Copying {
             from: root,
@@ -133,7 +133,7 @@ impl Resize {
     /// Continues with the number of the root, or 0.
     fn at_root(self, root: u64) -> ResizerState
         ensures value { result ≡ at_root self root }
-        ensures standing { IsStandingIn result }
+        ensures valid { IsValidIn result }
     {
         match self {
             Resize::Reserve(more) if root == 0 => ResizerState::making(more),
@@ -150,7 +150,7 @@ impl Resize {
     /// Continues with the count of pairs; the root has `len` slots.
     fn at_count(self, root: u64, len: usize, count: usize) -> ResizerState
         ensures value { result ≡ at_count self root len count }
-        ensures standing { IsStandingIn result }
+        ensures valid { IsValidIn result }
     {
         match self {
             Resize::Reserve(more) => match room_for(count, more) {
@@ -165,7 +165,7 @@ impl Resize {
     /// Continues after the copy of a chunk, or of a whole root, is finished.
     fn over(self) -> ResizerState
         ensures value { result ≡ over self }
-        ensures standing { IsStandingIn result }
+        ensures valid { IsValidIn result }
     {
         match self {
             Resize::Chunk => ResizerState::Done,
@@ -175,9 +175,9 @@ impl Resize {
 
     /// Continues with the outcome of copying, which began when `from` was the root.
     fn copied(self, from: u64, copied: Copied) -> ResizerState
-        requires { IsStandingCopied copied }
+        requires { IsValidCopied copied }
         ensures value { result ≡ Rattle.papaya_call.specs.Resizer.copied self from copied }
-        ensures standing { IsStandingIn result }
+        ensures valid { IsValidIn result }
     {
         match copied {
             Copied::On(copying) => ResizerState::Copying { from, copying },
@@ -195,9 +195,9 @@ fn at_next(
     room: Option<TableSize>,
     next: u64,
 ) -> ResizerState
-    requires { IsStandingRoom room }
+    requires { IsValidRoom room }
     ensures value { result ≡ at_next mode root before room next }
-    ensures standing { IsStandingIn result }
+    ensures valid { IsValidIn result }
 {
     if next != 0 {
         return ResizerState::copying(root);
@@ -215,9 +215,9 @@ fn at_next(
 
 /// Continues with the outcome of making the table after this root.
 fn linked(root: u64, linked: Linked) -> ResizerState
-    requires { IsStandingLinked linked }
+    requires { IsValidLinked linked }
     ensures value { result ≡ Rattle.papaya_call.specs.Resizer.linked root linked }
-    ensures standing { IsStandingIn result }
+    ensures valid { IsValidIn result }
 {
     match linked {
         Linked::On(link) => ResizerState::Linking(link),
@@ -250,7 +250,7 @@ impl Resizer {
         requires chunked { IsChunked mode }
         requires initial { IsPowerOfTwo initial }
         ensures value { result ≡ begun resize mode initial number }
-        ensures standing { IsStandingResizer result }
+        ensures valid { IsValidResizer result }
     {
         let state = match resize {
             Resize::Chunk => ResizerState::Copying {
@@ -270,7 +270,7 @@ impl Resizer {
 
     /// Returns the next ask, or `None` if the resizer has ended.
     pub fn ask(&self) -> Option<CopyAsk>
-        requires { IsStandingResizer self.now }
+        requires { IsValidResizer self.now }
         ensures { result ≡ ask_of self.now }
     {
         match self.state {
@@ -327,10 +327,10 @@ impl Resizer {
     /// Returns the state after an answer while nothing is linked or copied. Ignores an answer to
     /// another ask.
     fn called(&self, answer: Answer) -> ResizerState
-        requires standing { IsStandingIn self.now.state }
+        requires valid { IsValidIn self.now.state }
         requires fit { IsFit answer }
         ensures value { result ≡ called self.now.resize self.now.mode self.now.state answer }
-        ensures standing { IsStandingIn result }
+        ensures valid { IsValidIn result }
     {
         match (self.state, answer) {
             (ResizerState::AtRoot, Answer::Call(CallAnswer::Word(root))) => self
@@ -360,10 +360,10 @@ impl Resizer {
 
     /// Continues after an answer to the last ask.
     pub fn answer(&mut self, answer: Answer)
-        requires standing { IsStandingResizer self.old }
+        requires valid { IsValidResizer self.old }
         requires fit { IsFit answer }
         ensures after { self.new ≡ after self.old answer }
-        ensures standing { IsStandingResizer self.new }
+        ensures valid { IsValidResizer self.new }
     {
         self.state = match self.state {
             ResizerState::Linking(link) => {

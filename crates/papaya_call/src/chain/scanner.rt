@@ -5,8 +5,8 @@ ghost use Rattle.papaya_words.specs.Mode.{IsChunked};
 ghost use Rattle.papaya_words.specs.Word.{kind_of};
 ghost use Rattle.papaya_call.specs.Search.{IsSize};
 ghost use Rattle.papaya_call.specs.ChainMachine.{IsFit};
-ghost use Rattle.papaya_call.specs.Resizer.{IsStandingIn as IsStandingStage, IsStandingResizer};
-ghost use Rattle.papaya_call.specs.Scanner.{IsStandingIn, IsStandingScanner, IsStandingSpot};
+ghost use Rattle.papaya_call.specs.Resizer.{IsValidIn as IsStandingStage, IsValidResizer};
+ghost use Rattle.papaya_call.specs.Scanner.{IsValidIn, IsValidScanner, IsValidSpot};
 ghost use Rattle.papaya_call.specs.Scanner.{after, ask_of, at_root, begun, copied, buries};
 ghost use Rattle.papaya_call.specs.Scanner.{follows_of, found_by, kind_of_ask, looks, meets};
 ghost use Rattle.papaya_call.specs.Scanner.{next, reply_of, resizer_of, scanned};
@@ -72,7 +72,7 @@ impl Spot {
     /// Loads the slot's word, or ends if the table has no more slots.
     fn look(self) -> ScannerState
         ensures value { result ≡ looks self }
-        ensures standing { IsStandingIn result }
+        ensures valid { IsValidIn result }
     {
         if self.slot < self.len {
             ScannerState::Looking(self)
@@ -91,9 +91,9 @@ impl Spot {
 
     /// Moves to the next slot.
     fn next(self) -> ScannerState
-        requires { IsStandingSpot self }
+        requires { IsValidSpot self }
         ensures value { result ≡ next self }
-        ensures standing { IsStandingIn result }
+        ensures valid { IsValidIn result }
     {
         Spot {
             slot: self.slot + 1,
@@ -107,9 +107,9 @@ impl Scan {
     /// Continues with the slot's word. If a clear or a retain meets a copier's work, it copies
     /// everything and begins again.
     fn meet(self, spot: Spot, word: u64) -> ScannerState
-        requires { IsStandingSpot spot }
+        requires { IsValidSpot spot }
         ensures value { result ≡ meets self spot word (kind_of word) }
-        ensures standing { IsStandingIn result }
+        ensures valid { IsValidIn result }
     {
         match (Word(word).kind(), self) {
             (Kind::Live, Scan::Clear) => ScannerState::Burying(spot, word),
@@ -128,7 +128,7 @@ impl Scan {
 /// Scans this root, or ends if it is 0.
 fn at_root(root: u64) -> ScannerState
     ensures value { result ≡ at_root root }
-    ensures standing { IsStandingIn result }
+    ensures valid { IsValidIn result }
 {
     if root == 0 {
         ScannerState::Done
@@ -151,7 +151,7 @@ fn found_by(stage: Stage) -> u64
 fn copied(from: Stage, to: Stage) -> ScannerState
     requires { IsStandingStage to }
     ensures value { result ≡ copied from to }
-    ensures standing { IsStandingIn result }
+    ensures valid { IsValidIn result }
 {
     match to {
         Stage::Done => at_root(found_by(from)),
@@ -181,7 +181,7 @@ impl Scanner {
         requires chunked { IsChunked mode }
         requires initial { IsPowerOfTwo initial }
         ensures value { result ≡ begun scan mode initial number }
-        ensures standing { IsStandingScanner result }
+        ensures valid { IsValidScanner result }
     {
         let state = match mode {
             ResizeMode::Incremental(_) => ScannerState::Copying(Stage::AtRoot),
@@ -198,10 +198,10 @@ impl Scanner {
 
     /// Returns the resizer that copies everything, in this state.
     fn resizer(&self, stage: Stage) -> Resizer
-        requires standing { IsStandingScanner self.now }
+        requires valid { IsValidScanner self.now }
         requires stage { IsStandingStage stage }
         ensures value { result ≡ resizer_of self.now stage }
-        ensures standing { IsStandingResizer result }
+        ensures valid { IsValidResizer result }
     {
         Resizer {
             mode: self.mode,
@@ -214,7 +214,7 @@ impl Scanner {
 
     /// Returns the next ask, or `None` if the scanner has ended.
     pub fn ask(&self) -> Option<ScanAsk>
-        requires { IsStandingScanner self.now }
+        requires { IsValidScanner self.now }
         ensures { result ≡ ask_of self.now }
     {
         match self.state {
@@ -248,7 +248,7 @@ impl Scanner {
 
     /// Returns the exchange's kind, if the next ask is an exchange.
     pub fn kind(&self) -> Option<StepKind>
-        requires { IsStandingScanner self.now }
+        requires { IsValidScanner self.now }
         ensures { result ≡ kind_of_ask self.now }
     {
         match self.state {
@@ -260,7 +260,7 @@ impl Scanner {
 
     /// Returns the table that a table in the making will follow, or 0 if none is made.
     pub fn follows(&self) -> u64
-        requires { IsStandingScanner self.now }
+        requires { IsValidScanner self.now }
         ensures { result ≡ follows_of self.now }
     {
         match self.state {
@@ -271,10 +271,10 @@ impl Scanner {
 
     /// Returns the state after an answer while nothing is copied. Ignores an answer to another ask.
     fn scanned(&self, answer: Answer) -> ScannerState
-        requires standing { IsStandingIn self.now.state }
+        requires valid { IsValidIn self.now.state }
         requires fit { IsFit answer }
         ensures value { result ≡ scanned self.now.scan self.now.state answer }
-        ensures standing { IsStandingIn result }
+        ensures valid { IsValidIn result }
     {
         let Answer::Call(answer) = answer else {
             return self.state;
@@ -304,10 +304,10 @@ impl Scanner {
 
     /// Continues after an answer to the last ask.
     pub fn answer(&mut self, answer: Answer)
-        requires standing { IsStandingScanner self.old }
+        requires valid { IsValidScanner self.old }
         requires fit { IsFit answer }
         ensures after { self.new ≡ after self.old answer }
-        ensures standing { IsStandingScanner self.new }
+        ensures valid { IsValidScanner self.new }
     {
         self.state = match self.state {
             ScannerState::Copying(stage) => {

@@ -1,10 +1,10 @@
 //! The carry: a copier moves the pair of a marked word into a later table.
 ghost use Rattle.std.specs.Prelude.{◌≡◌};
 ghost use Rattle.std.specs.Int.{IsPowerOfTwo};
-ghost use Rattle.papaya_call.specs.Carry.{IsStandingCarry, IsStandingCarried, at_count, at_exchanged, at_found, at_hash, at_ok};
+ghost use Rattle.papaya_call.specs.Carry.{IsValidCarry, IsValidCarried, at_count, at_exchanged, at_found, at_hash, at_ok};
 ghost use Rattle.papaya_call.specs.Carry.{at_made, at_refused, at_size, at_word, at_yes, carried_on};
 ghost use Rattle.papaya_call.specs.Carry.{carry_ask, carry_follows, carry_kind, goes_on, hinted, look, passed};
-ghost use Rattle.papaya_call.specs.Link.{IsFitCopyAsk, IsStandingLinked};
+ghost use Rattle.papaya_call.specs.Link.{IsFitCopyAsk, IsValidLinked};
 ghost use Rattle.papaya_call.specs.Search.{IsSize, IsWithin};
 
 use crate::ask::{At, StepKind};
@@ -59,7 +59,7 @@ impl Carry {
     /// Returns the next ask, for the pair of this marked word.
     #[inline]
     pub fn ask(self, marked: u64) -> CopyAsk
-        requires { IsStandingCarry self }
+        requires { IsValidCarry self }
         ensures value { result ≡ carry_ask self marked }
         ensures size { IsFitCopyAsk result }
     {
@@ -111,9 +111,9 @@ impl Carry {
     /// Continues with the hash of the pair's key.
     #[inline]
     pub fn at_hash(self, hash: u64) -> Carry
-        requires { IsStandingCarry self }
+        requires { IsValidCarry self }
         ensures value { result ≡ at_hash self hash }
-        ensures standing { IsStandingCarry result }
+        ensures valid { IsValidCarry result }
     {
         match self {
             Carry::Hashing(table) => Carry::Sizing { hash, table },
@@ -124,10 +124,10 @@ impl Carry {
     /// Continues with the size of the table.
     #[inline]
     pub fn at_size(self, len: usize, limit: usize) -> Carry
-        requires standing { IsStandingCarry self }
+        requires valid { IsValidCarry self }
         requires size { IsSize len limit }
         ensures value { result ≡ at_size self len limit }
-        ensures standing { IsStandingCarry result }
+        ensures valid { IsValidCarry result }
     {
         match self {
             Carry::Sizing { hash, table } => Carry::Looking {
@@ -145,9 +145,9 @@ impl Carry {
     /// Continues with the word or the hint that was loaded.
     #[inline]
     pub fn at_word(self, mode: ResizeMode, word: u64) -> Carried
-        requires { IsStandingCarry self }
+        requires { IsValidCarry self }
         ensures value { result ≡ at_word self mode word }
-        ensures standing { IsStandingCarried result }
+        ensures valid { IsValidCarried result }
     {
         match self {
             Carry::Looking { hash, place } => Carry::hinted(hash, place, mode, word),
@@ -160,9 +160,9 @@ impl Carry {
     /// Continues with whether the keys match.
     #[inline]
     pub fn at_yes(self, mode: ResizeMode, yes: bool) -> Carried
-        requires { IsStandingCarry self }
+        requires { IsValidCarry self }
         ensures value { result ≡ at_yes self mode yes }
-        ensures standing { IsStandingCarried result }
+        ensures valid { IsValidCarried result }
     {
         match self {
             Carry::Comparing { hash, place, .. } => {
@@ -179,9 +179,9 @@ impl Carry {
     /// Continues after the exchange was made.
     #[inline]
     pub fn at_exchanged(self) -> Carried
-        requires { IsStandingCarry self }
+        requires { IsValidCarry self }
         ensures value { result ≡ at_exchanged self }
-        ensures standing { IsStandingCarried result }
+        ensures valid { IsValidCarried result }
     {
         match self {
             Carry::Placing { hash, place } => Carried::On(Carry::Placed { hash, place }),
@@ -194,9 +194,9 @@ impl Carry {
     /// Continues after the hint was written, or another was found there.
     #[inline]
     pub fn at_ok(self) -> Carried
-        requires { IsStandingCarry self }
+        requires { IsValidCarry self }
         ensures value { result ≡ at_ok self }
-        ensures standing { IsStandingCarried result }
+        ensures valid { IsValidCarried result }
     {
         match self {
             Carry::Placed { .. } => Carried::Carried,
@@ -207,9 +207,9 @@ impl Carry {
     /// Continues after the exchange failed because `word` is there.
     #[inline]
     pub fn at_found(self, mode: ResizeMode, word: u64) -> Carried
-        requires { IsStandingCarry self }
+        requires { IsValidCarry self }
         ensures value { result ≡ at_found self mode word }
-        ensures standing { IsStandingCarried result }
+        ensures valid { IsValidCarried result }
     {
         match self {
             Carry::Placing { hash, place } => Carry::look(hash, place, mode, word),
@@ -222,10 +222,10 @@ impl Carry {
     /// Continues with the map's count of pairs and its initial capacity.
     #[inline]
     pub fn at_count(self, mode: ResizeMode, count: usize, initial: usize) -> Carried
-        requires standing { IsStandingCarry self }
+        requires valid { IsValidCarry self }
         requires initial { IsPowerOfTwo initial }
         ensures value { result ≡ at_count self mode count initial }
-        ensures standing { IsStandingCarried result }
+        ensures valid { IsValidCarried result }
     {
         match self {
             Carry::Linking { hash, link } => {
@@ -238,9 +238,9 @@ impl Carry {
     /// Continues with the number of the table that was made.
     #[inline]
     pub fn at_made(self, number: u64) -> Carry
-        requires { IsStandingCarry self }
+        requires { IsValidCarry self }
         ensures value { result ≡ at_made self number }
-        ensures standing { IsStandingCarry result }
+        ensures valid { IsValidCarry result }
     {
         match self {
             Carry::Linking { hash, link } => Carry::Linking {
@@ -254,9 +254,9 @@ impl Carry {
     /// Ends because a table could not be made.
     #[inline]
     pub fn at_refused(self, refused: Refused) -> Carried
-        requires { IsStandingCarry self }
+        requires { IsValidCarry self }
         ensures value { result ≡ at_refused self refused }
-        ensures standing { IsStandingCarried result }
+        ensures valid { IsValidCarried result }
     {
         match self {
             Carry::Linking { hash, link } => Carry::linked(hash, link.at_refused(refused)),
@@ -271,7 +271,7 @@ impl Carry {
     fn hinted(hash: u64, place: Place, mode: ResizeMode, found: u64) -> Carried
         requires { IsWithin place }
         ensures value { result ≡ hinted hash place mode found }
-        ensures standing { IsStandingCarried result }
+        ensures valid { IsValidCarried result }
     {
         if may_hold(found, hash) {
             Carried::On(Carry::Reading { hash, place })
@@ -286,7 +286,7 @@ impl Carry {
     fn look(hash: u64, place: Place, mode: ResizeMode, word: u64) -> Carried
         requires { IsWithin place }
         ensures value { result ≡ look hash place mode word }
-        ensures standing { IsStandingCarried result }
+        ensures valid { IsValidCarried result }
     {
         match Word(word).kind() {
             Kind::Empty => Carried::On(Carry::Placing { hash, place }),
@@ -303,7 +303,7 @@ impl Carry {
     fn goes_on(hash: u64, mut place: Place, mode: ResizeMode) -> Carried
         requires { IsWithin place }
         ensures value { result ≡ goes_on hash place mode }
-        ensures standing { IsStandingCarried result }
+        ensures valid { IsValidCarried result }
     {
         if place.probe.len < place.limit {
             place.probe.next(place.len - 1);
@@ -322,7 +322,7 @@ impl Carry {
     #[inline]
     fn passed(hash: u64, table: u64, next: u64) -> Carry
         ensures value { result ≡ passed hash table next }
-        ensures standing { IsStandingCarry result }
+        ensures valid { IsValidCarry result }
     {
         if next == 0 {
             Carry::Linking {
@@ -341,9 +341,9 @@ impl Carry {
     /// Continues with the outcome of making the next table.
     #[inline]
     fn linked(hash: u64, linked: Linked) -> Carried
-        requires { IsStandingLinked linked }
+        requires { IsValidLinked linked }
         ensures value { result ≡ carried_on hash linked }
-        ensures standing { IsStandingCarried result }
+        ensures valid { IsValidCarried result }
     {
         match linked {
             Linked::On(link) => Carried::On(Carry::Linking { hash, link }),

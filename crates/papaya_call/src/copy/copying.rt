@@ -1,13 +1,13 @@
 //! The copy of the root, as far as a call needs it.
 ghost use Rattle.std.specs.Prelude.{◌≡◌};
 ghost use Rattle.std.specs.Int.{IsPowerOfTwo};
-ghost use Rattle.papaya_call.specs.Copying.{IsStandingCopying, IsStandingCopied, at_count, at_exchanged, at_found, at_hash, at_made, at_ok};
+ghost use Rattle.papaya_call.specs.Copying.{IsValidCopying, IsValidCopied, at_count, at_exchanged, at_found, at_hash, at_made, at_ok};
 ghost use Rattle.papaya_call.specs.Copying.{at_refused, at_root, at_size, at_word, at_yes, copying_ask, copying_follows};
 ghost use Rattle.papaya_call.specs.Copying.{copying_kind, further, last, leads, lone, over};
 ghost use Rattle.papaya_call.specs.Link.{IsFitCopyAsk};
 ghost use Rattle.papaya_call.specs.Search.{IsSize};
-ghost use Rattle.papaya_call.specs.Settle.{IsStandingSettled};
-ghost use Rattle.papaya_call.specs.Step.{IsStandingChunk, IsStandingStepped};
+ghost use Rattle.papaya_call.specs.Settle.{IsValidSettled};
+ghost use Rattle.papaya_call.specs.Step.{IsValidChunk, IsValidStepped};
 
 use crate::ask::StepKind;
 use crate::copy::settle::{Settle, Settled, SlotToCopy};
@@ -60,7 +60,7 @@ impl Copying {
     /// Returns the next ask.
     #[inline(always)]
     pub fn ask(self) -> CopyAsk
-        requires { IsStandingCopying self }
+        requires { IsValidCopying self }
         ensures value { result ≡ copying_ask self }
         ensures size { IsFitCopyAsk result }
     {
@@ -95,9 +95,9 @@ impl Copying {
     /// Continues with the hash of the key of the pair that is carried.
     #[inline]
     pub fn at_hash(self, hash: u64) -> Copying
-        requires standing { IsStandingCopying self }
+        requires valid { IsValidCopying self }
         ensures value { result ≡ at_hash self hash }
-        ensures standing { IsStandingCopying result }
+        ensures valid { IsValidCopying result }
     {
         match self {
             Copying::Stepping(aim, step) => Copying::Stepping(aim, step.at_hash(hash)),
@@ -108,10 +108,10 @@ impl Copying {
     /// Continues with the size of a table. `number` decides at which chunk the copy starts.
     #[inline]
     pub fn at_size(self, mode: ResizeMode, number: u64, len: usize, limit: usize) -> Copying
-        requires standing { IsStandingCopying self }
+        requires valid { IsValidCopying self }
         requires size { IsSize len limit }
         ensures value { result ≡ at_size self mode number len limit }
-        ensures standing { IsStandingCopying result }
+        ensures valid { IsValidCopying result }
     {
         match self {
             Copying::Stepping(aim, step) => {
@@ -124,9 +124,9 @@ impl Copying {
     /// Continues with the word or the hint that was loaded.
     #[inline]
     pub fn at_word(self, mode: ResizeMode, word: u64) -> Copied
-        requires standing { IsStandingCopying self }
+        requires valid { IsValidCopying self }
         ensures value { result ≡ at_word self mode word }
-        ensures standing { IsStandingCopied result }
+        ensures valid { IsValidCopied result }
     {
         match self {
             Copying::Stepping(aim, step) => aim.leads(mode, step.at_word(mode, word)),
@@ -137,9 +137,9 @@ impl Copying {
     /// Continues with whether the keys match.
     #[inline]
     pub fn at_yes(self, mode: ResizeMode, yes: bool) -> Copied
-        requires standing { IsStandingCopying self }
+        requires valid { IsValidCopying self }
         ensures value { result ≡ at_yes self mode yes }
-        ensures standing { IsStandingCopied result }
+        ensures valid { IsValidCopied result }
     {
         match self {
             Copying::Stepping(aim, step) => aim.leads(mode, step.at_yes(mode, yes)),
@@ -150,9 +150,9 @@ impl Copying {
     /// Continues after the exchange was made.
     #[inline]
     pub fn at_exchanged(self, mode: ResizeMode) -> Copied
-        requires standing { IsStandingCopying self }
+        requires valid { IsValidCopying self }
         ensures value { result ≡ at_exchanged self mode }
-        ensures standing { IsStandingCopied result }
+        ensures valid { IsValidCopied result }
     {
         match self {
             Copying::Stepping(aim, step) => aim.leads(mode, step.at_exchanged(mode)),
@@ -163,9 +163,9 @@ impl Copying {
     /// Continues after a hint was written, or another was found there.
     #[inline]
     pub fn at_ok(self, mode: ResizeMode) -> Copied
-        requires standing { IsStandingCopying self }
+        requires valid { IsValidCopying self }
         ensures value { result ≡ at_ok self mode }
-        ensures standing { IsStandingCopied result }
+        ensures valid { IsValidCopied result }
     {
         match self {
             Copying::Stepping(aim, step) => aim.leads(mode, step.at_ok(mode)),
@@ -176,9 +176,9 @@ impl Copying {
     /// Continues after the exchange failed because `word` is there.
     #[inline]
     pub fn at_found(self, mode: ResizeMode, word: u64) -> Copied
-        requires standing { IsStandingCopying self }
+        requires valid { IsValidCopying self }
         ensures value { result ≡ at_found self mode word }
-        ensures standing { IsStandingCopied result }
+        ensures valid { IsValidCopied result }
     {
         match self {
             Copying::Stepping(aim, step) => aim.leads(mode, step.at_found(mode, word)),
@@ -189,10 +189,10 @@ impl Copying {
     /// Continues with the map's count of pairs and its initial capacity.
     #[inline]
     pub fn at_count(self, mode: ResizeMode, count: usize, initial: usize) -> Copied
-        requires standing { IsStandingCopying self }
+        requires valid { IsValidCopying self }
         requires initial { IsPowerOfTwo initial }
         ensures value { result ≡ at_count self mode count initial }
-        ensures standing { IsStandingCopied result }
+        ensures valid { IsValidCopied result }
     {
         match self {
             Copying::Stepping(aim, step) => aim.leads(mode, step.at_count(mode, count, initial)),
@@ -206,9 +206,9 @@ impl Copying {
     /// Continues with the number of the table that was made.
     #[inline]
     pub fn at_made(self, number: u64) -> Copying
-        requires standing { IsStandingCopying self }
+        requires valid { IsValidCopying self }
         ensures value { result ≡ at_made self number }
-        ensures standing { IsStandingCopying result }
+        ensures valid { IsValidCopying result }
     {
         match self {
             Copying::Stepping(aim, step) => Copying::Stepping(aim, step.at_made(number)),
@@ -219,9 +219,9 @@ impl Copying {
     /// Ends because a table could not be made.
     #[inline]
     pub fn at_refused(self, mode: ResizeMode, refused: Refused) -> Copied
-        requires standing { IsStandingCopying self }
+        requires valid { IsValidCopying self }
         ensures value { result ≡ at_refused self mode refused }
-        ensures standing { IsStandingCopied result }
+        ensures valid { IsValidCopied result }
     {
         match self {
             Copying::Stepping(aim, step) => aim.leads(mode, step.at_refused(mode, refused)),
@@ -232,9 +232,9 @@ impl Copying {
     /// Continues with the outcome of copying the one slot.
     #[inline]
     fn lone(slot: SlotToCopy, settled: Settled) -> Copied
-        requires { IsStandingSettled settled }
+        requires { IsValidSettled settled }
         ensures value { result ≡ lone slot settled }
-        ensures standing { IsStandingCopied result }
+        ensures valid { IsValidCopied result }
     {
         match settled {
             Settled::On(settle) => Copied::On(Copying::Lone(slot, settle)),
@@ -248,9 +248,9 @@ impl Aim {
     /// Continues with the outcome of copying a chunk.
     #[inline]
     fn leads(self, mode: ResizeMode, stepped: Stepped) -> Copied
-        requires { IsStandingStepped stepped }
+        requires { IsValidStepped stepped }
         ensures value { result ≡ leads self mode stepped }
-        ensures standing { IsStandingCopied result }
+        ensures valid { IsValidCopied result }
     {
         match stepped {
             Stepped::On(step) => Copied::On(Copying::Stepping(self, step)),
@@ -267,7 +267,7 @@ impl Aim {
     #[inline]
     fn at_root(self, mode: ResizeMode, root: u64) -> Copied
         ensures value { result ≡ at_root self mode root }
-        ensures standing { IsStandingCopied result }
+        ensures valid { IsValidCopied result }
     {
         let step = Step::Aiming {
             from: root,
@@ -303,7 +303,7 @@ impl Aim {
     #[inline]
     fn last(self, root: u64) -> Copied
         ensures value { result ≡ last self root }
-        ensures standing { IsStandingCopied result }
+        ensures valid { IsValidCopied result }
     {
         match self {
             Aim::All(_) => Copied::Root(root),
@@ -314,9 +314,9 @@ impl Aim {
     /// Continues after a chunk was copied. Only a call that copies everything copies the next one.
     #[inline]
     fn further(self, chunk: Chunk) -> Copied
-        requires { IsStandingChunk chunk }
+        requires { IsValidChunk chunk }
         ensures value { result ≡ further self chunk }
-        ensures standing { IsStandingCopied result }
+        ensures valid { IsValidCopied result }
     {
         match self {
             Aim::All(_) => {
@@ -330,7 +330,7 @@ impl Aim {
     #[inline]
     fn over(self) -> Copied
         ensures value { result ≡ over self }
-        ensures standing { IsStandingCopied result }
+        ensures valid { IsValidCopied result }
     {
         match self {
             Aim::Search(table) => Copied::Search(table),

@@ -2,7 +2,7 @@
 ghost use Rattle.std.specs.Prelude.{◌≡◌};
 ghost use Rattle.std.specs.Int.{IsPowerOfTwo};
 ghost use Rattle.papaya_call.specs.Search.{IsSize};
-ghost use Rattle.papaya_call.specs.Link.{IsFitCopyAsk, IsStandingLink, IsStandingLinked, at_count, at_exchanged, at_found};
+ghost use Rattle.papaya_call.specs.Link.{IsFitCopyAsk, IsValidLink, IsValidLinked, at_count, at_exchanged, at_found};
 ghost use Rattle.papaya_call.specs.Link.{at_made, at_refused, at_size, link_ask, link_kind, follows};
 
 use crate::ask::{At, StepKind};
@@ -73,7 +73,7 @@ impl Link {
     /// Returns the next ask.
     #[inline]
     pub fn ask(self) -> CopyAsk
-        requires { IsStandingLink self }
+        requires { IsValidLink self }
         ensures value { result ≡ link_ask self }
         ensures size { IsFitCopyAsk result }
     {
@@ -119,10 +119,10 @@ impl Link {
     /// Continues with the size of the table.
     #[inline]
     pub fn at_size(self, len: usize, limit: usize) -> Link
-        requires standing { IsStandingLink self }
+        requires valid { IsValidLink self }
         requires size { IsSize len limit }
         ensures value { result ≡ at_size self len }
-        ensures standing { IsStandingLink result }
+        ensures valid { IsValidLink result }
     {
         match self {
             Link::Sizing {
@@ -164,10 +164,10 @@ impl Link {
     /// Continues with the map's count of pairs and its initial capacity.
     #[inline]
     pub fn at_count(self, mode: ResizeMode, count: usize, initial: usize) -> Linked
-        requires standing { IsStandingLink self }
+        requires valid { IsValidLink self }
         requires initial { IsPowerOfTwo initial }
         ensures value { result ≡ at_count self mode count initial }
-        ensures standing { IsStandingLinked result }
+        ensures valid { IsValidLinked result }
     {
         match self {
             Link::Counting {
@@ -194,9 +194,9 @@ impl Link {
     /// Continues with the number of the table that was made.
     #[inline]
     pub fn at_made(self, number: u64) -> Link
-        requires { IsStandingLink self }
+        requires { IsValidLink self }
         ensures value { result ≡ at_made self number }
-        ensures standing { IsStandingLink result }
+        ensures valid { IsValidLink result }
     {
         match self {
             Link::Making { after, chunks, .. } => Link::Linking {
@@ -211,9 +211,9 @@ impl Link {
     /// Ends because the table could not be made.
     #[inline]
     pub fn at_refused(self, refused: Refused) -> Linked
-        requires { IsStandingLink self }
+        requires { IsValidLink self }
         ensures value { result ≡ at_refused self refused }
-        ensures standing { IsStandingLinked result }
+        ensures valid { IsValidLinked result }
     {
         match self {
             Link::Making { .. } => Linked::Refused(refused),
@@ -224,9 +224,9 @@ impl Link {
     /// Ends because the table was linked.
     #[inline]
     pub fn at_exchanged(self) -> Linked
-        requires { IsStandingLink self }
+        requires { IsValidLink self }
         ensures value { result ≡ at_exchanged self }
-        ensures standing { IsStandingLinked result }
+        ensures valid { IsValidLinked result }
     {
         match self {
             Link::Linking { table, .. } => Linked::Table(table),
@@ -237,9 +237,9 @@ impl Link {
     /// Ends because another caller linked this table first.
     #[inline]
     pub fn at_found(self, word: u64) -> Linked
-        requires { IsStandingLink self }
+        requires { IsValidLink self }
         ensures value { result ≡ at_found self word }
-        ensures standing { IsStandingLinked result }
+        ensures valid { IsValidLinked result }
     {
         match self {
             Link::Linking { .. } => Linked::Table(word),

@@ -1,10 +1,10 @@
 //! The copy of one slot.
 ghost use Rattle.std.specs.Prelude.{◌≡◌};
 ghost use Rattle.std.specs.Int.{IsPowerOfTwo};
-ghost use Rattle.papaya_call.specs.Carry.{IsStandingCarried};
+ghost use Rattle.papaya_call.specs.Carry.{IsValidCarried};
 ghost use Rattle.papaya_call.specs.Link.{IsFitCopyAsk};
 ghost use Rattle.papaya_call.specs.Search.{IsSize};
-ghost use Rattle.papaya_call.specs.Settle.{IsStandingSettle, IsStandingSettled, at_count, at_exchanged, at_found, at_hash, at_ok};
+ghost use Rattle.papaya_call.specs.Settle.{IsValidSettle, IsValidSettled, at_count, at_exchanged, at_found, at_hash, at_ok};
 ghost use Rattle.papaya_call.specs.Settle.{at_made, at_refused, at_size, at_word, at_yes, look};
 ghost use Rattle.papaya_call.specs.Settle.{marked_as, settle_ask, settle_follows, settle_kind, settled_by};
 
@@ -63,7 +63,7 @@ impl Settle {
     /// Returns the next ask.
     #[inline]
     pub fn ask(self, slot: SlotToCopy) -> CopyAsk
-        requires { IsStandingSettle self }
+        requires { IsValidSettle self }
         ensures value { result ≡ settle_ask self slot }
         ensures size { IsFitCopyAsk result }
     {
@@ -108,9 +108,9 @@ impl Settle {
     /// Continues with the hash of the key of the pair that is carried.
     #[inline]
     pub fn at_hash(self, hash: u64) -> Settle
-        requires { IsStandingSettle self }
+        requires { IsValidSettle self }
         ensures value { result ≡ at_hash self hash }
-        ensures standing { IsStandingSettle result }
+        ensures valid { IsValidSettle result }
     {
         match self {
             Settle::Carrying(word, carry) => Settle::Carrying(word, carry.at_hash(hash)),
@@ -121,10 +121,10 @@ impl Settle {
     /// Continues with the size of a table.
     #[inline]
     pub fn at_size(self, len: usize, limit: usize) -> Settle
-        requires standing { IsStandingSettle self }
+        requires valid { IsValidSettle self }
         requires size { IsSize len limit }
         ensures value { result ≡ at_size self len limit }
-        ensures standing { IsStandingSettle result }
+        ensures valid { IsValidSettle result }
     {
         match self {
             Settle::Carrying(word, carry) => Settle::Carrying(word, carry.at_size(len, limit)),
@@ -135,9 +135,9 @@ impl Settle {
     /// Continues with the word or the hint that was loaded.
     #[inline]
     pub fn at_word(self, slot: SlotToCopy, mode: ResizeMode, word: u64) -> Settled
-        requires { IsStandingSettle self }
+        requires { IsValidSettle self }
         ensures value { result ≡ at_word self slot mode word }
-        ensures standing { IsStandingSettled result }
+        ensures valid { IsValidSettled result }
     {
         match self {
             Settle::Looking => Settle::look(slot, word),
@@ -151,9 +151,9 @@ impl Settle {
     /// Continues with whether the keys match.
     #[inline]
     pub fn at_yes(self, mode: ResizeMode, yes: bool) -> Settled
-        requires { IsStandingSettle self }
+        requires { IsValidSettle self }
         ensures value { result ≡ at_yes self mode yes }
-        ensures standing { IsStandingSettled result }
+        ensures valid { IsValidSettled result }
     {
         match self {
             Settle::Carrying(marked, carry) => {
@@ -166,9 +166,9 @@ impl Settle {
     /// Continues after the exchange was made. The caller that marked a pair carries it on.
     #[inline]
     pub fn at_exchanged(self, slot: SlotToCopy, mode: ResizeMode) -> Settled
-        requires { IsStandingSettle self }
+        requires { IsValidSettle self }
         ensures value { result ≡ at_exchanged self slot mode }
-        ensures standing { IsStandingSettled result }
+        ensures valid { IsValidSettled result }
     {
         match self {
             Settle::Looking => Settled::On(Settle::Looking),
@@ -186,9 +186,9 @@ impl Settle {
     /// Continues after the hint was written, or another was found there.
     #[inline]
     pub fn at_ok(self, mode: ResizeMode) -> Settled
-        requires { IsStandingSettle self }
+        requires { IsValidSettle self }
         ensures value { result ≡ at_ok self mode }
-        ensures standing { IsStandingSettled result }
+        ensures valid { IsValidSettled result }
     {
         match self {
             Settle::Shutting => Settled::Settled,
@@ -200,9 +200,9 @@ impl Settle {
     /// Continues after the exchange failed because `word` is there.
     #[inline]
     pub fn at_found(self, slot: SlotToCopy, mode: ResizeMode, word: u64) -> Settled
-        requires { IsStandingSettle self }
+        requires { IsValidSettle self }
         ensures value { result ≡ at_found self slot mode word }
-        ensures standing { IsStandingSettled result }
+        ensures valid { IsValidSettled result }
     {
         match self {
             Settle::Looking => Settled::On(Settle::Looking),
@@ -218,10 +218,10 @@ impl Settle {
     /// Continues with the map's count of pairs and its initial capacity.
     #[inline]
     pub fn at_count(self, mode: ResizeMode, count: usize, initial: usize) -> Settled
-        requires standing { IsStandingSettle self }
+        requires valid { IsValidSettle self }
         requires initial { IsPowerOfTwo initial }
         ensures value { result ≡ at_count self mode count initial }
-        ensures standing { IsStandingSettled result }
+        ensures valid { IsValidSettled result }
     {
         match self {
             Settle::Carrying(marked, carry) => {
@@ -234,9 +234,9 @@ impl Settle {
     /// Continues with the number of the table that was made.
     #[inline]
     pub fn at_made(self, number: u64) -> Settle
-        requires { IsStandingSettle self }
+        requires { IsValidSettle self }
         ensures value { result ≡ at_made self number }
-        ensures standing { IsStandingSettle result }
+        ensures valid { IsValidSettle result }
     {
         match self {
             Settle::Carrying(marked, carry) => Settle::Carrying(marked, carry.at_made(number)),
@@ -247,9 +247,9 @@ impl Settle {
     /// Ends because a table could not be made.
     #[inline]
     pub fn at_refused(self, mode: ResizeMode, refused: Refused) -> Settled
-        requires { IsStandingSettle self }
+        requires { IsValidSettle self }
         ensures value { result ≡ at_refused self mode refused }
-        ensures standing { IsStandingSettled result }
+        ensures valid { IsValidSettled result }
     {
         match self {
             Settle::Carrying(marked, carry) => {
@@ -265,7 +265,7 @@ impl Settle {
     #[inline]
     fn look(slot: SlotToCopy, word: u64) -> Settled
         ensures value { result ≡ look slot word }
-        ensures standing { IsStandingSettled result }
+        ensures valid { IsValidSettled result }
     {
         match Word(word).kind() {
             Kind::Empty => Settled::On(Settle::Closing),
@@ -286,9 +286,9 @@ impl Settle {
     /// Continues with the outcome of carrying this marked word's pair.
     #[inline]
     fn carried(marked: u64, mode: ResizeMode, carried: Carried) -> Settled
-        requires { IsStandingCarried carried }
+        requires { IsValidCarried carried }
         ensures value { result ≡ settled_by marked mode carried }
-        ensures standing { IsStandingSettled result }
+        ensures valid { IsValidSettled result }
     {
         match carried {
             Carried::On(carry) => Settled::On(Settle::Carrying(marked, carry)),

@@ -1,11 +1,11 @@
 //! One chunk of the copy of the root: neighbouring slots that are copied one after another.
 ghost use Rattle.std.specs.Prelude.{◌≡◌, ◌≤◌, ◌^◌};
 ghost use Rattle.std.specs.Int.{IsPowerOfTwo};
-ghost use Rattle.papaya_call.specs.Link.{IsFitCopyAsk, IsStandingLink, IsStandingLinked};
+ghost use Rattle.papaya_call.specs.Link.{IsFitCopyAsk, IsValidLink, IsValidLinked};
 ghost use Rattle.papaya_call.specs.Search.{IsSize};
-ghost use Rattle.papaya_call.specs.Settle.{IsStandingSettled};
-ghost use Rattle.papaya_call.specs.Step.{IsStandingChunk, IsStandingCursor, IsStandingStep};
-ghost use Rattle.papaya_call.specs.Step.{IsStandingStepped, advanced, aimed, at_count};
+ghost use Rattle.papaya_call.specs.Settle.{IsValidSettled};
+ghost use Rattle.papaya_call.specs.Step.{IsValidChunk, IsValidCursor, IsValidStep};
+ghost use Rattle.papaya_call.specs.Step.{IsValidStepped, advanced, aimed, at_count};
 ghost use Rattle.papaya_call.specs.Step.{at_exchanged, at_found};
 ghost use Rattle.papaya_call.specs.Step.{at_hash, at_made, at_ok, at_refused, at_size, at_word, at_yes, chunk_at};
 ghost use Rattle.papaya_call.specs.Step.{chunk_read, first_cursor, judged, linked_to, next_cursor, settled_to, slot_of, step_ask, step_follows};
@@ -105,7 +105,7 @@ impl Cursor {
         requires power { IsPowerOfTwo len }
         requires most { len ≤ 2 ^ 32 }
         ensures value { result ≡ first_cursor from to len mode number }
-        ensures standing { IsStandingCursor result }
+        ensures valid { IsValidCursor result }
     {
         let slots = chunk_len(mode);
         let start = (number % chunk_count(len, mode) as u64) as usize;
@@ -126,9 +126,9 @@ impl Cursor {
     /// loaded.
     #[inline]
     pub fn next(mut self) -> Step
-        requires { IsStandingCursor self }
+        requires { IsValidCursor self }
         ensures value { result ≡ next_cursor self }
-        ensures standing { IsStandingStep result }
+        ensures valid { IsValidStep result }
     {
         let further = self.slots < self.len - self.begun;
         if further && !(self.wrapped && self.at + 1 >= self.start) {
@@ -151,9 +151,9 @@ impl Cursor {
     /// Returns the chunk whose word is loaded now.
     #[inline]
     fn chunk(self) -> Chunk
-        requires { IsStandingCursor self }
+        requires { IsValidCursor self }
         ensures value { result ≡ chunk_at self }
-        ensures standing { IsStandingChunk result }
+        ensures valid { IsValidChunk result }
     {
         // A chunk's length may be any 64-bit number.
         let end = if self.slots < self.len - self.begun {
@@ -171,9 +171,9 @@ impl Cursor {
     /// Continues with the chunk's word, which says whether the chunk is copied.
     #[inline]
     fn word(self, done: u64) -> Stepped
-        requires { IsStandingCursor self }
+        requires { IsValidCursor self }
         ensures value { result ≡ chunk_read self done }
-        ensures standing { IsStandingStepped result }
+        ensures valid { IsValidStepped result }
     {
         if done != 0 {
             Stepped::On(self.next())
@@ -187,9 +187,9 @@ impl Cursor {
     /// Continues after this caller copied the chunk and wrote its word.
     #[inline]
     fn advanced(mut self) -> Stepped
-        requires { IsStandingCursor self }
+        requires { IsValidCursor self }
         ensures value { result ≡ advanced self }
-        ensures standing { IsStandingStepped result }
+        ensures valid { IsValidStepped result }
     {
         self.copied = true;
         Stepped::On(self.next())
@@ -214,7 +214,7 @@ impl Step {
     /// Returns the next ask.
     #[inline]
     pub fn ask(self) -> CopyAsk
-        requires { IsStandingStep self }
+        requires { IsValidStep self }
         ensures value { result ≡ step_ask self }
         ensures size { IsFitCopyAsk result }
     {
@@ -260,9 +260,9 @@ impl Step {
     /// Continues with the hash of the key of the pair that is carried.
     #[inline]
     pub fn at_hash(self, hash: u64) -> Step
-        requires { IsStandingStep self }
+        requires { IsValidStep self }
         ensures value { result ≡ at_hash self hash }
-        ensures standing { IsStandingStep result }
+        ensures valid { IsValidStep result }
     {
         match self {
             Step::Settling(chunk, settle) => Step::Settling(chunk, settle.at_hash(hash)),
@@ -273,10 +273,10 @@ impl Step {
     /// Continues with the size of a table. `number` decides at which chunk its copy starts.
     #[inline]
     pub fn at_size(self, mode: ResizeMode, number: u64, len: usize, limit: usize) -> Step
-        requires standing { IsStandingStep self }
+        requires valid { IsValidStep self }
         requires size { IsSize len limit }
         ensures value { result ≡ at_size self mode number len limit }
-        ensures standing { IsStandingStep result }
+        ensures valid { IsValidStep result }
     {
         match self {
             Step::Linking { from, link } => Step::Linking {
@@ -292,9 +292,9 @@ impl Step {
     /// Continues with the word or the hint that was loaded.
     #[inline]
     pub fn at_word(self, mode: ResizeMode, word: u64) -> Stepped
-        requires standing { IsStandingStep self }
+        requires valid { IsValidStep self }
         ensures value { result ≡ at_word self mode word }
-        ensures standing { IsStandingStepped result }
+        ensures valid { IsValidStepped result }
     {
         match self {
             Step::AtRoot => Stepped::Root(word),
@@ -311,9 +311,9 @@ impl Step {
     /// Continues with whether the keys match.
     #[inline]
     pub fn at_yes(self, mode: ResizeMode, yes: bool) -> Stepped
-        requires { IsStandingStep self }
+        requires { IsValidStep self }
         ensures value { result ≡ at_yes self mode yes }
-        ensures standing { IsStandingStepped result }
+        ensures valid { IsValidStepped result }
     {
         match self {
             Step::Settling(chunk, settle) => Step::settled(chunk, settle.at_yes(mode, yes)),
@@ -324,9 +324,9 @@ impl Step {
     /// Continues after the exchange was made.
     #[inline]
     pub fn at_exchanged(self, mode: ResizeMode) -> Stepped
-        requires { IsStandingStep self }
+        requires { IsValidStep self }
         ensures value { result ≡ at_exchanged self mode }
-        ensures standing { IsStandingStepped result }
+        ensures valid { IsValidStepped result }
     {
         match self {
             Step::Linking { from, link } => Step::linked(from, link.at_exchanged()),
@@ -342,9 +342,9 @@ impl Step {
     /// Continues after a hint was written, or another was found there.
     #[inline]
     pub fn at_ok(self, mode: ResizeMode) -> Stepped
-        requires { IsStandingStep self }
+        requires { IsValidStep self }
         ensures value { result ≡ at_ok self mode }
-        ensures standing { IsStandingStepped result }
+        ensures valid { IsValidStepped result }
     {
         match self {
             Step::Settling(chunk, settle) => Step::settled(chunk, settle.at_ok(mode)),
@@ -355,9 +355,9 @@ impl Step {
     /// Continues after the exchange failed because `word` is there.
     #[inline]
     pub fn at_found(self, mode: ResizeMode, word: u64) -> Stepped
-        requires { IsStandingStep self }
+        requires { IsValidStep self }
         ensures value { result ≡ at_found self mode word }
-        ensures standing { IsStandingStepped result }
+        ensures valid { IsValidStepped result }
     {
         match self {
             Step::Linking { from, link } => Step::linked(from, link.at_found(word)),
@@ -373,10 +373,10 @@ impl Step {
     /// Continues with the map's count of pairs and its initial capacity.
     #[inline]
     pub fn at_count(self, mode: ResizeMode, count: usize, initial: usize) -> Stepped
-        requires standing { IsStandingStep self }
+        requires valid { IsValidStep self }
         requires initial { IsPowerOfTwo initial }
         ensures value { result ≡ at_count self mode count initial }
-        ensures standing { IsStandingStepped result }
+        ensures valid { IsValidStepped result }
     {
         match self {
             Step::Linking { from, link } => {
@@ -392,9 +392,9 @@ impl Step {
     /// Continues with the number of the table that was made.
     #[inline]
     pub fn at_made(self, number: u64) -> Step
-        requires { IsStandingStep self }
+        requires { IsValidStep self }
         ensures value { result ≡ at_made self number }
-        ensures standing { IsStandingStep result }
+        ensures valid { IsValidStep result }
     {
         match self {
             Step::Linking { from, link } => Step::Linking {
@@ -409,9 +409,9 @@ impl Step {
     /// Ends because a table could not be made.
     #[inline]
     pub fn at_refused(self, mode: ResizeMode, refused: Refused) -> Stepped
-        requires { IsStandingStep self }
+        requires { IsValidStep self }
         ensures value { result ≡ at_refused self mode refused }
-        ensures standing { IsStandingStepped result }
+        ensures valid { IsValidStepped result }
     {
         match self {
             Step::Linking { from, link } => Step::linked(from, link.at_refused(refused)),
@@ -427,7 +427,7 @@ impl Step {
     #[inline]
     fn aimed(from: u64, after: u64, mode: ResizeMode, next: u64) -> Stepped
         ensures value { result ≡ aimed from after mode next }
-        ensures standing { IsStandingStepped result }
+        ensures valid { IsValidStepped result }
     {
         match mode {
             ResizeMode::Incremental(_) => {
@@ -458,7 +458,7 @@ impl Step {
     #[inline]
     fn judged(from: u64, to: u64, aborted: u64) -> Step
         ensures value { result ≡ judged from to aborted }
-        ensures standing { IsStandingStep result }
+        ensures valid { IsValidStep result }
     {
         if aborted == 0 {
             Step::Sizing { from, to }
@@ -470,10 +470,10 @@ impl Step {
     /// Continues with the outcome of copying a slot.
     #[inline]
     fn settled(mut chunk: Chunk, settled: Settled) -> Stepped
-        requires chunk { IsStandingChunk chunk }
-        requires settled { IsStandingSettled settled }
+        requires chunk { IsValidChunk chunk }
+        requires settled { IsValidSettled settled }
         ensures value { result ≡ settled_to chunk settled }
-        ensures standing { IsStandingStepped result }
+        ensures valid { IsValidStepped result }
     {
         match settled {
             Settled::On(settle) => Stepped::On(Step::Settling(chunk, settle)),
@@ -496,9 +496,9 @@ impl Step {
     /// Continues with the outcome of making a table.
     #[inline]
     fn linked(from: u64, linked: Linked) -> Stepped
-        requires { IsStandingLinked linked }
+        requires { IsValidLinked linked }
         ensures value { result ≡ linked_to from linked }
-        ensures standing { IsStandingStepped result }
+        ensures valid { IsValidStepped result }
     {
         match linked {
             Linked::On(link) => Stepped::On(Step::Linking { from, link }),

@@ -4,7 +4,7 @@ ghost use Rattle.std.specs.Prelude.{◌≡◌, Err, IsSome, Some};
 ghost use Rattle.std.specs.Borrow.{sem};
 ghost use mathlib.Core.List.{IsPrefix};
 ghost use Rattle.papaya_map_book.specs.Limits.{HasNoRoom};
-ghost use Rattle.papaya_map_change.specs.Showings.{Operates};
+ghost use Rattle.papaya_map_change.specs.ClosureCalls.{Operates};
 ghost use Rattle.papaya_map_compute.specs.ComputeAnswers.{IsComputeBy, changes};
 ghost use Rattle.papaya_map_lookup.specs.History.{Makes};
 ghost use Rattle.papaya_map.specs.Plain.{IsOfHistorySince, of_its_history, rule_of, unpinned};
@@ -12,8 +12,8 @@ ghost use Rattle.papaya_map_book.specs.contracts.rule.entry.Event.{the_row as Ev
 
 use crate::keeping::compute;
 use crate::map::{HashMap, HashMapRef};
+use crate::observed::Observed;
 use crate::pass::Pass;
-use crate::told::Told;
 use logbook::Rule;
 use papaya_call::answers::Operation;
 use papaya_map_book::rule::entry::{Event, Named};
@@ -110,7 +110,7 @@ impl<'a, K: Hash + Eq + Drop, V: Drop, S: BuildHasher> HashMapRef<'a, K, V, S> {
             (λ h. IsComputeBy K.eq key self.now.seen h (Operates F.FnMut) f result) }
         ensures limited { result ≡ Err Refused.Limit → IsSome self.now.map.begun.limit }
     {
-        let Told { answer, marker: _ } = self.compute_told(rt, key, f);
+        let Observed { answer, marker: _ } = self.compute_observed(rt, key, f);
         answer
     }
 }
@@ -143,7 +143,7 @@ impl<K: Hash + Eq + Drop, V: Drop, S: BuildHasher> HashMap<K, V, S> {
         ensures wrong { (G.collector_number guard.now ≡ self.now.collector → ⊥)
             → result ≡ Err Refused.WrongGuard }
     {
-        let Told { answer, marker: _ } = self.compute_told(rt, key, f, guard);
+        let Observed { answer, marker: _ } = self.compute_observed(rt, key, f, guard);
         answer
     }
 }

@@ -5,8 +5,8 @@ ghost use mathlib.Core.List.{IsPrefix};
 ghost use Rattle.papaya_map_lookup.specs.History.{IsLegalHistory, history_of, key_of};
 
 use crate::map::HashMap;
+use crate::observed::Saying;
 use crate::pass::Pass;
-use crate::told::Saying;
 use papaya_words::refused::Refused;
 use papaya_words_keys::guard::{Guard, LocalGuard, OwnedGuard};
 use std::hash::{BuildHasher, Hash};
@@ -69,7 +69,7 @@ impl<K: Hash + Eq, V, S: BuildHasher> HashMap<K, V, S> {
 
     /// Returns a refusal, with the history observed up to the map's creation, and no change.
     #[inline(always)]
-    pub(crate) fn tell_refused<B>(&self, refused: Refused) -> Saying<Result<B, Refused>, K, V, S>
+    pub(crate) fn observe_refused<B>(&self, refused: Refused) -> Saying<Result<B, Refused>, K, V, S>
         ensures answer { result.answer ≡ Err refused }
         ensures book { result.book ≡ self.now.book }
         ensures legal { IsLegalHistory K.eq key_of (history_of result.log) }

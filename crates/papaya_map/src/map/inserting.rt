@@ -12,8 +12,8 @@ ghost use Rattle.papaya_map.specs.Storing.{IsThere, IsTried, IsTriedWith};
 ghost use Rattle.papaya_map_book.specs.contracts.rule.entry.Event.{the_row as EventOf};
 
 use crate::map::{HashMap, HashMapRef};
+use crate::observed::Observed;
 use crate::pass::Pass;
-use crate::told::Told;
 use logbook::Rule;
 use papaya_map_book::rule::entry::{Event, Named};
 use papaya_map_book::rule::law::Law;
@@ -98,7 +98,7 @@ impl<'a, K: Hash + Eq + Drop, V: Drop, S: BuildHasher> HashMapRef<'a, K, V, S> {
             (λ h. IfOk result (IsPut K.eq key value self.now.seen h)) }
         ensures refused { IfErr result (IsPlainRefusal self.now.map.begun.limit) }
     {
-        let Told { answer, marker: _ } = self.insert_told(rt, key, value);
+        let Observed { answer, marker: _ } = self.insert_observed(rt, key, value);
         answer
     }
 
@@ -134,7 +134,7 @@ impl<'a, K: Hash + Eq + Drop, V: Drop, S: BuildHasher> HashMapRef<'a, K, V, S> {
             (λ h. IfOk result (IsTried K.eq key self.now.seen h value)) }
         ensures refused { IfErr result (IsPlainRefusal self.now.map.begun.limit) }
     {
-        let Told { answer, marker: _ } = self.try_insert_told(rt, key, value);
+        let Observed { answer, marker: _ } = self.try_insert_observed(rt, key, value);
         answer
     }
 
@@ -160,7 +160,7 @@ impl<'a, K: Hash + Eq + Drop, V: Drop, S: BuildHasher> HashMapRef<'a, K, V, S> {
             (λ h. IfOk result (IsTriedWith K.eq key self.now.seen h (F.post f))) }
         ensures refused { IfErr result (IsPlainRefusal self.now.map.begun.limit) }
     {
-        let Told { answer, marker: _ } = self.try_insert_with_told(rt, key, f);
+        let Observed { answer, marker: _ } = self.try_insert_with_observed(rt, key, f);
         answer
     }
 
@@ -179,7 +179,7 @@ impl<'a, K: Hash + Eq + Drop, V: Drop, S: BuildHasher> HashMapRef<'a, K, V, S> {
             (λ h. IfOk result (IsThere K.eq key self.now.seen h (λ w. w ≡ value))) }
         ensures refused { IfErr result (IsPlainRefusal self.now.map.begun.limit) }
     {
-        let Told { answer, marker: _ } = self.get_or_insert_told(rt, key, value);
+        let Observed { answer, marker: _ } = self.get_or_insert_observed(rt, key, value);
         answer
     }
 
@@ -211,7 +211,7 @@ impl<'a, K: Hash + Eq + Drop, V: Drop, S: BuildHasher> HashMapRef<'a, K, V, S> {
             (λ h. IfOk result (IsThere K.eq key self.now.seen h (F.post f))) }
         ensures refused { IfErr result (IsPlainRefusal self.now.map.begun.limit) }
     {
-        let Told { answer, marker: _ } = self.get_or_insert_with_told(rt, key, f);
+        let Observed { answer, marker: _ } = self.get_or_insert_with_observed(rt, key, f);
         answer
     }
 }
@@ -243,7 +243,7 @@ impl<K: Hash + Eq + Drop, V: Drop, S: BuildHasher> HashMap<K, V, S> {
         ensures wrong { (G.collector_number guard.now ≡ self.now.collector → ⊥)
             → result ≡ Err Refused.WrongGuard }
     {
-        let Told { answer, marker: _ } = self.insert_told(rt, key, value, guard);
+        let Observed { answer, marker: _ } = self.insert_observed(rt, key, value, guard);
         answer
     }
 
@@ -272,7 +272,7 @@ impl<K: Hash + Eq + Drop, V: Drop, S: BuildHasher> HashMap<K, V, S> {
         ensures wrong { (G.collector_number guard.now ≡ self.now.collector → ⊥)
             → result ≡ Err Refused.WrongGuard }
     {
-        let Told { answer, marker: _ } = self.try_insert_told(rt, key, value, guard);
+        let Observed { answer, marker: _ } = self.try_insert_observed(rt, key, value, guard);
         answer
     }
 
@@ -301,7 +301,7 @@ impl<K: Hash + Eq + Drop, V: Drop, S: BuildHasher> HashMap<K, V, S> {
         ensures wrong { (G.collector_number guard.now ≡ self.now.collector → ⊥)
             → result ≡ Err Refused.WrongGuard }
     {
-        let Told { answer, marker: _ } = self.try_insert_with_told(rt, key, f, guard);
+        let Observed { answer, marker: _ } = self.try_insert_with_observed(rt, key, f, guard);
         answer
     }
 
@@ -329,7 +329,7 @@ impl<K: Hash + Eq + Drop, V: Drop, S: BuildHasher> HashMap<K, V, S> {
         ensures wrong { (G.collector_number guard.now ≡ self.now.collector → ⊥)
             → result ≡ Err Refused.WrongGuard }
     {
-        let Told { answer, marker: _ } = self.get_or_insert_told(rt, key, value, guard);
+        let Observed { answer, marker: _ } = self.get_or_insert_observed(rt, key, value, guard);
         answer
     }
 
@@ -358,7 +358,7 @@ impl<K: Hash + Eq + Drop, V: Drop, S: BuildHasher> HashMap<K, V, S> {
         ensures wrong { (G.collector_number guard.now ≡ self.now.collector → ⊥)
             → result ≡ Err Refused.WrongGuard }
     {
-        let Told { answer, marker: _ } = self.get_or_insert_with_told(rt, key, f, guard);
+        let Observed { answer, marker: _ } = self.get_or_insert_with_observed(rt, key, f, guard);
         answer
     }
 }

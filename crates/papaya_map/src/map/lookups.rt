@@ -7,8 +7,8 @@ ghost use Rattle.papaya_map.specs.Plain.{IsContained, IsOfHistorySince, of_its_h
 ghost use Rattle.papaya_map_book.specs.contracts.rule.entry.Event.{the_row as EventOf};
 
 use crate::map::{HashMap, HashMapRef};
+use crate::observed::Observed;
 use crate::pass::Pass;
-use crate::told::Told;
 use logbook::Rule;
 use papaya_map_book::rule::entry::{Event, Named};
 use papaya_map_book::rule::law::Law;
@@ -54,7 +54,7 @@ impl<'a, K: Hash + Eq, V, S: BuildHasher> HashMapRef<'a, K, V, S> {
         ensures answered { IsOfHistorySince self.now K.eq
             (λ h. IsAnsweredBetween K.eq (Q.matches key.now) self.now.seen h result) }
     {
-        let Told { answer, marker: _ } = self.get_told(key);
+        let Observed { answer, marker: _ } = self.get_observed(key);
         answer
     }
 
@@ -75,7 +75,7 @@ impl<'a, K: Hash + Eq, V, S: BuildHasher> HashMapRef<'a, K, V, S> {
         ensures answered { IsOfHistorySince self.now K.eq
             (λ h. IsPairAnsweredBetween K.eq (Q.matches key.now) self.now.seen h result) }
     {
-        let Told { answer, marker: _ } = self.get_key_value_told(key);
+        let Observed { answer, marker: _ } = self.get_key_value_observed(key);
         answer
     }
 
@@ -97,7 +97,7 @@ impl<'a, K: Hash + Eq, V, S: BuildHasher> HashMapRef<'a, K, V, S> {
         ensures answered { IsOfHistorySince self.now K.eq
             (λ h. IsContained K.eq (Q.matches key.now) self.now.seen h result) }
     {
-        let Told { answer, marker: _ } = self.contains_key_told(key);
+        let Observed { answer, marker: _ } = self.contains_key_observed(key);
         answer
     }
 }
@@ -125,7 +125,7 @@ impl<K: Hash + Eq, V, S: BuildHasher> HashMap<K, V, S> {
         ensures wrong { (G.collector_number guard.now ≡ self.now.collector → ⊥)
             → result ≡ Err Refused.WrongGuard }
     {
-        let Told { answer, marker: _ } = self.get_told(key, guard);
+        let Observed { answer, marker: _ } = self.get_observed(key, guard);
         answer
     }
 
@@ -151,7 +151,7 @@ impl<K: Hash + Eq, V, S: BuildHasher> HashMap<K, V, S> {
         ensures wrong { (G.collector_number guard.now ≡ self.now.collector → ⊥)
             → result ≡ Err Refused.WrongGuard }
     {
-        let Told { answer, marker: _ } = self.get_key_value_told(key, guard);
+        let Observed { answer, marker: _ } = self.get_key_value_observed(key, guard);
         answer
     }
 
@@ -177,7 +177,7 @@ impl<K: Hash + Eq, V, S: BuildHasher> HashMap<K, V, S> {
         ensures wrong { (G.collector_number guard.now ≡ self.now.collector → ⊥)
             → result ≡ Err Refused.WrongGuard }
     {
-        let Told { answer, marker: _ } = self.contains_key_told(key, guard);
+        let Observed { answer, marker: _ } = self.contains_key_observed(key, guard);
         answer
     }
 }

@@ -191,7 +191,7 @@ impl<K: Hash + Eq + Drop, V: Drop, S: BuildHasher + Clone + Drop> HashMap<K, V, 
     /// collector number and number of shards, and a clone of its hasher. Its first table has room
     /// for as many entries as this one counts, and is no shorter than the initial capacity. It has
     /// no table if this map has no entries and was given no capacity.
-    pub(crate) fn anew<R: Wait>(&self, rt: &R) -> Result<HashMap<K, V, S>, Refused>
+    pub(crate) fn new_like<R: Wait>(&self, rt: &R) -> Result<HashMap<K, V, S>, Refused>
         ensures settings { IfOk result (HasSettingsOf self.now) }
         ensures hasher { IfOk result (λ map. S.is_clone self.now.begun.hasher map.begun.hasher) }
         ensures opened { IfOk result HasFirstTable }
@@ -203,7 +203,7 @@ impl<K: Hash + Eq + Drop, V: Drop, S: BuildHasher + Clone + Drop> HashMap<K, V, 
         let Ok(hasher) = self.book.parts.hasher.clone() else {
             return Err(Refused::Memory);
         };
-        let count = self.count.anew(self.alloc)?;
+        let count = self.count.new_like(self.alloc)?;
         let Ok(parts) = Parts::new(
             self.alloc,
             self.book.parts.mode,

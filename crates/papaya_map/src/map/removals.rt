@@ -3,15 +3,15 @@ ghost use Rattle.std.specs.Prelude.{◌≡◌, Err, true};
 ghost use Rattle.std.specs.Borrow.{sem};
 ghost use mathlib.Core.List.{IsPrefix};
 ghost use Rattle.papaya_map_book.specs.Limits.{HasNoRoom};
-ghost use Rattle.papaya_map_change.specs.RemovalAnswers.{IsEntryRemoved, IsRemovalBy, IsRemoved, took, went};
-ghost use Rattle.papaya_map_change.specs.Showings.{Judges};
+ghost use Rattle.papaya_map_change.specs.RemovalAnswers.{IsEntryRemoved, IsRemovalBy, IsRemoved, gives_value, has_removed};
+ghost use Rattle.papaya_map_change.specs.ClosureCalls.{Judges};
 ghost use Rattle.papaya_map_lookup.specs.History.{Makes};
 ghost use Rattle.papaya_map.specs.Plain.{IsOfHistorySince, of_its_history, rule_of, unpinned};
 ghost use Rattle.papaya_map_book.specs.contracts.rule.entry.Event.{the_row as EventOf};
 
 use crate::map::{HashMap, HashMapRef};
+use crate::observed::Observed;
 use crate::pass::Pass;
-use crate::told::Told;
 use logbook::Rule;
 use papaya_map_book::rule::entry::{Event, Named};
 use papaya_map_book::rule::law::Law;
@@ -47,7 +47,7 @@ impl<'a, K: Hash + Eq, V, S: BuildHasher> HashMapRef<'a, K, V, S> {
         ensures book { pass.new.book ≡ pass.old.book }
         ensures seen { IsPrefix pass.old.history pass.new.history }
         ensures tables { IsPrefix pass.old.tables pass.new.tables }
-        ensures made { Makes (went result) pass.old.made pass.new.made pass.new.history }
+        ensures made { Makes (has_removed result) pass.old.made pass.new.made pass.new.history }
         ensures removed { IsRemovalBy K.eq (Q.matches key.now) pass.old.history pass.new.history
             (Judges F.FnMut) should_remove result }
         ensures crowded { result ≡ Err Refused.Capacity → HasNoRoom self.now.map.initial
@@ -103,7 +103,7 @@ impl<'a, K: Hash + Eq, V, S: BuildHasher> HashMapRef<'a, K, V, S> {
             (λ h. IsRemovalBy K.eq (Q.matches key.now) self.now.seen h (Judges F.FnMut)
             should_remove result) }
     {
-        let Told { answer, marker: _ } = self.remove_if_told(rt, key, should_remove);
+        let Observed { answer, marker: _ } = self.remove_if_observed(rt, key, should_remove);
         answer
     }
 
@@ -122,7 +122,7 @@ impl<'a, K: Hash + Eq, V, S: BuildHasher> HashMapRef<'a, K, V, S> {
         ensures book { pass.new.book ≡ pass.old.book }
         ensures seen { IsPrefix pass.old.history pass.new.history }
         ensures tables { IsPrefix pass.old.tables pass.new.tables }
-        ensures made { Makes (took result) pass.old.made pass.new.made pass.new.history }
+        ensures made { Makes (gives_value result) pass.old.made pass.new.made pass.new.history }
         ensures removed { IsRemoved K.eq (Q.matches key.now) pass.old.history pass.new.history
             result }
         ensures crowded { result ≡ Err Refused.Capacity → HasNoRoom self.now.map.initial
@@ -169,7 +169,7 @@ impl<'a, K: Hash + Eq, V, S: BuildHasher> HashMapRef<'a, K, V, S> {
         ensures removed { IsOfHistorySince self.now K.eq
             (λ h. IsRemoved K.eq (Q.matches key.now) self.now.seen h result) }
     {
-        let Told { answer, marker: _ } = self.remove_told(rt, key);
+        let Observed { answer, marker: _ } = self.remove_observed(rt, key);
         answer
     }
 
@@ -190,7 +190,7 @@ impl<'a, K: Hash + Eq, V, S: BuildHasher> HashMapRef<'a, K, V, S> {
         ensures removed { IsOfHistorySince self.now K.eq
             (λ h. IsEntryRemoved K.eq (Q.matches key.now) self.now.seen h result) }
     {
-        let Told { answer, marker: _ } = self.remove_entry_told(rt, key);
+        let Observed { answer, marker: _ } = self.remove_entry_observed(rt, key);
         answer
     }
 }
@@ -223,7 +223,7 @@ impl<K: Hash + Eq, V, S: BuildHasher> HashMap<K, V, S> {
         ensures wrong { (G.collector_number guard.now ≡ self.now.collector → ⊥)
             → result ≡ Err Refused.WrongGuard }
     {
-        let Told { answer, marker: _ } = self.remove_if_told(rt, key, should_remove, guard);
+        let Observed { answer, marker: _ } = self.remove_if_observed(rt, key, should_remove, guard);
         answer
     }
 
@@ -249,7 +249,7 @@ impl<K: Hash + Eq, V, S: BuildHasher> HashMap<K, V, S> {
         ensures wrong { (G.collector_number guard.now ≡ self.now.collector → ⊥)
             → result ≡ Err Refused.WrongGuard }
     {
-        let Told { answer, marker: _ } = self.remove_told(rt, key, guard);
+        let Observed { answer, marker: _ } = self.remove_observed(rt, key, guard);
         answer
     }
 
@@ -275,7 +275,7 @@ impl<K: Hash + Eq, V, S: BuildHasher> HashMap<K, V, S> {
         ensures wrong { (G.collector_number guard.now ≡ self.now.collector → ⊥)
             → result ≡ Err Refused.WrongGuard }
     {
-        let Told { answer, marker: _ } = self.remove_entry_told(rt, key, guard);
+        let Observed { answer, marker: _ } = self.remove_entry_observed(rt, key, guard);
         answer
     }
 }

@@ -25,7 +25,7 @@ impl<'a, K: Hash + Eq, V, S: BuildHasher> HashMapRef<'a, K, V, S> {
     pub fn reserve<R: Wait>(&self, rt: &R, additional: usize) -> Result<(), Refused>
         ensures { IfErr result (λ refused. IsMemoryOrCapacity refused) }
     {
-        let (answer, _) = self.reserve_told(rt, additional);
+        let (answer, _) = self.reserve_observed(rt, additional);
         answer
     }
 }
@@ -48,7 +48,7 @@ impl<K: Hash + Eq, V, S: BuildHasher> HashMap<K, V, S> {
         ensures wrong { (G.collector_number guard.now ≡ self.now.collector → ⊥)
             → result ≡ Err Refused.WrongGuard }
     {
-        let (answer, _) = self.reserve_told(rt, additional, guard);
+        let (answer, _) = self.reserve_observed(rt, additional, guard);
         answer
     }
 }

@@ -3,15 +3,15 @@ ghost use Rattle.std.specs.Prelude.{◌≡◌, Err, IfErr, IfOk, []};
 ghost use Rattle.std.specs.Borrow.{sem};
 ghost use mathlib.Core.List.{IsPrefix};
 ghost use Rattle.papaya_map_book.specs.Limits.{HasNoRoom};
-ghost use Rattle.papaya_map_change.specs.Showings.{Judges};
+ghost use Rattle.papaya_map_change.specs.ClosureCalls.{Judges};
 ghost use Rattle.papaya_map_change.specs.Writing.{IsMemoryOrCapacity};
 ghost use Rattle.papaya_map.specs.Plain.{IsOfHistorySince, of_its_history, rule_of, unpinned};
 ghost use Rattle.papaya_map_scan.specs.Leaving.{HasKept, IsCleared};
 ghost use Rattle.papaya_map_book.specs.contracts.rule.entry.Event.{the_row as EventOf};
 
 use crate::map::{HashMap, HashMapRef};
+use crate::observed::Observed;
 use crate::pass::Pass;
-use crate::told::Told;
 use logbook::Rule;
 use papaya_map_book::rule::entry::{Event, Named};
 use papaya_map_book::rule::law::Law;
@@ -53,7 +53,7 @@ impl<'a, K: Hash + Eq, V, S: BuildHasher> HashMapRef<'a, K, V, S> {
             (λ h. (made : _) × HasKept K.eq self.now.seen h [] made (Judges F.FnMut) stays result) }
         ensures refused { IfErr result (λ refused. IsMemoryOrCapacity refused) }
     {
-        let Told { answer, marker: _ } = self.retain_told(rt, stays);
+        let Observed { answer, marker: _ } = self.retain_observed(rt, stays);
         answer
     }
 
@@ -79,7 +79,7 @@ impl<'a, K: Hash + Eq, V, S: BuildHasher> HashMapRef<'a, K, V, S> {
             (λ h. IfOk result (λ _. IsCleared K.eq self.now.seen h)) }
         ensures refused { IfErr result (λ refused. IsMemoryOrCapacity refused) }
     {
-        let Told { answer, marker: _ } = self.clear_told(rt);
+        let Observed { answer, marker: _ } = self.clear_observed(rt);
         answer
     }
 
@@ -218,7 +218,7 @@ impl<K: Hash + Eq, V, S: BuildHasher> HashMap<K, V, S> {
         ensures wrong { (G.collector_number guard.now ≡ self.now.collector → ⊥)
             → result ≡ Err Refused.WrongGuard }
     {
-        let Told { answer, marker: _ } = self.retain_told(rt, stays, guard);
+        let Observed { answer, marker: _ } = self.retain_observed(rt, stays, guard);
         answer
     }
 
@@ -239,7 +239,7 @@ impl<K: Hash + Eq, V, S: BuildHasher> HashMap<K, V, S> {
         ensures wrong { (G.collector_number guard.now ≡ self.now.collector → ⊥)
             → result ≡ Err Refused.WrongGuard }
     {
-        let Told { answer, marker: _ } = self.clear_told(rt, guard);
+        let Observed { answer, marker: _ } = self.clear_observed(rt, guard);
         answer
     }
 

@@ -9,7 +9,7 @@ ghost use Rattle.papaya_map.specs.Storing.{IsUpdated, IsUpserted};
 ghost use Rattle.papaya_map_book.specs.contracts.rule.entry.Event.{the_row as EventOf};
 
 use crate::map::{HashMap, HashMapRef};
-use crate::told::Told;
+use crate::observed::Observed;
 use logbook::Rule;
 use papaya_map_book::rule::entry::{Event, Named};
 use papaya_map_book::rule::law::Law;
@@ -49,7 +49,7 @@ impl<'a, K: Hash + Eq + Drop, V: Drop, S: BuildHasher> HashMapRef<'a, K, V, S> {
             (λ h. IfOk result (IsUpdated K.eq key self.now.seen h (FnReturnsAt F.Fn f))) }
         ensures refused { IfErr result (IsPlainRefusal self.now.map.begun.limit) }
     {
-        let Told { answer, marker: _ } = self.update_told(rt, key, f);
+        let Observed { answer, marker: _ } = self.update_observed(rt, key, f);
         answer
     }
 
@@ -86,7 +86,7 @@ impl<'a, K: Hash + Eq + Drop, V: Drop, S: BuildHasher> HashMapRef<'a, K, V, S> {
             (λ w. w ≡ value))) }
         ensures refused { IfErr result (IsPlainRefusal self.now.map.begun.limit) }
     {
-        let Told { answer, marker: _ } = self.update_or_insert_told(rt, key, update, value);
+        let Observed { answer, marker: _ } = self.update_or_insert_observed(rt, key, update, value);
         answer
     }
 
@@ -115,7 +115,9 @@ impl<'a, K: Hash + Eq + Drop, V: Drop, S: BuildHasher> HashMapRef<'a, K, V, S> {
             (F.post f))) }
         ensures refused { IfErr result (IsPlainRefusal self.now.map.begun.limit) }
     {
-        let Told { answer, marker: _ } = self.update_or_insert_with_told(rt, key, update, f);
+        let Observed { answer, marker: _ } = self.update_or_insert_with_observed(
+            rt, key, update, f,
+        );
         answer
     }
 }
@@ -146,7 +148,7 @@ impl<K: Hash + Eq + Drop, V: Drop, S: BuildHasher> HashMap<K, V, S> {
         ensures wrong { (G.collector_number guard.now ≡ self.now.collector → ⊥)
             → result ≡ Err Refused.WrongGuard }
     {
-        let Told { answer, marker: _ } = self.update_told(rt, key, f, guard);
+        let Observed { answer, marker: _ } = self.update_observed(rt, key, f, guard);
         answer
     }
 
@@ -178,7 +180,9 @@ impl<K: Hash + Eq + Drop, V: Drop, S: BuildHasher> HashMap<K, V, S> {
         ensures wrong { (G.collector_number guard.now ≡ self.now.collector → ⊥)
             → result ≡ Err Refused.WrongGuard }
     {
-        let Told { answer, marker: _ } = self.update_or_insert_told(rt, key, update, value, guard);
+        let Observed { answer, marker: _ } = self.update_or_insert_observed(
+            rt, key, update, value, guard,
+        );
         answer
     }
 
@@ -211,7 +215,9 @@ impl<K: Hash + Eq + Drop, V: Drop, S: BuildHasher> HashMap<K, V, S> {
         ensures wrong { (G.collector_number guard.now ≡ self.now.collector → ⊥)
             → result ≡ Err Refused.WrongGuard }
     {
-        let Told { answer, marker: _ } = self.update_or_insert_with_told(rt, key, update, f, guard);
+        let Observed { answer, marker: _ } = self.update_or_insert_with_observed(
+            rt, key, update, f, guard,
+        );
         answer
     }
 }

@@ -2,7 +2,7 @@
 ghost use Rattle.std.specs.Prelude.{◌≡◌, Err, Some};
 ghost use mathlib.Core.List.{IsPrefix};
 ghost use Rattle.papaya_map_book.specs.Limits.{HasNoRoom};
-ghost use Rattle.papaya_map_change.specs.Showings.{Operates};
+ghost use Rattle.papaya_map_change.specs.ClosureCalls.{Operates};
 ghost use Rattle.papaya_map_compute.specs.ComputeAnswers.{IsComputeBy, changes};
 ghost use Rattle.papaya_map_lookup.specs.History.{Makes};
 

@@ -2,8 +2,8 @@
 ghost use Rattle.std.specs.Prelude.{◌≡◌, Err, true};
 ghost use mathlib.Core.List.{IsPrefix};
 ghost use Rattle.papaya_map_book.specs.Limits.{HasNoRoom};
-ghost use Rattle.papaya_map_change.specs.RemovalAnswers.{IsEntryRemoved, IsRemovalBy, IsRemoved, took, went};
-ghost use Rattle.papaya_map_change.specs.Showings.{Judges};
+ghost use Rattle.papaya_map_change.specs.RemovalAnswers.{IsEntryRemoved, IsRemovalBy, IsRemoved, gives_value, has_removed};
+ghost use Rattle.papaya_map_change.specs.ClosureCalls.{Judges};
 ghost use Rattle.papaya_map_lookup.specs.History.{Makes};
 
 use crate::session::Session;
@@ -34,7 +34,7 @@ impl<'a, K: Hash + Eq, V, S: BuildHasher> Session<'a, K, V, S> {
         ensures map { self.new.map ≡ self.old.map }
         ensures seen { IsPrefix self.old.history self.new.history }
         ensures tables { IsPrefix self.old.tables self.new.tables }
-        ensures made { Makes (went result) self.old.made self.new.made self.new.history }
+        ensures made { Makes (has_removed result) self.old.made self.new.made self.new.history }
         ensures removed { IsRemovalBy K.eq (Q.matches key.now) self.old.history self.new.history
             (Judges F.FnMut) should_remove result }
         ensures crowded { result ≡ Err Refused.Capacity → HasNoRoom self.old.map.initial
@@ -58,7 +58,7 @@ impl<'a, K: Hash + Eq, V, S: BuildHasher> Session<'a, K, V, S> {
         ensures map { self.new.map ≡ self.old.map }
         ensures seen { IsPrefix self.old.history self.new.history }
         ensures tables { IsPrefix self.old.tables self.new.tables }
-        ensures made { Makes (took result) self.old.made self.new.made self.new.history }
+        ensures made { Makes (gives_value result) self.old.made self.new.made self.new.history }
         ensures removed { IsRemoved K.eq (Q.matches key.now) self.old.history self.new.history
             result }
         ensures crowded { result ≡ Err Refused.Capacity → HasNoRoom self.old.map.initial
@@ -81,7 +81,7 @@ impl<'a, K: Hash + Eq, V, S: BuildHasher> Session<'a, K, V, S> {
         ensures map { self.new.map ≡ self.old.map }
         ensures seen { IsPrefix self.old.history self.new.history }
         ensures tables { IsPrefix self.old.tables self.new.tables }
-        ensures made { Makes (took result) self.old.made self.new.made self.new.history }
+        ensures made { Makes (gives_value result) self.old.made self.new.made self.new.history }
         ensures removed { IsEntryRemoved K.eq (Q.matches key.now) self.old.history
             self.new.history result }
         ensures crowded { result ≡ Err Refused.Capacity → HasNoRoom self.old.map.initial

@@ -2,7 +2,7 @@
 ghost use Rattle.std.specs.Prelude.{◌≡◌, Err, IfErr, IfOk, false, []};
 ghost use mathlib.Core.List.{IsPrefix};
 ghost use Rattle.papaya_map_book.specs.Limits.{HasNoRoom};
-ghost use Rattle.papaya_map_change.specs.Showings.{Judges};
+ghost use Rattle.papaya_map_change.specs.ClosureCalls.{Judges};
 ghost use Rattle.papaya_map_change.specs.Writing.{IsMemoryOrCapacity};
 ghost use Rattle.papaya_map_scan.specs.Leaving.{HasDropped, HasKept, IsCleared};
 

@@ -3,7 +3,7 @@ ghost use Rattle.std.specs.Prelude.{◌≡◌, Err, IfErr, IfOk, is_ok};
 ghost use Rattle.std.specs.Fn.{FnReturnsAt};
 ghost use mathlib.Core.List.{IsPrefix};
 ghost use Rattle.papaya_map_book.specs.Limits.{HasNoRoom};
-ghost use Rattle.papaya_map_change.specs.RemovalAnswers.{took};
+ghost use Rattle.papaya_map_change.specs.RemovalAnswers.{gives_value};
 ghost use Rattle.papaya_map_lookup.specs.History.{Makes};
 ghost use Rattle.papaya_map.specs.Limited.{IsWriteRefusal};
 ghost use Rattle.papaya_map.specs.Storing.{IsUpdated, IsUpserted};
@@ -36,7 +36,7 @@ impl<'a, K: Hash + Eq + Drop, V: Drop, S: BuildHasher> Session<'a, K, V, S> {
         ensures map { self.new.map ≡ self.old.map }
         ensures seen { IsPrefix self.old.history self.new.history }
         ensures tables { IsPrefix self.old.tables self.new.tables }
-        ensures made { Makes (took result) self.old.made self.new.made self.new.history }
+        ensures made { Makes (gives_value result) self.old.made self.new.made self.new.history }
         ensures updated { IfOk result (IsUpdated K.eq key self.old.history self.new.history
             (FnReturnsAt F.Fn f)) }
         ensures refused { IfErr result (IsWriteRefusal self.old.map.begun.limit self.new.taken) }

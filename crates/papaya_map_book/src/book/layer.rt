@@ -72,7 +72,7 @@ impl<K: Hash + Eq, V, S: BuildHasher> Book<K, V, S> {
 
     /// Puts each fresh number of hints beside the first of its eight words, in place: no code is
     /// left of this. The hints say nothing yet.
-    fn stand_hints(
+    fn place_hints(
         hints: &mut Vec<HintCell<K, V, S>>,
         slots: &[Cell<K, V, S>],
         sight: &Seen<K, V, S>,
@@ -118,7 +118,7 @@ impl<K: Hash + Eq, V, S: BuildHasher> Book<K, V, S> {
             return None;
         };
         Self::give_words(&mut slots, &mut row);
-        Self::stand_hints(&mut hints, &slots, sight);
+        Self::place_hints(&mut hints, &slots, sight);
         let table = Table {
             limit,
             next,
@@ -145,7 +145,7 @@ impl<K: Hash + Eq, V, S: BuildHasher> Book<K, V, S> {
     ///
     /// Fails with `Refused::Memory` if an allocation fails, and with `Refused::Capacity` if the
     /// arena gives a number that passes [`MAX_TABLES`]: then `given` records that number.
-    pub(crate) fn log_table<R: Wait>(
+    pub(crate) fn push_table<R: Wait>(
         &self,
         rt: &R,
         table: Table<K, V, S>,
@@ -229,7 +229,7 @@ impl<K: Hash + Eq, V, S: BuildHasher> Book<K, V, S> {
         ) else {
             return Err(Refused::Memory);
         };
-        let Ok(table) = self.log_table(rt, table, &mut given) else {
+        let Ok(table) = self.push_table(rt, table, &mut given) else {
             return Err(Refused::Memory);
         };
         let (found, _) = self.open(&table, &mut seal, &mut sight);

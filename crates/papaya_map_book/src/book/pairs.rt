@@ -1,5 +1,5 @@
 //! Pairs in the arena of pairs: what they hold, and storing what callers put into a map.
-ghost use Rattle.papaya_map_book.specs.Books.{IsIn, IsLoggedAs};
+ghost use Rattle.papaya_map_book.specs.Books.{IsIn, IsStoredAs};
 ghost use Rattle.std.specs.Prelude.{◌≡◌, ◌<◌, ◌^◌, None, Some, IfErr, IfOk};
 ghost use Rattle.boxcar.specs.Table.{Shows, id_at};
 ghost use Rattle.papaya_map_book.specs.Brought.{IsBrought, pair_held};
@@ -194,8 +194,8 @@ impl<K: Hash + Eq + Drop, V: Drop, S: BuildHasher> Book<K, V, S> {
     /// Stores a pair of this key and value if a lane of the arena has a free slot, and else returns
     /// both. Any number names a lane to begin with.
     #[inline(always)]
-    pub fn log_fresh(&self, lane: u64, key: K, value: V) -> Result<Stored<K, V>, (K, V)>
-        ensures ok { IfOk result (IsLoggedAs self.now key value) }
+    pub fn store_fresh(&self, lane: u64, key: K, value: V) -> Result<Stored<K, V>, (K, V)>
+        ensures ok { IfOk result (IsStoredAs self.now key value) }
         ensures err { IfErr result (λ back. (back.0 ≡ key) × (back.1 ≡ value)) }
     {
         let held = Held::Own(key, value);
@@ -208,7 +208,7 @@ impl<K: Hash + Eq + Drop, V: Drop, S: BuildHasher> Book<K, V, S> {
     /// Stores a pair with the key of a stored pair if a lane of the arena has a free slot, and else
     /// returns the value.
     #[inline(always)]
-    pub fn log_renewed(
+    pub fn store_renewed(
         &self,
         lane: u64,
         stored: &Stored<K, V>,
@@ -217,7 +217,7 @@ impl<K: Hash + Eq + Drop, V: Drop, S: BuildHasher> Book<K, V, S> {
     ) -> Result<Stored<K, V>, V>
         requires placed { IsIn self.now (PairNamed stored.now) }
         requires pair { pair.now ≡ stored.now.value }
-        ensures ok { IfOk result (IsLoggedAs self.now stored.now.value.key.value value) }
+        ensures ok { IfOk result (IsStoredAs self.now stored.now.value.key.value value) }
         ensures err { IfErr result (λ back. back ≡ value) }
     {
         let first = self.key_first(stored, pair);
@@ -229,7 +229,7 @@ impl<K: Hash + Eq + Drop, V: Drop, S: BuildHasher> Book<K, V, S> {
     }
 
     /// Stores what is held, or returns it if memory runs out.
-    fn log<R: Wait>(&self, rt: &R, lane: u64, held: Held<K, V>) -> Result<Stored<K, V>, Pair<K, V>>
+    fn push<R: Wait>(&self, rt: &R, lane: u64, held: Held<K, V>) -> Result<Stored<K, V>, Pair<K, V>>
         requires brought { IsBrought held }
         ensures ok { IfOk result (λ p. Shows self.now.parts.pairs p × (p.value ≡ pair_held held)) }
         ensures number { IfOk result (λ p. p.index < 2 ^ 48) }
@@ -239,7 +239,7 @@ impl<K: Hash + Eq + Drop, V: Drop, S: BuildHasher> Book<K, V, S> {
     }
 
     /// Stores the pair of this key and value, or returns both if memory runs out.
-    pub fn log_pair<R: Wait>(
+    pub fn store_pair<R: Wait>(
         &self,
         rt: &R,
         lane: u64,
@@ -248,11 +248,11 @@ impl<K: Hash + Eq + Drop, V: Drop, S: BuildHasher> Book<K, V, S> {
     ) -> Result<Stored<K, V>, (KeyPart<K, V>, ValuePart<K, V>)>
         requires key { IsKeyPartIn self.now key }
         requires value { IsValuePartIn self.now value }
-        ensures ok { IfOk result (IsLoggedAs self.now (key_in key) (value_in value)) }
+        ensures ok { IfOk result (IsStoredAs self.now (key_in key) (value_in value)) }
         ensures err { IfErr result (λ back. (back.0 ≡ key) × (back.1 ≡ value)) }
     {
         match (key, value) {
-            (KeyPart::Own(key), ValuePart::Own(value)) => match self.log(
+            (KeyPart::Own(key), ValuePart::Own(value)) => match self.push(
                 rt,
                 lane,
                 Held::Own(key, value),
@@ -265,14 +265,14 @@ impl<K: Hash + Eq + Drop, V: Drop, S: BuildHasher> Book<K, V, S> {
             },
             (KeyPart::Of(by), ValuePart::Own(value)) => {
                 let first = self.key_first(&by, self.parts.pairs.value(&by));
-                match self.log(rt, lane, Held::Keyed(first, value)) {
+                match self.push(rt, lane, Held::Keyed(first, value)) {
                     Ok(pair) => Ok(pair),
                     Err(back) => Err((KeyPart::Of(by), ValuePart::Own(back.into_value()))),
                 }
             }
             (KeyPart::Own(key), ValuePart::Of(of)) => {
                 let first = self.value_first(&of);
-                match self.log(rt, lane, Held::Lent(key, first)) {
+                match self.push(rt, lane, Held::Lent(key, first)) {
                     Ok(pair) => Ok(pair),
                     Err(back) => Err((KeyPart::Own(back.into_key()), ValuePart::Of(of))),
                 }
@@ -280,7 +280,7 @@ impl<K: Hash + Eq + Drop, V: Drop, S: BuildHasher> Book<K, V, S> {
             (KeyPart::Of(by), ValuePart::Of(of)) => {
                 let first = self.key_first(&by, self.parts.pairs.value(&by));
                 let second = self.value_first(&of);
-                match self.log(rt, lane, Held::Both(first, second)) {
+                match self.push(rt, lane, Held::Both(first, second)) {
                     Ok(pair) => Ok(pair),
                     Err(_) => Err((KeyPart::Of(by), ValuePart::Of(of))),
                 }

@@ -16,14 +16,14 @@ pub struct Law<K, V, S> {
 impl<K: Hash + Eq, V, S: BuildHasher> Rule<Event<K, V, S>, Named<K, V>> for Law<K, V, S> {
     ghost use Rattle.std.specs.Prelude.{◌≡◌, []};
     ghost use Rattle.papaya_map_book.specs.Hashes.{hash_of};
-    ghost use Rattle.papaya_map_book.specs.Rule.{IsKept};
+    ghost use Rattle.papaya_map_book.specs.Rule.{AreCodes};
     ghost use Rattle.papaya_map_arena.specs.Tokens.{stands as pair_stands};
     ghost use Rattle.papaya_map_book.specs.Tokens.{stands};
     ghost use Rattle.papaya_map_book.specs.Offer.{held, Moved};
     ghost use Rattle.papaya_map_book.specs.contracts.rule.pair.Pair.{the_row as PairOf};
     ghost use Rattle.papaya_map_book.specs.contracts.rule.entry.Sheet.{the_row as SheetRow};
 
-    ghost holds = { λ cells log. IsKept K.eq (hash_of K.hash_input S.build_hasher S.Hasher.write
+    ghost holds = { λ cells log. AreCodes K.eq (hash_of K.hash_input S.build_hasher S.Hasher.write
         S.Hasher.finish) cells log };
 
     ghost first = { [] };

@@ -174,7 +174,7 @@ unsafe impl<K, V> Send for Nobody<K, V> {}
 unsafe impl<K, V> Sync for Nobody<K, V> {}
 
 /// Returns what the token of a pair shows, as a pair's row can name it.
-fn tell_shown<K, V>(token: &Pushed<Pair<K, V>>) -> Known<Shown<K, V>>
+fn known_shown<K, V>(token: &Pushed<Pair<K, V>>) -> Known<Shown<K, V>>
     ensures { result.at ≡ token.now }
 {
     Known {
@@ -182,8 +182,8 @@ fn tell_shown<K, V>(token: &Pushed<Pair<K, V>>) -> Known<Shown<K, V>>
     }
 }
 
-/// Returns what such a token shows, as that of a pair: the inverse of [`tell_shown`].
-fn tell_pair<K, V>(token: &Pushed<Shown<K, V>>) -> Known<Pair<K, V>>
+/// Returns what such a token shows, as that of a pair: the inverse of [`known_shown`].
+fn known_pair<K, V>(token: &Pushed<Shown<K, V>>) -> Known<Pair<K, V>>
     ensures { result.at ≡ token.now }
 {
     Known {
@@ -196,7 +196,7 @@ fn tell_pair<K, V>(token: &Pushed<Shown<K, V>>) -> Known<Pair<K, V>>
 pub(crate) fn shown_of<K, V>(pair: &Pushed<Pair<K, V>>) -> Pushed<Shown<K, V>>
     ensures { result ≡ pair.now }
 {
-    token(tell_shown(pair), pair.index())
+    token(known_shown(pair), pair.index())
 }
 
 /// Returns the token of the pair that brought a key or a value.
@@ -204,5 +204,5 @@ pub(crate) fn shown_of<K, V>(pair: &Pushed<Pair<K, V>>) -> Pushed<Shown<K, V>>
 pub(crate) fn first_of<K, V>(shown: &Pushed<Shown<K, V>>) -> Pushed<Pair<K, V>>
     ensures { result ≡ shown.now }
 {
-    token(tell_pair(shown), shown.index())
+    token(known_pair(shown), shown.index())
 }

@@ -6,7 +6,7 @@ use Rattle.papaya_map_book.specs.declared.window.Window.{Window}
 use Rattle.papaya_map_book.specs.Limits.{tables_of}
 use Rattle.papaya_map_book.specs.Parts.{begun_of}
 use Rattle.papaya_map_book.specs.Windows.{Sees}
-use Rattle.papaya_call.specs.ChainMachine.{IsStanding}
+use Rattle.papaya_call.specs.ChainMachine.{IsValid}
 use Rattle.papaya_call.specs.declared.chain.ask.Answer.{Answer}
 use Rattle.papaya_call.specs.declared.chain.machine.Machine.{Machine}
 use Rattle.papaya_call.specs.declared.chain.machine.Phase.TheVariants.{Calling}
@@ -33,8 +33,8 @@ module _ {K V S H : Type 0} {d : keyed.Ghosts S K H} where
       w.book.now.begun.book w.sight.log c
 
   -- Each call that was under way with `c` is under way in `w'` with `c'`.
-  abbrev pub GoesOn : Window K V S H d → Driver K V S H → Window K V S H d → Driver K V S H → Type 0
-  GoesOn w c w' c' = changing.GoesOn d.keys.eq d.keys.hash (begun_of w.book.now.parts)
+  abbrev pub Continues : Window K V S H d → Driver K V S H → Window K V S H d → Driver K V S H → Type 0
+  Continues w c w' c' = changing.Continues d.keys.eq d.keys.hash (begun_of w.book.now.parts)
       w.book.now.begun.book w.sight.log c w'.sight.log c'
 
   -- A call with this machine has helped a copy for as long as it was set aside, and now goes on for
@@ -43,7 +43,7 @@ module _ {K V S H : Type 0} {d : keyed.Ghosts S K H} where
       (c' : Driver K V S H) : Type 0 where
     pub sees : Sees w w'
     pub own : w'.own ≡ w.own
-    pub standing : IsStanding c'.machine
+    pub valid : IsValid c'.machine
     pub calling : c'.machine.phase ≡ Calling
     pub helped : HasHelped machine c'.machine (tables_of w'.sight.log) c'.copier.given.done
 

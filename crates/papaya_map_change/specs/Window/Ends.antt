@@ -7,7 +7,7 @@ use Rattle.papaya_map_book.specs.declared.rule.own.CapacityCause.{CapacityCause}
 use Rattle.papaya_map_book.specs.declared.window.Window.{Window}
 use Rattle.papaya_map_book.specs.Logs.{Stored}
 use Rattle.papaya_map_book.specs.Limits.{HasNoRoom, IsSpent, tables_of}
-use Rattle.papaya_map_book.specs.Windows.{Does, IsLawful, IsLoggedAs, Sees}
+use Rattle.papaya_map_book.specs.Windows.{Does, IsLawful, IsStoredAs, Sees}
 use Rattle.papaya_map_lookup.specs.Drivers.{own, past}
 use Rattle.papaya_map_lookup.specs.History.{Makes}
 use Rattle.papaya_map_change.specs.Tries.{is_put, pair_in}
@@ -23,7 +23,7 @@ module _ {K V S H : Type 0} {d : keyed.Ghosts S K H} where
 
   -- If the call is refused because there is no room, or because the limit on pairs is spent, then
   -- what has been observed shows it.
-  pub record TellsWhy (initial : ℕ) (w : Window K V S H d) (given : List CapacityCause)
+  pub record HasCause (initial : ℕ) (w : Window K V S H d) (given : List CapacityCause)
       (refuses : Refused → Type 0) : Type 0 where
     pub crowded : refuses Capacity → HasNoRoom initial (tables_of w.sight.log) given
     pub spent : refuses Limit → IsSpent w.book.now.parts.limit w.sight.log
@@ -36,4 +36,4 @@ module _ {K V S H : Type 0} {d : keyed.Ghosts S K H} where
     pub lawful : IsLawful new
     pub does : Does (is_put result) old new
     pub made : Makes (is_put result) (own old) (own new) (past new)
-    pub logged : (pair : Stored K V) → pair_in result ≡ Some pair → IsLoggedAs new key value pair
+    pub logged : (pair : Stored K V) → pair_in result ≡ Some pair → IsStoredAs new key value pair

@@ -9,7 +9,7 @@ use Rattle.papaya_map_change.specs.Going as going
 
 module _ {K V S H : Type 0} {d : keyed.Ghosts S K H} where
   -- The call went on up to an answer that its machine has yet to receive.
-  abbrev pub GoesBy : Window K V S H d → Driver K V S H → Window K V S H d → Driver K V S H → Answer
+  abbrev pub ContinuesTo : Window K V S H d → Driver K V S H → Window K V S H d → Driver K V S H → Answer
       → Type 0
-  GoesBy w c w' c' answer = going.GoesBy d.keys.eq d.keys.hash (begun_of w.book.now.parts)
+  ContinuesTo w c w' c' answer = going.ContinuesTo d.keys.eq d.keys.hash (begun_of w.book.now.parts)
       w.book.now.begun.book w.sight.log c w'.sight.log c' answer

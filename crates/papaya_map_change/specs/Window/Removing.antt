@@ -26,5 +26,5 @@ module _ {K V S H F : Type 0} {d : keyed.Ghosts S K H} (query : Query K S)
 
 module _ {K V S H : Type 0} {d : keyed.Ghosts S K H} where
   -- A removal with this reply holds the pairs that its result needs.
-  abbrev pub CanTell : Window K V S H d → Removal K V S H → Reply → Type 0
-  CanTell w = removing.CanTell (begun_of w.book.now.parts) w.book.now.begun.book
+  abbrev pub HoldsResult : Window K V S H d → Removal K V S H → Reply → Type 0
+  HoldsResult w = removing.HoldsResult (begun_of w.book.now.parts) w.book.now.begun.book

@@ -14,6 +14,6 @@ module _ {K V S H : Type 0} {d : keyed.Ghosts S K H} where
       w.book.now.begun.book w.sight.log x.machine x.copier
 
   -- The call relies on what holds once its machine has received this answer.
-  abbrev pub GoesOnAfter : Window K V S H d → Resizing K V S H → Answer → Type 0
-  GoesOnAfter w x answer = resizing.IsResizing d.keys.eq d.keys.hash (begun_of w.book.now.parts)
+  abbrev pub ContinuesAfter : Window K V S H d → Resizing K V S H → Answer → Type 0
+  ContinuesAfter w x answer = resizing.IsResizing d.keys.eq d.keys.hash (begun_of w.book.now.parts)
       w.book.now.begun.book w.sight.log (after x.machine answer) x.copier

@@ -15,7 +15,7 @@ use Rattle.papaya_map_lookup.specs.Drivers.{past}
 use Rattle.papaya_map_lookup.specs.declared.lookup.Met.{Met}
 use Rattle.papaya_map_lookup.specs.History.{history_of}
 use Rattle.papaya_map_change.specs.Changes.{IsPut}
-use Rattle.papaya_map_change.specs.Seeking.{Seeker, leads, led_to, met_by}
+use Rattle.papaya_map_change.specs.Seeking.{Seeker, leads, next_state, met_by}
 use Rattle.papaya_map_change.specs.Seeking as seeking
 use Rattle.papaya_map_change.specs.declared.fast_path.ProbeHit.{ProbeHit}
 
@@ -33,25 +33,25 @@ module _ {K V S H : Type 0} {d : keyed.Ghosts S K H} where
       (begun_of w.book.now.parts) w.book.now.begun.book key begun w.sight.log state met table
 
   -- Some insertion of this key would be in this state now.
-  abbrev pub StandsAt : Window K V S H d → K → State → Option (Stored K V) → Sheet → Type 0
-  StandsAt w key state met table = (begun : List (Event K V S))
+  abbrev pub IsInState : Window K V S H d → K → State → Option (Stored K V) → Sheet → Type 0
+  IsInState w key state met table = (begun : List (Event K V S))
       × IsInsertingAt w key begun state met table
 
-  abbrev pub LooksAt : Window K V S H d → K → Sheet → Place → Type 0
-  LooksAt w key table at = StandsAt w key (Searching (Looking at)) None table
+  abbrev pub ProbesAt : Window K V S H d → K → Sheet → Place → Type 0
+  ProbesAt w key table at = IsInState w key (Searching (Looking at)) None table
 
   abbrev pub ReadsAt : Window K V S H d → K → Sheet → Place → Type 0
-  ReadsAt w key table at = StandsAt w key (Searching (Reading at)) None table
+  ReadsAt w key table at = IsInState w key (Searching (Reading at)) None table
 
   -- Some insertion of this key would be in the state to which this outcome leads.
-  abbrev pub StandsBy : Window K V S H d → K → Sheet → ProbeHit (Met K V) → Type 0
-  StandsBy w key table turn = (state : State) × (led_to turn ≡ Some state)
-      × StandsAt w key state (met_by turn) table
+  abbrev pub IsStateAfter : Window K V S H d → K → Sheet → ProbeHit (Met K V) → Type 0
+  IsStateAfter w key table turn = (state : State) × (next_state turn ≡ Some state)
+      × IsInState w key state (met_by turn) table
 
   -- This outcome leads each call that was in this state on to its next state, by what has been
   -- observed in `w'`.
-  abbrev pub Turns : (w w' : Window K V S H d) → K → Sheet → State → ProbeHit (Met K V) → Type 0
-  Turns w w' key table state turn = (who : Seeker) (begun : List (Event K V S)) (state' : State)
+  abbrev pub Probes : (w w' : Window K V S H d) → K → Sheet → State → ProbeHit (Met K V) → Type 0
+  Probes w w' key table state turn = (who : Seeker) (begun : List (Event K V S)) (state' : State)
       → leads who turn ≡ Some state' → IsSeekingAt who w key begun state None table
       → IsSeekingAt who w' key begun state' (met_by turn) table
 
@@ -64,5 +64,5 @@ module _ {K V S H : Type 0} {d : keyed.Ghosts S K H} where
   abbrev pub HasWritten : (w w' : Window K V S H d) → K → V → Sheet → ProbeHit (Met K V) → Option (Bor V)
       → Type 0
   HasWritten w w' key value table turn answer = (begun : List (Event K V S)) (state : State)
-      → led_to turn ≡ Some state → IsInsertingAt w key begun state (met_by turn) table
+      → next_state turn ≡ Some state → IsInsertingAt w key begun state (met_by turn) table
       → IsPut d.keys.eq key value (history_of begun) (past w') answer

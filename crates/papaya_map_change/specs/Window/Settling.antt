@@ -7,7 +7,7 @@ use Rattle.papaya_call.specs.declared.copy.carry.Carry.TheVariants.{Looking as L
 use Rattle.papaya_call.specs.declared.copy.copying.Copying.{Copying}
 use Rattle.papaya_call.specs.declared.copy.settle.Settle.{Settle}
 use Rattle.papaya_call.specs.declared.copy.settle.Settle.TheVariants.{Carrying, Looking}
-use Rattle.papaya_call.specs.Step.{IsStandingChunk}
+use Rattle.papaya_call.specs.Step.{IsValidChunk}
 use Rattle.papaya_call.specs.declared.chain.ask.Answer.{Answer}
 use Rattle.papaya_map_book.specs.declared.keyed.Keyed as keyed
 use Rattle.papaya_map_book.specs.declared.rule.entry.Event.{Event}
@@ -45,8 +45,8 @@ abbrev pub placing : {K V S H : Type 0} → Moving K V S H → Settle
 placing m = Carrying m.marked (Placing m.hash m.place)
 
 module _ {K V S H : Type 0} {d : keyed.Ghosts S K H} where
-  abbrev pub CanLead : Window K V S H d → ResizeMode → Stop K V S H → Type 0
-  CanLead w mode s = settling.CanLead d.keys.eq d.keys.hash (begun_of w.book.now.parts)
+  abbrev pub CanStep : Window K V S H d → ResizeMode → Stop K V S H → Type 0
+  CanStep w mode s = settling.CanStep d.keys.eq d.keys.hash (begun_of w.book.now.parts)
       w.book.now.begun.book mode s
 
   -- The copy at this point, by what has been observed.
@@ -60,21 +60,21 @@ module _ {K V S H : Type 0} {d : keyed.Ghosts S K H} where
   -- The table that is held is that of the chunk that is copied.
   pub record IsPlacedAt (w : Window K V S H d) (site : Site K V S H) : Type 0 where
     pub table : IsTable w site.chunk.cursor.from site.table.now
-    pub standing : IsStandingChunk site.chunk
+    pub valid : IsValidChunk site.chunk
 
   -- The place that is tried for the pair is in the table that is held.
   pub record IsAt (w : Window K V S H d) (m : Moving K V S H) : Type 0 where
     pub within : IsWithin m.place
     pub table : IsTable w m.place.table m.to.now
 
-  abbrev pub CanLeadAt : Window K V S H d → Site K V S H → Settle → Copier K V S H → Type 0
-  CanLeadAt w site settle h = CanLead w site.mode (stop_at w site settle h)
+  abbrev pub CanStepAt : Window K V S H d → Site K V S H → Settle → Copier K V S H → Type 0
+  CanStepAt w site settle h = CanStep w site.mode (stop_at w site settle h)
 
   -- The copy is about to look at the slot's word, by a log that has been observed, and may be led
   -- on from there.
   abbrev pub WaitsAt : Window K V S H d → Site K V S H → Copier K V S H → Type 0
   WaitsAt w site h = (seen : List (Event K V S)) × IsPrefix seen w.sight.log
-      × CanLead w site.mode (stop_seen seen site h)
+      × CanStep w site.mode (stop_seen seen site h)
 
   -- The slot is settled, or its copy stopped.
   abbrev pub LeavesFrom : Stop K V S H → Window K V S H d → Site K V S H → Copier K V S H
@@ -87,18 +87,18 @@ module _ {K V S H : Type 0} {d : keyed.Ghosts S K H} where
       → Window K V S H d → Copier K V S H → Option Halt → Type 0
   Leaves w site settle h w' h' halt = LeavesFrom (stop_at w site settle h) w' site h' halt
 
-  abbrev pub Leads : Window K V S H d → ResizeMode → Stop K V S H → Stop K V S H → Type 0
-  Leads w mode s t = settling.Leads d.keys.eq d.keys.hash (begun_of w.book.now.parts)
+  abbrev pub StepsTo : Window K V S H d → ResizeMode → Stop K V S H → Stop K V S H → Type 0
+  StepsTo w mode s t = settling.StepsTo d.keys.eq d.keys.hash (begun_of w.book.now.parts)
       w.book.now.begun.book mode s t
 
   -- From this place the search for the pair's new slot goes on to a later one; or the slot is
   -- settled, or its copy stopped.
-  abbrev pub LooksOn : Window K V S H d → Site K V S H → Moving K V S H → Copier K V S H
+  abbrev pub ProbesOn : Window K V S H d → Site K V S H → Moving K V S H → Copier K V S H
       → Window K V S H d → Copier K V S H → MoveStep → Type 0
-  LooksOn w site m h w' h' (Next next) = IsAt w' (record m { place = next })
-      × Leads w' site.mode (stop_at w site (looking m) h)
+  ProbesOn w site m h w' h' (Next next) = IsAt w' (record m { place = next })
+      × StepsTo w' site.mode (stop_at w site (looking m) h)
       (stop_at w' site (looking (record m { place = next })) h') × (left_at next < left_at m.place)
-  LooksOn w site m h w' h' (Left halt) = Leaves w site (looking m) h w' h' halt
+  ProbesOn w site m h w' h' (Left halt) = Leaves w site (looking m) h w' h' halt
 
   -- Answers led to this point of the copy, and the machine has yet to receive the last one.
   abbrev pub Ends : Window K V S H d → ResizeMode → Copying → Copier K V S H → Window K V S H d

@@ -7,7 +7,7 @@ use Rattle.papaya_call.specs.declared.ask.Answer.TheVariants.{Exchanged, Found, 
 use Rattle.papaya_call.specs.declared.ask.At.TheVariants.{Made}
 use Rattle.papaya_call.specs.Search.{IsSize}
 use Rattle.papaya_call.specs.ChainMachine.{kind_of_ask}
-use Rattle.papaya_call_law.specs.Told.{or_last}
+use Rattle.papaya_call_law.specs.TrueAnswers.{or_last}
 use Rattle.papaya_map_book.specs.declared.keyed.Keyed as keyed
 use Rattle.papaya_map_book.specs.declared.rule.entry.Named.TheVariants.{Pair}
 use Rattle.papaya_map_book.specs.declared.window.Window.{Window}

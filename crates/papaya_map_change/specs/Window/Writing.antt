@@ -14,7 +14,7 @@ use Rattle.papaya_map_book.specs.Parts.{begun_of}
 use Rattle.papaya_map_book.specs.Windows.{Does, IsIn, Sees}
 use Rattle.papaya_map_change.specs.Doing.{was_made}
 use Rattle.papaya_map_change.specs.declared.writer.Writer.{Writer}
-use Rattle.papaya_map_change.specs.Writing.{IsUnlogged, IsUnsaid, held_value}
+use Rattle.papaya_map_change.specs.Writing.{IsNotStored, IsWithoutResult, held_value}
 use Rattle.papaya_map_change.specs.Writing as writing
 
 module _ {K V S H : Type 0} {d : keyed.Ghosts S K H} where
@@ -58,7 +58,7 @@ module _ {K V S H : Type 0} {d : keyed.Ghosts S K H} where
     pub machine : c'.call.machine ≡ c.call.machine
     pub value : c'.value ≡ c.value
     pub put : c'.call.put ≡ c.call.put
-    pub unsaid : IsUnsaid c'.call.copier.given.done answer
+    pub unsaid : IsWithoutResult c'.call.copier.given.done answer
     pub writes : Writes w c w' c' answer
 
   -- The call got this answer by trying an exchange of a slot, which brought in the pair `comes` if
@@ -70,11 +70,11 @@ module _ {K V S H : Type 0} {d : keyed.Ghosts S K H} where
     pub machine : c'.call.machine ≡ c.call.machine
     pub value : c'.value ≡ c.value
     pub put : (c'.call.put ≡ c.call.put) ⊎ (c'.call.put ≡ comes)
-    pub unsaid : IsUnsaid c'.call.copier.given.done answer
+    pub unsaid : IsWithoutResult c'.call.copier.given.done answer
 
   -- The call has stored a pair of its value in the arena, which is to be put in; or its machine is
   -- to receive this answer.
-  pub record Logs (w : Window K V S H d) (c c' : Writer K V S H)
+  pub record StoresEntry (w : Window K V S H d) (c c' : Writer K V S H)
       (result : Result (Stored K V) Answer) : Type 0 where
     pub machine : c'.call.machine ≡ c.call.machine
     pub put : c'.call.put ≡ c.call.put
@@ -83,8 +83,8 @@ module _ {K V S H : Type 0} {d : keyed.Ghosts S K H} where
     pub placed : IfOk result (λ q. IsIn w (Pair q))
     pub value : IfOk result (λ q. held_value c.value ≡ Some q.value.value)
     pub pairs : IfOk result (λ q. Pairs w c c' q)
-    pub unlogged : IfErr result (λ answer. IsUnlogged answer)
-    pub unsaid : IfErr result (λ answer. IsUnsaid c'.call.copier.given.done answer)
+    pub unlogged : IfErr result (λ answer. IsNotStored answer)
+    pub unsaid : IfErr result (λ answer. IsWithoutResult c'.call.copier.given.done answer)
     pub writes : IfErr result (λ answer. Writes w c w c' answer)
 
 module _ {K V S H : Type 0} where

@@ -14,8 +14,8 @@ pub returns-clause-begins : goal.returns-clause-begins
 returns-clause-begins g c = λ words task hash mode initial number limit. record { number = wanted_read words limit; read = (tt, tt) }
 
 pub returns-clause-nearer : goal.returns-clause-nearer
-returns-clause-nearer g c = λ h d hashed begun since may bounded k m loaded r made current answer es loaded' told served before later spends few standing.
-    call_nears h d hashed begun since may bounded k m loaded r made current answer es loaded' told served before later spends few standing
+returns-clause-nearer g c = λ h d hashed begun since may bounded k m loaded r made current answer es loaded' told served before later spends few valid.
+    call_nears h d hashed begun since may bounded k m loaded r made current answer es loaded' told served before later spends few valid
 
 pub returns-clause-current : goal.returns-clause-current
 returns-clause-current g c = λ h d hashed begun since may bounded k m loaded r made current answer es loaded' told served.

@@ -10,10 +10,10 @@ pub returns-clause-begins : goal.returns-clause-begins
 returns-clause-begins g c = λ words resize mode initial number. begun_read mode words resize
 
 pub returns-clause-nearer : goal.returns-clause-nearer
-returns-clause-nearer g c = λ h d hashed s m keeps bounded resizer loaded r made read answer es loaded' told ask asks before later spends few standing.
+returns-clause-nearer g c = λ h d hashed s m keeps bounded resizer loaded r made read answer es loaded' told ask asks before later spends few valid.
     measure_less before later (left_of_stage s.root resizer.state)
     (left_of_stage (run es s).root (after_in resizer.resize resizer.mode resizer.initial resizer.number answer resizer.state)) few
-    (stage_small (run es s).root (after_in resizer.resize resizer.mode resizer.initial resizer.number answer resizer.state) standing.state)
+    (stage_small (run es s).root (after_in resizer.resize resizer.mode resizer.initial resizer.number answer resizer.state) valid.state)
     (stage_nears h d hashed s m keeps bounded resizer.resize resizer.mode resizer.initial resizer.number loaded r.mode r.cut before later
     resizer.state r.stage made read answer es loaded' told ask asks spends)
 

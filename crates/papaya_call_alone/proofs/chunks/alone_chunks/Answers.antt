@@ -4,7 +4,7 @@ use Rattle.papaya_call.specs.declared.chain.resizer.Resize.TheVariants.{Chunk}
 use Rattle.papaya_call.specs.Resizer.{after_in}
 use Rattle.papaya_words_law.specs.Exchange.{run}
 use Rattle.papaya_call_law.specs.Relies.{IsCutAs, IsModeOf}
-use Rattle.papaya_call_law.specs.Told.{word_of}
+use Rattle.papaya_call_law.specs.TrueAnswers.{word_of}
 use Rattle.papaya_call_alone.specs.Chunks.{WillCopyIn, chunks_of}
 use Rattle.papaya_call_alone.specs.Resizers.{IsStageRead}
 use Rattle.papaya_call_alone.proofs.ChunkCounts.{chunks_rounded, copies_fewer, copies_leave, stage_copies}

@@ -16,8 +16,8 @@ returns-clause-goes_on c = λ m old new asks. limit_goes_on m old new asks
 pub returns-clause-begins : goal.returns-clause-begins
 returns-clause-begins c = λ task hash mode initial number most has. absurd cc
 
-pub returns-clause-logs : goal.returns-clause-logs
-returns-clause-logs c = λ m logs. limit_logs m logs
+pub returns-clause-stores : goal.returns-clause-stores
+returns-clause-stores c = λ m logs. limit_logs m logs
 
 pub returns-clause-each : goal.returns-clause-each
 returns-clause-each c = λ m answer most limit has. limit_each m most limit answer has

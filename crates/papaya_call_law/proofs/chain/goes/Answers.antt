@@ -28,5 +28,5 @@ returns-clause-words g c = λ h d begun since k m loaded r answer es loaded' tol
     chain_shows m answer (in_order h d begun since k m loaded (run (begun ++ since) start) answer es loaded' r told)
 
 pub returns-clause-says : goal.returns-clause-says
-returns-clause-says g c = λ h d begun since k m loaded r answer es loaded' told standing shows said stands.
-    chain_said m answer (in_order h d begun since k m loaded (run (begun ++ since) start) answer es loaded' r told) standing shows said stands
+returns-clause-says g c = λ h d begun since k m loaded r answer es loaded' told valid shows said stands.
+    chain_said m answer (in_order h d begun since k m loaded (run (begun ++ since) start) answer es loaded' r told) valid shows said stands

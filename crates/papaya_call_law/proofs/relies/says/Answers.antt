@@ -11,16 +11,16 @@ pub returns-clause-words : goal.returns-clause-words
 returns-clause-words c = λ m answer shows. machine_shows m answer shows
 
 pub returns-clause-said : goal.returns-clause-said
-returns-clause-said c = λ m answer said standing shows stands. machine_said m answer said standing shows stands
+returns-clause-said c = λ m answer said valid shows stands. machine_said m answer said valid shows stands
 
 pub returns-clause-chosen : goal.returns-clause-chosen
 returns-clause-chosen c = λ m n said is e stands. machine_chosen m n said is e stands
 
 pub returns-clause-paired : goal.returns-clause-paired
-returns-clause-paired c = λ m n is standing shows e. machine_paired m n is standing shows e
+returns-clause-paired c = λ m n is valid shows e. machine_paired m n is valid shows e
 
 pub returns-clause-exchanges : goal.returns-clause-exchanges
-returns-clause-exchanges c = λ m t x old new is fits standing e. machine_exchanges m t x old new is fits standing e
+returns-clause-exchanges c = λ m t x old new is fits valid e. machine_exchanges m t x old new is fits valid e
 
 pub returns-clause-computes : goal.returns-clause-computes
 returns-clause-computes c = λ m n agrees is stands. computed_unsaid m n agrees is stands
@@ -29,7 +29,7 @@ pub returns-clause-fresh : goal.returns-clause-fresh
 returns-clause-fresh c = λ m shown n agrees e stands. unsaid m shown n agrees e stands
 
 pub returns-clause-changes : goal.returns-clause-changes
-returns-clause-changes c = λ m answer old new standing before e. machine_changed m answer old new standing before e
+returns-clause-changes c = λ m answer old new valid before e. machine_changed m answer old new valid before e
 
 pub returns-clause-aborts : goal.returns-clause-aborts
 returns-clause-aborts c = λ m answer with open_still e. machine_aborted m answer with open_still e

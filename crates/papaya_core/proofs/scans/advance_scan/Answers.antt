@@ -11,15 +11,15 @@ use Rattle.papaya_core.proofs.Walks.{given_is}
 use Rattle.papaya_core.proofs.scans.advance_scan.Goals as goal
 
 -- memory ran out for a pair of its list
-pub returns-in-Some-unheard-clause-goes : goal.returns-in-Some-unheard-clause-goes
-returns-in-Some-unheard-clause-goes g c = record {
+pub returns-in-Some-list_refusal-clause-goes : goal.returns-in-Some-list_refusal-clause-goes
+returns-in-Some-list_refusal-clause-goes g c = record {
   ask = c.in-Some.ask;
   asked = sym c.ask.ensures ∙ c.in-Some.is;
   answer = c.perform_scan-answer.result;
   later = c.perform_scan-answer.new.scanning;
   performs = c.perform_scan-answer.ensures.performs;
   event_is = c.event_of_scan-event.ensures ∙ ap (λ k. event_of_scan k c.in-Some.ask c.perform_scan-answer.result) c.kind-kind.ensures;
-  reply_is = ap (λ o. reply_or o (reply_of (after c.args.scanning.scanner c.perform_scan-answer.result))) (sym c.in-Some-unheard.is ∙ c.unheard.ensures);
+  reply_is = ap (λ o. reply_or o (reply_of (after c.args.scanning.scanner c.perform_scan-answer.result))) (sym c.in-Some-list_refusal.is ∙ c.list_refusal.ensures);
   work_is = refl;
   shard = c.perform_scan-answer.ensures.shard;
 }
@@ -37,7 +37,7 @@ returns-in-Some-reply-clause-goes g c =
       performs = c.perform_scan-answer.ensures.performs;
       event_is = c.event_of_scan-event.ensures ∙ ap (λ k. event_of_scan k c.in-Some.ask a) c.kind-kind.ensures;
       reply_is = ap (λ y. Some y) c.outcome_of.ensures.told ∙ sym c.in-Some-reply.is ∙ c.reply.ensures ∙ ap reply_of is_after
-          ∙ ap (λ o. reply_or o (reply_of (after c.args.scanning.scanner a))) (sym c.in_default.is ∙ c.unheard.ensures);
+          ∙ ap (λ o. reply_or o (reply_of (after c.args.scanning.scanner a))) (sym c.in_default.is ∙ c.list_refusal.ensures);
       work_is = refl;
       shard = c.perform_scan-answer.ensures.shard;
     }
@@ -53,7 +53,7 @@ returns-in-Some-reply-clause-walked g c =
     given_is g.K.PartialEq.eq (record { op = g.A.Answers.op_gives; yes = g.A.Answers.yes_gives })
     (hash_of g.K.Hash.hash_input g.S.BuildHasher.build_hasher g.S.Hasher.Hasher.write g.S.Hasher.Hasher.finish) c.args.refuse c.args.store.now
     c.args.scanning a c.perform_scan-answer.new.store later c.in-Some.ask c.perform_scan-answer.ensures.performs
-    (sym (sym c.in_default.is ∙ c.unheard.ensures))
+    (sym (sym c.in_default.is ∙ c.list_refusal.ensures))
     ∙ ap (λ o. c.args.scanning.given ++ given_by o) (sym asked) in
     subst (λ l. ListsGiven c.args.scanning.scanner.scan l c.outcome_of.result) given
     (subst (λ scan. ListsGiven scan later.given c.outcome_of.result) (ap (λ m. m.scan) is_after) c.outcome_of.ensures.listed)
@@ -71,7 +71,7 @@ returns-in-None-reply-clause-goes g c =
       performs = c.perform_scan-answer.ensures.performs;
       event_is = c.event_of_scan-event.ensures ∙ ap (λ k. event_of_scan k c.in-Some.ask a) c.kind-kind.ensures;
       reply_is = sym c.in-None-reply.is ∙ c.reply.ensures ∙ ap reply_of is_after
-          ∙ ap (λ o. reply_or o (reply_of (after c.args.scanning.scanner a))) (sym c.in_default.is ∙ c.unheard.ensures);
+          ∙ ap (λ o. reply_or o (reply_of (after c.args.scanning.scanner a))) (sym c.in_default.is ∙ c.list_refusal.ensures);
       work_is = ap (λ m. Some (works.Scan (record c.perform_scan-answer.new.scanning { scanner = m }))) is_after;
       shard = c.perform_scan-answer.ensures.shard;
     }
@@ -81,15 +81,15 @@ pub answer-requires-clause-fit : goal.answer-requires-clause-fit
 answer-requires-clause-fit g c =
     let mode : Mode = record { resize = c.args.scanning.scanner.mode; limit = None } in
     let core : IsCore {A = g.row.A.Denot} c.args.store.now [] mode = record {
-      chunked = c.requires.standing.chunked;
+      chunked = c.requires.valid.chunked;
       limit = tt;
       sizes = c.requires.sizes;
-      standing = λ caller r e. let none : None ≡ Some r = e in absurd cc;
+      valid = λ caller r e. let none : None ≡ Some r = e in absurd cc;
       going = λ caller r e. let none : None ≡ Some r = e in absurd cc;
       resizers = λ caller z e. let none : None ≡ Some z = e in absurd cc;
       scanners = λ caller v e. let none : None ≡ Some v = e in absurd cc;
     } in
     (scan_core g.K.PartialEq.eq (record { op = g.A.Answers.op_gives; yes = g.A.Answers.yes_gives })
     (hash_of g.K.Hash.hash_input g.S.BuildHasher.build_hasher g.S.Hasher.Hasher.write g.S.Hasher.Hasher.finish) c.args.refuse c.args.store.now [] mode core
-    c.args.scanning c.requires.standing c.perform_scan-answer.result c.perform_scan-answer.new.store c.perform_scan-answer.new.scanning c.in-Some.ask
+    c.args.scanning c.requires.valid c.perform_scan-answer.result c.perform_scan-answer.new.store c.perform_scan-answer.new.scanning c.in-Some.ask
     (sym c.ask.ensures ∙ c.in-Some.is) c.perform_scan-answer.ensures.performs).1

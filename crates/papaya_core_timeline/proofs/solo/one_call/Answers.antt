@@ -5,8 +5,8 @@ pub returns-clause-answers : goal.returns-clause-answers
 returns-clause-answers g c s s' call reply lawful alone = alone_answered g.K.PartialEq.eq g.K.Hash.hash_input g.S.BuildHasher.build_hasher
     g.S.Hasher.Hasher.write g.S.Hasher.Hasher.finish g.met.K.Eq.laws g.met.K.Hash.respects_eq s s' call reply lawful alone
 
-pub returns-clause-logs : goal.returns-clause-logs
-returns-clause-logs g c s s' call reply lawful alone = alone_logged g.K.PartialEq.eq g.K.Hash.hash_input g.S.BuildHasher.build_hasher
+pub returns-clause-stores : goal.returns-clause-stores
+returns-clause-stores g c s s' call reply lawful alone = alone_logged g.K.PartialEq.eq g.K.Hash.hash_input g.S.BuildHasher.build_hasher
     g.S.Hasher.Hasher.write g.S.Hasher.Hasher.finish g.met.K.Eq.laws g.met.K.Hash.respects_eq s s' call reply lawful alone
 
 pub returns-clause-lawful : goal.returns-clause-lawful

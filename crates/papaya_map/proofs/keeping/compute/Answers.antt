@@ -1,5 +1,5 @@
 use Rattle.std.proofs.Common.{refl}
-use Rattle.papaya_map_change.specs.Showings.{Operates}
+use Rattle.papaya_map_change.specs.ClosureCalls.{Operates}
 use Rattle.papaya_map_lookup.proofs.Histories.{history_since}
 use Rattle.papaya_map_compute.specs.ComputeAnswers.{changes}
 use Rattle.papaya_map_compute.proofs.ComputeReplies.{computed_since}

@@ -1,5 +1,5 @@
 use Rattle.std.proofs.Common.{◌∙◌}
-use Rattle.papaya_map_change.specs.Showings.{Operates}
+use Rattle.papaya_map_change.specs.ClosureCalls.{Operates}
 use Rattle.papaya_map_compute.proofs.Running.{answered_so, begins, can_reply, ends, goes_on, has_replied, heard_so, replied_by, shown_at, takes, tells}
 use Rattle.papaya_map.proofs.keeping.compute_slow.Goals as goal
 
@@ -26,22 +26,22 @@ loop-preserved-in-Answered g c =
       c.loop.invariant.1,
     )
 
-pub advance-requires-in-Shows-clause-can : goal.advance-requires-in-Shows-clause-can
-advance-requires-in-Shows-clause-can g c =
+pub advance-requires-in-CallsClosure-clause-can : goal.advance-requires-in-CallsClosure-clause-can
+advance-requires-in-CallsClosure-clause-can g c =
     let a = c.args in let says = Operates g.F.FnMut in let r = c.loop.invariant.0 in let way = c.requires.can in let t = c.turn.new in
-    let done = c.operate-operation in let heard = c.hear-answer in
-    let on = heard_so says _ a.window.now a.f.now a.start way _ _ c.loop.f r t.window t.self c.in-Shows.shown c.in-Shows.ensures.turned done.result
+    let done = c.operate-operation in let heard = c.record_result-answer in
+    let on = heard_so says _ a.window.now a.f.now a.start way _ _ c.loop.f r t.window t.self c.in-CallsClosure.shown c.in-CallsClosure.ensures.turned done.result
     done.new.f done.ensures.operates heard.new.self heard.result heard.ensures.hears in
     takes says _ a.window.now a.f.now a.start way _ _ c.loop.f r t.window heard.new.self done.new.f heard.result on
 
 pub loop-preserved : goal.loop-preserved
 loop-preserved g c =
     let a = c.args in let says = Operates g.F.FnMut in let r = c.loop.invariant.0 in let way = c.requires.can in let t = c.turn.new in
-    let done = c.operate-operation in let heard = c.hear-answer in let turned = c.in-Shows.ensures.turned in
-    let on = heard_so says _ a.window.now a.f.now a.start way _ _ c.loop.f r t.window t.self c.in-Shows.shown turned done.result
+    let done = c.operate-operation in let heard = c.record_result-answer in let turned = c.in-CallsClosure.ensures.turned in
+    let on = heard_so says _ a.window.now a.f.now a.start way _ _ c.loop.f r t.window t.self c.in-CallsClosure.shown turned done.result
     done.new.f done.ensures.operates heard.new.self heard.result heard.ensures.hears in (
       goes_on says _ a.window.now a.f.now a.start way _ _ c.loop.f r t.window heard.new.self done.new.f heard.result on turned.sees
-          (heard.ensures.machine ∙ turned.machine) (shown_at _ _ _ _ _ turned heard.result (heard.ensures.hears t.window).0) _ _ c.advance-in-Shows.ensures.told,
+          (heard.ensures.machine ∙ turned.machine) (shown_at _ _ _ _ _ turned heard.result (heard.ensures.hears t.window).0) _ _ c.advance-in-CallsClosure.ensures.told,
       done.ensures.callable,
     )
 

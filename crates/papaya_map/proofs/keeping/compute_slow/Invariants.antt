@@ -1,5 +1,5 @@
 use denote.Param.Always.{always_mut}
-use Rattle.papaya_map_change.specs.Showings.{Operates}
+use Rattle.papaya_map_change.specs.ClosureCalls.{Operates}
 use Rattle.papaya_map_compute.proofs.Running.{IsRunning}
 use Rattle.papaya_map.proofs.keeping.compute_slow.Given as goal
 

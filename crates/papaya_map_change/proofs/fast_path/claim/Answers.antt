@@ -8,7 +8,7 @@ use Rattle.papaya_map_book.specs.Calls.{IsSlotTried}
 use Rattle.papaya_map_book.specs.Hashes.{hash_of}
 use Rattle.papaya_map_book.specs.Parts.{begun_of}
 use Rattle.papaya_map_book.specs.Logs.{Stored}
-use Rattle.papaya_map_book.specs.Windows.{Does, IsLoggedAs}
+use Rattle.papaya_map_book.specs.Windows.{Does, IsStoredAs}
 use Rattle.papaya_call_law.proofs.NewWords.{pair_of-live_word}
 use Rattle.papaya_map_book.proofs.Loaded.{table_since}
 use Rattle.papaya_map_lookup.specs.Drivers.{past}
@@ -144,9 +144,9 @@ returns-clause-tried g c = record {
       put.result.1 tried is).changed does;
   logged = λ pair e.
       let one : c.in-Ok.pair ≡ pair = cc e in
-      let it : IsLoggedAs c.put_slot-found.new.self c.args.key c.args.value c.in-Ok.pair =
+      let it : IsStoredAs c.put_slot-found.new.self c.args.key c.args.value c.in-Ok.pair =
       rw c.put_slot-found.ensures.sees.book c.in-Ok.ensures.ok in
-      subst (λ (z : Stored _ _). IsLoggedAs c.put_slot-found.new.self c.args.key c.args.value z) one it;
+      subst (λ (z : Stored _ _). IsStoredAs c.put_slot-found.new.self c.args.key c.args.value z) one it;
 }
 
 pub returns-then-found-ne0-clause-tried : goal.returns-then-found-ne0-clause-tried
@@ -163,9 +163,9 @@ returns-then-found-ne0-clause-tried g c = record {
       makes_none c.args.window.now put.new.self (subst (λ (z : Bool). Does z c.args.window.now put.new.self) is put.ensures.does);
   logged = λ pair e.
       let one : c.in-Ok.pair ≡ pair = cc e in
-      let it : IsLoggedAs c.put_slot-found.new.self c.args.key c.args.value c.in-Ok.pair =
+      let it : IsStoredAs c.put_slot-found.new.self c.args.key c.args.value c.in-Ok.pair =
       rw c.put_slot-found.ensures.sees.book c.in-Ok.ensures.ok in
-      subst (λ (z : Stored _ _). IsLoggedAs c.put_slot-found.new.self c.args.key c.args.value z) one it;
+      subst (λ (z : Stored _ _). IsStoredAs c.put_slot-found.new.self c.args.key c.args.value z) one it;
 }
 
 pub returns-in-Err-clause-tried : goal.returns-in-Err-clause-tried

@@ -12,8 +12,8 @@ if_ok : {A E : Type 0} (P Q : A → Type 0) (r : Result A E) → IfOk r P → ((
 if_ok P Q (Ok a) p f = f a p
 if_ok P Q (Err e) p f = tt
 
-pub insert_logged-requires-clause-hashed : goal.insert_logged-requires-clause-hashed
-insert_logged-requires-clause-hashed g c =
+pub insert_stored-requires-clause-hashed : goal.insert_stored-requires-clause-hashed
+insert_stored-requires-clause-hashed g c =
     let l = c.claim.ensures.tried.logged c.in-Lost.pair (ap pair_in c.in-Lost.is) in
     let hash = (hash_of g.K.Hash.hash_input g.S.BuildHasher.build_hasher g.S.Hasher.Hasher.write g.S.Hasher.Hasher.finish) in
     rw c.claim.ensures.tried.sees.book (c.requires.hashed ∙ ap (hash c.args.window.now.book.now.parts.hasher) (sym l.key_is))
@@ -29,10 +29,10 @@ pub returns-in-Lost-clause-put : goal.returns-in-Lost-clause-put
 returns-in-Lost-clause-put g c =
     let l = c.claim.ensures.tried.logged c.in-Lost.pair (ap pair_in c.in-Lost.is) in
     let log = c.args.window.now.sight.log in let mid = c.claim.new.window.sight.log in
-    if_ok _ _ c.insert_logged.result c.insert_logged.ensures.put (λ a h begun state led r.
-    put_since g.K.PartialEq.eq c.args.key c.args.value begun mid c.insert_logged.new.window.sight.log a
+    if_ok _ _ c.insert_stored.result c.insert_stored.ensures.put (λ a h begun state led r.
+    put_since g.K.PartialEq.eq c.args.key c.args.value begun mid c.insert_stored.new.window.sight.log a
     (prefix_trans begun log mid r.4.seen c.claim.ensures.tried.sees.log)
-    (subst (λ (z : _ × _). IsPut g.K.PartialEq.eq z.0 z.1 (past c.claim.new.window) (past c.insert_logged.new.window) a) (λ i. (l.key_is i, l.value_is i)) h))
+    (subst (λ (z : _ × _). IsPut g.K.PartialEq.eq z.0 z.1 (past c.claim.new.window) (past c.insert_stored.new.window) a) (λ i. (l.key_is i, l.value_is i)) h))
 
 pub returns-clause-put : goal.returns-clause-put
 returns-clause-put g c =

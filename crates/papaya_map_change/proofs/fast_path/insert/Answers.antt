@@ -5,7 +5,7 @@ use Rattle.papaya_map_book.proofs.Logs.{prefix_trans}
 use Rattle.papaya_map_lookup.specs.declared.lookup.Met.{Met}
 use Rattle.papaya_map_change.specs.declared.fast_path.ProbeHit.{ProbeHit}
 use Rattle.papaya_map_change.specs.declared.fast_path.ProbeHit.TheVariants.{Met as MetPair}
-use Rattle.papaya_map_change.specs.Seeking.{Inserts, led_to, met_by}
+use Rattle.papaya_map_change.specs.Seeking.{Inserts, next_state, met_by}
 use Rattle.papaya_map_change.specs.Window.Seeking.{HasWritten, IsInsertingAt}
 use Rattle.papaya_map_change.proofs.InsertingReplies.{put_since}
 use Rattle.papaya_map_change.proofs.fast_path.insert.Goals as goal
@@ -39,7 +39,7 @@ pub claim_at-requires-clause-stands : goal.claim_at-requires-clause-stands
 claim_at-requires-clause-stands g c =
     let log = c.learn.new.self.sight.log in
     let to = Writing (record { place = c.in-Empty.at; old = 0 }) in
-    let there = subst (λ (z : ProbeHit (Met _ _)). led_to z ≡ Some to
+    let there = subst (λ (z : ProbeHit (Met _ _)). next_state z ≡ Some to
     → IsInsertingAt c.find_place.new.window c.args.key log to (met_by z) c.in-Some.spot.table.now) c.in-Empty.is
     (c.find_place.ensures.found c.in-Some.spot c.in-Some.is Inserts to) refl in
     (to, refl, (log, there))
@@ -48,7 +48,7 @@ pub returns-in-Empty-clause-put : goal.returns-in-Empty-clause-put
 returns-in-Empty-clause-put g c =
     let log = c.learn.new.self.sight.log in
     let to = Writing (record { place = c.in-Empty.at; old = 0 }) in
-    let there = subst (λ (z : ProbeHit (Met _ _)). led_to z ≡ Some to
+    let there = subst (λ (z : ProbeHit (Met _ _)). next_state z ≡ Some to
     → IsInsertingAt c.find_place.new.window c.args.key log to (met_by z) c.in-Some.spot.table.now) c.in-Empty.is
     (c.find_place.ensures.found c.in-Some.spot c.in-Some.is Inserts to) refl in
     if_ok _ _ c.claim_at.result c.claim_at.ensures.put
@@ -59,7 +59,7 @@ pub replace_at-requires-clause-stands : goal.replace_at-requires-clause-stands
 replace_at-requires-clause-stands g c =
     let log = c.learn.new.self.sight.log in
     let to = Writing (record { place = c.in-Met.live.place; old = c.in-Met.live.word }) in
-    let there = subst (λ (z : ProbeHit (Met _ _)). led_to z ≡ Some to
+    let there = subst (λ (z : ProbeHit (Met _ _)). next_state z ≡ Some to
     → IsInsertingAt c.find_place.new.window c.args.key log to (met_by z) c.in-Some.spot.table.now) c.in-Met.is
     (c.find_place.ensures.found c.in-Some.spot c.in-Some.is Inserts to) refl in
     rw c.in-Met.live-is (to, refl, (log, there))
@@ -68,7 +68,7 @@ pub returns-in-Met-clause-put : goal.returns-in-Met-clause-put
 returns-in-Met-clause-put g c =
     let log = c.learn.new.self.sight.log in
     let to = Writing (record { place = c.in-Met.live.place; old = c.in-Met.live.word }) in
-    let there = subst (λ (z : ProbeHit (Met _ _)). led_to z ≡ Some to
+    let there = subst (λ (z : ProbeHit (Met _ _)). next_state z ≡ Some to
     → IsInsertingAt c.find_place.new.window c.args.key log to (met_by z) c.in-Some.spot.table.now) c.in-Met.is
     (c.find_place.ensures.found c.in-Some.spot c.in-Some.is Inserts to) refl in
     if_ok _ _ c.replace_at.result c.replace_at.ensures.put
@@ -81,7 +81,7 @@ pub insert_onward-requires-clause-stands : goal.insert_onward-requires-clause-st
 insert_onward-requires-clause-stands g c =
     let log = c.learn.new.self.sight.log in
     let to = Growing (Room c.in-Over.number) in
-    let there = subst (λ (z : ProbeHit (Met _ _)). led_to z ≡ Some to
+    let there = subst (λ (z : ProbeHit (Met _ _)). next_state z ≡ Some to
     → IsInsertingAt c.find_place.new.window c.args.key log to (met_by z) c.in-Some.spot.table.now) c.in-Over.is
     (c.find_place.ensures.found c.in-Some.spot c.in-Some.is Inserts to) refl in
     (to, refl, (log, there))
@@ -90,7 +90,7 @@ pub returns-in-Over-clause-put : goal.returns-in-Over-clause-put
 returns-in-Over-clause-put g c =
     let log = c.learn.new.self.sight.log in
     let to = Growing (Room c.in-Over.number) in
-    let there = subst (λ (z : ProbeHit (Met _ _)). led_to z ≡ Some to
+    let there = subst (λ (z : ProbeHit (Met _ _)). next_state z ≡ Some to
     → IsInsertingAt c.find_place.new.window c.args.key log to (met_by z) c.in-Some.spot.table.now) c.in-Over.is
     (c.find_place.ensures.found c.in-Some.spot c.in-Some.is Inserts to) refl in
     if_ok _ _ c.insert_onward.result c.insert_onward.ensures.put

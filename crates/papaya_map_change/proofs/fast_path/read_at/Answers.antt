@@ -7,7 +7,7 @@ use Rattle.papaya_call.specs.Search.{at_yes, look}
 use Rattle.papaya_call.specs.declared.machine.State.{State}
 use Rattle.papaya_map_book.specs.Hashes.{hash_of}
 use Rattle.papaya_map_book.specs.Parts.{begun_of}
-use Rattle.papaya_map_change.specs.Seeking.{Inserts, IsSeekingAt, at_live, turn_of}
+use Rattle.papaya_map_change.specs.Seeking.{Inserts, IsSeekingAt, at_live, hit_of}
 use Rattle.papaya_map_change.proofs.Seeking.{looked, matched, met_live, pair_there, place_there, turned}
 use Rattle.papaya_map_change.proofs.fast_path.read_at.Goals as goal
 use Rattle.papaya_map_change.proofs.fast_path.read_at.Goals.{in-On-Comparing+in-Some-false, in_default}
@@ -52,8 +52,8 @@ returns-clause-turns g c =
           let looks : look c.args.at s.result.0 ≡ On (Comparing v.in-On-Comparing.field-0-0 v.in-On-Comparing.field-0-1) = search rules in
           let met : v.has_key.result ≡ Some false = search rules in
           let same = v.has_key.ensures false met ∙ ap (λ z. g.K.PartialEq.eq c.args.key.now z.key.value) v.pair-pair.ensures in
-          let to : c.without.result ≡ turn_of (at_yes (Comparing c.args.at s.result.0) false) = c.without.ensures
-          ∙ ap (λ z. turn_of z) (v.seen-is ∙ v.at_yes-seen.ensures.value) in
+          let to : c.without.result ≡ hit_of (at_yes (Comparing c.args.at s.result.0) false) = c.without.ensures
+          ∙ ap (λ z. hit_of z) (v.seen-is ∙ v.at_yes-seen.ensures.value) in
           rw (s.ensures.sees.book, to) (λ who begun state e r.
           turned g.K.PartialEq.eq g.K.Hash.hash_input g.S.BuildHasher.build_hasher g.S.Hasher.Hasher.write g.S.Hasher.Hasher.finish g.met.K.Eq.laws
           g.met.K.Hash.respects_eq (begun_of w.parts) w.begun.book c.args.key.now begun who s.new.self.sight.log
@@ -63,8 +63,8 @@ returns-clause-turns g c =
           s.ensures.sees.log c.args.at c.args.table.now r s.result.0 s.result.1.state s.ensures.slot
           v.in-On-Comparing.field-0-0 v.in-On-Comparing.field-0-1 looks v.named_pair-stored.result v.named_pair-stored.ensures false same) state e)
       | in_default v ↦
-          let to : c.without.result ≡ turn_of (look c.args.at s.result.0) = c.without.ensures
-          ∙ ap (λ z. turn_of z) (v.seen-is ∙ c.look-seen.ensures.value) in
+          let to : c.without.result ≡ hit_of (look c.args.at s.result.0) = c.without.ensures
+          ∙ ap (λ z. hit_of z) (v.seen-is ∙ c.look-seen.ensures.value) in
           rw (s.ensures.sees.book, to) (λ who begun state e r.
           turned g.K.PartialEq.eq g.K.Hash.hash_input g.S.BuildHasher.build_hasher g.S.Hasher.Hasher.write g.S.Hasher.Hasher.finish g.met.K.Eq.laws
           g.met.K.Hash.respects_eq (begun_of w.parts) w.begun.book c.args.key.now begun who s.new.self.sight.log (look c.args.at s.result.0) c.args.table.now

@@ -9,13 +9,13 @@ use Rattle.papaya_map_book.specs.Hashes.{hash_of}
 use Rattle.papaya_map_book.specs.Parts.{begun_of}
 use Rattle.papaya_map_book.specs.Logs.{Stored, pair_named}
 use Rattle.papaya_map_book.specs.Rule.{IsPlaced}
-use Rattle.papaya_map_book.specs.Windows.{Does, IsLoggedAs}
+use Rattle.papaya_map_book.specs.Windows.{Does, IsStoredAs}
 use Rattle.papaya_call_law.proofs.NewWords.{pair_of-live_word}
 use Rattle.papaya_map_lookup.specs.Drivers.{past}
 use Rattle.papaya_map_lookup.specs.History.{history_of, key_of}
 use Rattle.papaya_map_change.specs.Changes.{IsChangeOf}
 use Rattle.papaya_map_change.specs.Seeking.{IsInsertingAt}
-use Rattle.papaya_map_change.specs.Window.Seeking.{StandsBy}
+use Rattle.papaya_map_change.specs.Window.Seeking.{IsStateAfter}
 use Rattle.papaya_map_change.specs.declared.fast_path.ProbeHit.TheVariants.{Met as MetPair}
 use Rattle.papaya_map_lookup.specs.declared.lookup.Met.{Met}
 use Rattle.papaya_map_change.proofs.Doing.{idles, makes}
@@ -30,7 +30,7 @@ put_slot-found-requires-clause-place g c =
     let key_is : key_of q ≡ key_of p = c.in-Ok.ensures.ok.key_is in
     let hash = (hash_of g.K.Hash.hash_input g.S.BuildHasher.build_hasher g.S.Hasher.Hasher.write g.S.Hasher.Hasher.finish) in
     let full = live_full met.word c.live.invariant.0 in
-    let st = subst (λ (z : Met _ _). StandsBy c.args.window.now key c.args.table.now (MetPair z)) (sym c.live.view_is) c.requires.stands.1 in let led : Some (Writing (record { place = met.place; old = met.word })) ≡ Some st.0 = st.1 in
+    let st = subst (λ (z : Met _ _). IsStateAfter c.args.window.now key c.args.table.now (MetPair z)) (sym c.live.view_is) c.requires.stands.1 in let led : Some (Writing (record { place = met.place; old = met.word })) ≡ Some st.0 = st.1 in
     let to : Writing (record { place = met.place; old = met.word }) ≡ st.0 = cc led in
     let r = subst (λ (z : State). IsInsertingAt g.K.PartialEq.eq hash b w.begun.book key st.2.0 log z (Some p) c.args.table.now) (sym to) st.2.1 in
     (slot_there g.K.PartialEq.eq g.K.Hash.hash_input g.S.BuildHasher.build_hasher g.S.Hasher.Hasher.write g.S.Hasher.Hasher.finish g.met.K.Eq.laws
@@ -44,7 +44,7 @@ put_slot-found-requires-clause-can g c =
     let hash = (hash_of g.K.Hash.hash_input g.S.BuildHasher.build_hasher g.S.Hasher.Hasher.write g.S.Hasher.Hasher.finish) in
     let full = live_full met.word c.live.invariant.0 in
     let word : c.live-2.result.0 ≡ live_word q.index = c.live-2.ensures ∙ ap live_word c.index.ensures in
-    let st = subst (λ (z : Met _ _). StandsBy c.args.window.now key c.args.table.now (MetPair z)) (sym c.live.view_is) c.requires.stands.1 in let led : Some (Writing (record { place = met.place; old = met.word })) ≡ Some st.0 = st.1 in
+    let st = subst (λ (z : Met _ _). IsStateAfter c.args.window.now key c.args.table.now (MetPair z)) (sym c.live.view_is) c.requires.stands.1 in let led : Some (Writing (record { place = met.place; old = met.word })) ≡ Some st.0 = st.1 in
     let to : Writing (record { place = met.place; old = met.word }) ≡ st.0 = cc led in
     let r = subst (λ (z : State). IsInsertingAt g.K.PartialEq.eq hash b w.begun.book key st.2.0 log z (Some p) c.args.table.now) (sym to) st.2.1 in
     rw word (put_can g.K.PartialEq.eq g.K.Hash.hash_input g.S.BuildHasher.build_hasher g.S.Hasher.Hasher.write g.S.Hasher.Hasher.finish
@@ -59,7 +59,7 @@ agrees-requires g c =
     let hash = (hash_of g.K.Hash.hash_input g.S.BuildHasher.build_hasher g.S.Hasher.Hasher.write g.S.Hasher.Hasher.finish) in
     let full = live_full met.word c.live.invariant.0 in
     let word : c.live-2.result.0 ≡ live_word q.index = c.live-2.ensures ∙ ap live_word c.index.ensures in
-    let st = subst (λ (z : Met _ _). StandsBy c.args.window.now key c.args.table.now (MetPair z)) (sym c.live.view_is) c.requires.stands.1 in let led : Some (Writing (record { place = met.place; old = met.word })) ≡ Some st.0 = st.1 in
+    let st = subst (λ (z : Met _ _). IsStateAfter c.args.window.now key c.args.table.now (MetPair z)) (sym c.live.view_is) c.requires.stands.1 in let led : Some (Writing (record { place = met.place; old = met.word })) ≡ Some st.0 = st.1 in
     let to : Writing (record { place = met.place; old = met.word }) ≡ st.0 = cc led in
     let r = subst (λ (z : State). IsInsertingAt g.K.PartialEq.eq hash b w.begun.book key st.2.0 log z (Some p) c.args.table.now) (sym to) st.2.1 in
     let put = c.put_slot-found in let mid = put.new.self.sight.log in
@@ -118,7 +118,7 @@ returns-clause-tried g c = rw (sym c.live.view_is) (record {
       let hash = (hash_of g.K.Hash.hash_input g.S.BuildHasher.build_hasher g.S.Hasher.Hasher.write g.S.Hasher.Hasher.finish) in
       let full = live_full met.word c.live.invariant.0 in
       let word : c.live-2.result.0 ≡ live_word q.index = c.live-2.ensures ∙ ap live_word c.index.ensures in
-      let st = subst (λ (z : Met _ _). StandsBy c.args.window.now key c.args.table.now (MetPair z)) (sym c.live.view_is) c.requires.stands.1 in let led : Some (Writing (record { place = met.place; old = met.word })) ≡ Some st.0 = st.1 in
+      let st = subst (λ (z : Met _ _). IsStateAfter c.args.window.now key c.args.table.now (MetPair z)) (sym c.live.view_is) c.requires.stands.1 in let led : Some (Writing (record { place = met.place; old = met.word })) ≡ Some st.0 = st.1 in
       let to : Writing (record { place = met.place; old = met.word }) ≡ st.0 = cc led in
       let r = subst (λ (z : State). IsInsertingAt g.K.PartialEq.eq hash b w.begun.book key st.2.0 log z (Some p) c.args.table.now) (sym to) st.2.1 in
       let put = c.put_slot-found in let mid = put.new.self.sight.log in
@@ -135,9 +135,9 @@ returns-clause-tried g c = rw (sym c.live.view_is) (record {
       c.in-Ok.ensures.ok.placed mid put.result.0 put.result.1 tried is).changed does;
   logged = λ pair e.
       let one : c.in-Ok.pair ≡ pair = cc e in
-      let it : IsLoggedAs c.put_slot-found.new.self (key_of c.live.inside.met.stored) c.args.value c.in-Ok.pair =
+      let it : IsStoredAs c.put_slot-found.new.self (key_of c.live.inside.met.stored) c.args.value c.in-Ok.pair =
       rw c.put_slot-found.ensures.sees.book c.in-Ok.ensures.ok in
-      subst (λ (z : Stored _ _). IsLoggedAs c.put_slot-found.new.self (key_of c.live.inside.met.stored) c.args.value z) one it;
+      subst (λ (z : Stored _ _). IsStoredAs c.put_slot-found.new.self (key_of c.live.inside.met.stored) c.args.value z) one it;
 })
 
 pub returns-then-found-word-clause-tried : goal.returns-then-found-word-clause-tried
@@ -154,9 +154,9 @@ returns-then-found-word-clause-tried g c = rw (sym c.live.view_is) (record {
       makes_none c.args.window.now put.new.self (subst (λ (z : Bool). Does z c.args.window.now put.new.self) is put.ensures.does);
   logged = λ pair e.
       let one : c.in-Ok.pair ≡ pair = cc e in
-      let it : IsLoggedAs c.put_slot-found.new.self (key_of c.live.inside.met.stored) c.args.value c.in-Ok.pair =
+      let it : IsStoredAs c.put_slot-found.new.self (key_of c.live.inside.met.stored) c.args.value c.in-Ok.pair =
       rw c.put_slot-found.ensures.sees.book c.in-Ok.ensures.ok in
-      subst (λ (z : Stored _ _). IsLoggedAs c.put_slot-found.new.self (key_of c.live.inside.met.stored) c.args.value z) one it;
+      subst (λ (z : Stored _ _). IsStoredAs c.put_slot-found.new.self (key_of c.live.inside.met.stored) c.args.value z) one it;
 })
 
 pub returns-in-Err-clause-tried : goal.returns-in-Err-clause-tried

@@ -9,7 +9,7 @@ use Rattle.papaya_map_lookup.specs.History.{key_of}
 use Rattle.papaya_map_lookup.proofs.KeptKeys.{key_at_stays}
 use Rattle.papaya_map_change.specs.Changes.{IsPut}
 use Rattle.papaya_map_change.specs.Seeking.{IsInsertingAt}
-use Rattle.papaya_map_change.specs.Window.Seeking.{StandsBy}
+use Rattle.papaya_map_change.specs.Window.Seeking.{IsStateAfter}
 use Rattle.papaya_map_change.specs.declared.fast_path.ProbeHit.TheVariants.{Met as MetPair}
 use Rattle.papaya_map_lookup.specs.declared.lookup.Met.{Met}
 use Rattle.papaya_map_change.specs.Tries.{pair_in}
@@ -32,7 +32,7 @@ insert_met-requires-clause-met g c =
     let met = c.live.inside.met in let p = met.stored in
     let hash = (hash_of g.K.Hash.hash_input g.S.BuildHasher.build_hasher g.S.Hasher.Hasher.write g.S.Hasher.Hasher.finish) in
     let full = live_full met.word c.live.invariant.0 in
-    let st = subst (λ (z : Met _ _). StandsBy c.args.window.now key c.args.table.now (MetPair z)) (sym c.live.view_is) c.requires.stands in let led : Some (Writing (record { place = met.place; old = met.word })) ≡ Some st.0 = st.1 in
+    let st = subst (λ (z : Met _ _). IsStateAfter c.args.window.now key c.args.table.now (MetPair z)) (sym c.live.view_is) c.requires.stands in let led : Some (Writing (record { place = met.place; old = met.word })) ≡ Some st.0 = st.1 in
     let to : Writing (record { place = met.place; old = met.word }) ≡ st.0 = cc led in
     let r = subst (λ (z : State). IsInsertingAt g.K.PartialEq.eq hash b w.begun.book key st.2.0 log z (Some p) c.args.table.now) (sym to) st.2.1 in
     let there = met_key_there g.K.PartialEq.eq g.K.Hash.hash_input g.S.BuildHasher.build_hasher g.S.Hasher.Hasher.write g.S.Hasher.Hasher.finish
@@ -51,7 +51,7 @@ insert_met-requires-clause-same g c =
     let met = c.live.inside.met in let p = met.stored in
     let hash = (hash_of g.K.Hash.hash_input g.S.BuildHasher.build_hasher g.S.Hasher.Hasher.write g.S.Hasher.Hasher.finish) in
     let full = live_full met.word c.live.invariant.0 in
-    let st = subst (λ (z : Met _ _). StandsBy c.args.window.now key c.args.table.now (MetPair z)) (sym c.live.view_is) c.requires.stands in let led : Some (Writing (record { place = met.place; old = met.word })) ≡ Some st.0 = st.1 in
+    let st = subst (λ (z : Met _ _). IsStateAfter c.args.window.now key c.args.table.now (MetPair z)) (sym c.live.view_is) c.requires.stands in let led : Some (Writing (record { place = met.place; old = met.word })) ≡ Some st.0 = st.1 in
     let to : Writing (record { place = met.place; old = met.word }) ≡ st.0 = cc led in
     let r = subst (λ (z : State). IsInsertingAt g.K.PartialEq.eq hash b w.begun.book key st.2.0 log z (Some p) c.args.table.now) (sym to) st.2.1 in
     let l = c.replace.ensures.tried.logged c.in-Lost.pair (ap pair_in c.in-Lost.is) in

@@ -8,11 +8,11 @@ use Rattle.papaya_map_lookup.specs.Drivers.{past}
 use Rattle.papaya_map_lookup.specs.History.{history_of}
 use Rattle.papaya_map_lookup.proofs.Histories.{history_since}
 use Rattle.papaya_map_lookup.proofs.Readings.{IsQuery}
-use Rattle.papaya_map_change.specs.Showings.{Judges}
+use Rattle.papaya_map_change.specs.ClosureCalls.{Judges}
 use Rattle.papaya_map_change.proofs.Doing.{makes}
 use Rattle.papaya_map_change.proofs.RemovingHits.{ended, hit_can, hit_changed, hit_held, hit_was, hit_went, one_shown, stays}
 use Rattle.papaya_map_change.proofs.RemovingReplies.{removal_since}
-use Rattle.papaya_map_change.proofs.Showings.{held_wider}
+use Rattle.papaya_map_change.proofs.ClosureCalls.{held_wider}
 use Rattle.papaya_map_book.proofs.Windows.{observed, sees_trans}
 use Rattle.papaya_map_change.proofs.fast_removal.remove_fast.Goals as goal
 

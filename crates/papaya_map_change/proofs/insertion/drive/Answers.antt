@@ -23,7 +23,7 @@ use Rattle.papaya_map_change.proofs.Doing.{does_on, does_still, idles, makes}
 use Rattle.papaya_map_change.proofs.Changing.{form}
 use Rattle.papaya_map_change.proofs.Helped.{helped_does, helped_keeps}
 use Rattle.papaya_map_change.proofs.InsertingHelped.{inserting_helped}
-use Rattle.papaya_map_change.proofs.LookingOn.{inserting_looked, looked_calling, looked_does, looked_initial}
+use Rattle.papaya_map_change.proofs.ProbingOn.{inserting_looked, looked_calling, looked_does, looked_initial}
 use Rattle.papaya_map_change.proofs.StepsOfOwn.{own_settings}
 use Rattle.papaya_map_change.proofs.Written.{own_query}
 use Rattle.papaya_map_book.proofs.Windows.{sees_trans}
@@ -36,7 +36,7 @@ if_ok P Q (Err e) p f = tt
 pub loop-init : goal.loop-init
 loop-init g c = (
   λ key value begun r. r,
-  c.requires.standing,
+  c.requires.valid,
   c.requires.calling,
   refl,
   record { book = refl; log = ([], append-nil _) },
@@ -96,8 +96,8 @@ help-requires-clause-can g c =
       on,
     )
 
-pub look_on-requires-clause-can : goal.look_on-requires-clause-can
-look_on-requires-clause-can g c =
+pub probe_on-requires-clause-can : goal.probe_on-requires-clause-can
+probe_on-requires-clause-can g c =
     let hash = (hash_of g.K.Hash.hash_input g.S.BuildHasher.build_hasher g.S.Hasher.Hasher.write g.S.Hasher.Hasher.finish) in
     let w = c.answer.new.window.book.now in let b = begun_of w.parts in let answer = c.in-Some-answer.answer in
     let call = c.answer-in-Some-answer.new.self in let then = c.help.new.self in let log = c.help.new.window.sight.log in
@@ -137,7 +137,7 @@ loop-preserved g c =
     let call = c.answer-in-Some-answer.new.self in let then = c.help.new.self in let log = c.help.new.window.sight.log in
     let x = record c.answer.new.self { writer = record c.answer.new.self.writer { call = call } } in
     let helped = record x { writer = record x.writer { call = then } } in
-    let m = c.loop.insertion.writer.call.machine in let writer = c.look_on.new.self in let seen = c.look_on.new.window in
+    let m = c.loop.insertion.writer.call.machine in let writer = c.probe_on.new.self in let seen = c.probe_on.new.window in
     let same : call.machine ≡ after m (answers.Call answer) = ap (λ (z : Driver _ _ _ _). z.machine) c.answer-in-Some-answer.ensures.after
     ∙ ap (λ (z : Machine). after z (answers.Call answer)) c.answer.ensures.machine in
     let does = does_on m c.loop.invariant.2 answer c.args.window.now c.loop.window c.answer.new.window c.loop.invariant.5 c.in-Some-answer.ensures.answers in
@@ -147,7 +147,7 @@ loop-preserved g c =
       (λ key value begun r.
           let u = c.loop.invariant.0 key value begun
           (subst (λ (z : Bor (BookOf _ _ _ _)). IsInserting g.K.PartialEq.eq hash (begun_of z.now.parts) z.now.begun.book key value begun
-          c.args.window.now.sight.log c.args.begun) (c.look_on.ensures.over.sees.book ∙ (c.help.ensures.helps.sees.book ∙ c.answer.ensures.sees.book)) r) in
+          c.args.window.now.sight.log c.args.begun) (c.probe_on.ensures.over.sees.book ∙ (c.help.ensures.helps.sees.book ∙ c.answer.ensures.sees.book)) r) in
           let on = subst (λ (z : Driver _ _ _ _). IsInserting g.K.PartialEq.eq hash b w.begun.book key value begun c.answer.new.window.sight.log
           (record c.answer.new.self { writer = record c.answer.new.self.writer { call = z } })) (sym c.answer-in-Some-answer.ensures.after)
           (subst (λ (z : Bor (BookOf _ _ _ _)). IsInserting g.K.PartialEq.eq hash (begun_of z.now.parts) z.now.begun.book key value begun
@@ -170,21 +170,21 @@ loop-preserved g c =
           let writes = subst (λ (z : Bor (BookOf _ _ _ _)). IsWriting g.K.PartialEq.eq hash (begun_of z.now.parts) z.now.begun.book key went.made begun
           log helped.writer) (sym c.help.ensures.helps.sees.book) went.writing in
           let wrote = subst (λ (z : Bor (BookOf _ _ _ _)). IsWriting g.K.PartialEq.eq hash (begun_of z.now.parts) z.now.begun.book key went.made begun
-          seen.sight.log writer) c.help.ensures.helps.sees.book (c.look_on.ensures.looks key went.made begun writes) in
+          seen.sight.log writer) c.help.ensures.helps.sees.book (c.probe_on.ensures.looks key went.made begun writes) in
           let looked = inserting_looked g.K.PartialEq.eq g.K.Hash.hash_input g.S.BuildHasher.build_hasher g.S.Hasher.Hasher.write
           g.S.Hasher.Hasher.finish g.met.K.Eq.laws g.met.K.Hash.respects_eq b w.begun.book key begun value log seen.sight.log
-          c.look_on.ensures.over.sees.log helped went c.help.new.window seen writer.call c.look_on.ensures.over.looked refl refl wrote.calling in
+          c.probe_on.ensures.over.sees.log helped went c.help.new.window seen writer.call c.probe_on.ensures.over.looked refl refl wrote.calling in
           let there = subst (λ (z : Writer _ _ _ _). IsInserting g.K.PartialEq.eq hash b w.begun.book key value begun seen.sight.log
-          (record helped { writer = z })) (sym c.look_on.ensures.rest) looked in
+          (record helped { writer = z })) (sym c.probe_on.ensures.rest) looked in
           subst (λ (z : Bor (BookOf _ _ _ _)). IsInserting g.K.PartialEq.eq hash (begun_of z.now.parts) z.now.begun.book key value begun
-          seen.sight.log (record helped { writer = writer })) (sym (c.look_on.ensures.over.sees.book ∙ c.help.ensures.helps.sees.book)) there),
-      c.look_on.ensures.over.standing,
-      looked_calling c.help.new.window seen then writer.call c.look_on.ensures.over.looked c.help.ensures.helps.calling,
-      looked_initial c.help.new.window seen then writer.call c.look_on.ensures.over.looked
+          seen.sight.log (record helped { writer = writer })) (sym (c.probe_on.ensures.over.sees.book ∙ c.help.ensures.helps.sees.book)) there),
+      c.probe_on.ensures.over.valid,
+      looked_calling c.help.new.window seen then writer.call c.probe_on.ensures.over.looked c.help.ensures.helps.calling,
+      looked_initial c.help.new.window seen then writer.call c.probe_on.ensures.over.looked
           ∙ ((helped_keeps call.machine then.machine (tables_of log) then.copier.given.done c.help.ensures.helps.helped).initial
           ∙ (ap (λ (z : Machine). z.call.initial) same ∙ ((own_settings m c.loop.invariant.2 answer).0 ∙ c.loop.invariant.3))),
-      sees_trans _ _ _ (sees_trans _ _ _ (sees_trans _ _ _ c.loop.invariant.4 c.answer.ensures.sees) c.help.ensures.helps.sees) c.look_on.ensures.over.sees,
-      looked_does c.help.new.window seen then writer.call c.look_on.ensures.over.looked c.args.window.now c.look_on.ensures.over.own does_help,
+      sees_trans _ _ _ (sees_trans _ _ _ (sees_trans _ _ _ c.loop.invariant.4 c.answer.ensures.sees) c.help.ensures.helps.sees) c.probe_on.ensures.over.sees,
+      looked_does c.help.new.window seen then writer.call c.probe_on.ensures.over.looked c.args.window.now c.probe_on.ensures.over.own does_help,
     )
 
 pub replied-requires-clause-can : goal.replied-requires-clause-can

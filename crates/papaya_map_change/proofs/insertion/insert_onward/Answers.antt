@@ -19,11 +19,11 @@ drive-requires-clause-can g c =
     let hash = (hash_of g.K.Hash.hash_input g.S.BuildHasher.build_hasher g.S.Hasher.Hasher.write g.S.Hasher.Hasher.finish) in
     let w = c.args.window.now.book.now in let b = begun_of w.parts in let log = c.args.window.now.sight.log in let key = c.args.key in
     let to = Growing (Room c.args.number) in
-    let stood = c.stand.ensures in
+    let stood = c.enter_state.ensures in
     let parts = c.begin-insertion.ensures.parts in
     let has_key = subst (λ (o : _). HasKey b w.begun.book key o) (sym parts.0) (refl, tt) in
     let has_value = subst (λ (o : _). HasValue b w.begun.book o) (sym parts.1) tt in let value_is = ap held_value parts.1 in
-    let machine : c.stand.new.self.machine ≡ insertion_at c.args.hash w.parts.mode c.args.means.now.initial (nothing_made w.parts.limit) to = ap
+    let machine : c.enter_state.new.self.machine ≡ insertion_at c.args.hash w.parts.mode c.args.means.now.initial (nothing_made w.parts.limit) to = ap
     (λ z. z.machine) stood ∙ (λ i. record (c.begin-insertion.ensures.machine i) { call = record (c.begin-insertion.ensures.machine i).call { state = to } }) in
     let there = machine ∙ ap (λ h. insertion_at h w.parts.mode c.args.means.now.initial (nothing_made w.parts.limit) to) c.requires.hashed in
     let st = c.requires.stands in let led : Some to ≡ Some st.0 = st.1 in let is : to ≡ st.0 = cc led in
@@ -46,11 +46,11 @@ returns-clause-put g c =
     let hash = (hash_of g.K.Hash.hash_input g.S.BuildHasher.build_hasher g.S.Hasher.Hasher.write g.S.Hasher.Hasher.finish) in
     let w = c.args.window.now.book.now in let b = begun_of w.parts in let log = c.args.window.now.sight.log in let key = c.args.key in
     let to = Growing (Room c.args.number) in
-    let stood = c.stand.ensures in
+    let stood = c.enter_state.ensures in
     let parts = c.begin-insertion.ensures.parts in
     let has_key = subst (λ (o : _). HasKey b w.begun.book key o) (sym parts.0) (refl, tt) in
     let has_value = subst (λ (o : _). HasValue b w.begun.book o) (sym parts.1) tt in let value_is = ap held_value parts.1 in
-    let machine : c.stand.new.self.machine ≡ insertion_at c.args.hash w.parts.mode c.args.means.now.initial (nothing_made w.parts.limit) to = ap
+    let machine : c.enter_state.new.self.machine ≡ insertion_at c.args.hash w.parts.mode c.args.means.now.initial (nothing_made w.parts.limit) to = ap
     (λ z. z.machine) stood ∙ (λ i. record (c.begin-insertion.ensures.machine i) { call = record (c.begin-insertion.ensures.machine i).call { state = to } }) in
     let there = machine ∙ ap (λ h. insertion_at h w.parts.mode c.args.means.now.initial (nothing_made w.parts.limit) to) c.requires.hashed in
     if_ok _ _ c.drive.result c.drive.ensures.put (λ a h begun state led r0.

@@ -2,7 +2,7 @@ use Rattle.std.proofs.Common.{subst}
 use Rattle.papaya_map_lookup.specs.Drivers.{past}
 use Rattle.papaya_map_lookup.proofs.Histories.{history_since}
 use Rattle.papaya_map_change.specs.RemovalAnswers.{IsTriedRemoval}
-use Rattle.papaya_map_change.specs.Showings.{Judges}
+use Rattle.papaya_map_change.specs.ClosureCalls.{Judges}
 use Rattle.papaya_map_change.proofs.RemovingHits.{removal_shown}
 use Rattle.papaya_map_change.proofs.removal.remove.Goals as goal
 

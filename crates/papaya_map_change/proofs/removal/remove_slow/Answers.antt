@@ -21,7 +21,7 @@ use Rattle.papaya_map_book.specs.Hashes.{hash_of}
 use Rattle.papaya_map_book.specs.Parts.{begun_of}
 use Rattle.papaya_map_book.specs.Windows.{Does}
 use Rattle.papaya_map_change.specs.Doing.{has_changed}
-use Rattle.papaya_map_change.specs.Showings.{Judges}
+use Rattle.papaya_map_change.specs.ClosureCalls.{Judges}
 use Rattle.papaya_map_change.proofs.Doing.{does_on, does_still, idles, makes, replied}
 use Rattle.papaya_map_lookup.proofs.Histories.{history_since}
 use Rattle.papaya_map_book.proofs.Windows.{observed, sees_trans}
@@ -43,7 +43,7 @@ loop-init g c =
             (begun_of w.parts) w.begun.book (g.Q.Equivalent.matches c.args.key.now) fed (Judges g.F.FnMut) c.args.agrees log _ c.learn.ensures.lawful
             c.args.means.now.initial machine c.new.ensures.empty.table c.new.ensures.empty.pairs refl,
       ),
-      c.new.ensures.standing,
+      c.new.ensures.valid,
       ap (λ (m : Machine). m.phase) machine,
       ap (λ (m : Machine). m.call.initial) machine,
       observed c.learn.ensures.sees,
@@ -135,7 +135,7 @@ loop-preserved g c =
             (hash_of g.Q.Hash.hash_input g.S.BuildHasher.build_hasher g.S.Hasher.Hasher.write g.S.Hasher.Hasher.finish z.now.parts.hasher c.args.key.now)
             (Judges g.F.FnMut) c.args.agrees u.0 log (record x { call = then }) c.answer.new.agrees) (sym c.help.ensures.helps.sees.book) went,
       ),
-      c.help.ensures.helps.standing,
+      c.help.ensures.helps.valid,
       c.help.ensures.helps.calling,
       (helped_keeps call.machine then.machine (tables_of log) then.copier.given.done c.help.ensures.helps.helped).initial
           ∙ (ap (λ (z : Machine). z.call.initial) same ∙ ((own_settings m c.loop.invariant.2 answer).0 ∙ c.loop.invariant.3)),

@@ -11,7 +11,7 @@ loop-init g c =
     let w = c.learn.new.self in let hash = hash_of g.K.Hash.hash_input g.S.BuildHasher.build_hasher g.S.Hasher.Hasher.write g.S.Hasher.Hasher.finish in
     let is = c.new-machine.ensures.value in record {
       sees = c.learn.ensures.sees;
-      standing = c.new-machine.ensures.standing;
+      valid = c.new-machine.ensures.valid;
       can = subst (λ (m : Resizer). IsResizing g.K.PartialEq.eq hash (begun_of w.book.now.parts) w.book.now.begun.book w.sight.log m c.new.result) (sym is)
           (begins g.K.PartialEq.eq g.K.Hash.hash_input g.S.BuildHasher.build_hasher g.S.Hasher.Hasher.write g.S.Hasher.Hasher.finish g.met.K.Eq.laws
           g.met.K.Hash.respects_eq (begun_of w.book.now.parts) w.book.now.begun.book w.sight.log c.learn.ensures.lawful c.args.resize c.args.means.now.initial

@@ -1,5 +1,5 @@
 use Rattle.std.proofs.Common.{◌≡◌}
-use Rattle.papaya_call.specs.Resizer.{IsStandingResizer}
+use Rattle.papaya_call.specs.Resizer.{IsValidResizer}
 use Rattle.papaya_map_book.specs.Windows.{Observes}
 use Rattle.papaya_map_change.specs.Window.Resizing.{CanResize}
 use Rattle.papaya_map_change.proofs.resizing.resize.Given as goal
@@ -8,7 +8,7 @@ use Rattle.papaya_map_change.proofs.resizing.resize.Given as goal
 abbrev pub invariant-loop : goal.invariant-loop
 invariant-loop g l = record {
   sees : Observes l.fn.window l.window;
-  standing : IsStandingResizer l.resizing.machine;
+  valid : IsValidResizer l.resizing.machine;
   can : CanResize l.window l.resizing;
   resize : l.resizing.machine.resize ≡ l.fn.resize;
   initial : l.resizing.machine.initial ≡ l.fn.means.initial;

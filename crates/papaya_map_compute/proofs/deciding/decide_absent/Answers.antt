@@ -3,7 +3,7 @@ use Rattle.std.specs.Prelude.{IfSome}
 use Rattle.papaya_words.specs.declared.refused.Refused.TheVariants.{Memory}
 use Rattle.papaya_call.specs.declared.answers.Operation.TheVariants as operation
 use Rattle.papaya_call.specs.declared.machine.State.TheVariants.{Writing}
-use Rattle.papaya_map_book.specs.Books.{IsLoggedAs}
+use Rattle.papaya_map_book.specs.Books.{IsStoredAs}
 use Rattle.papaya_map_book.specs.Logs.{Stored}
 use Rattle.papaya_map_lookup.specs.Drivers.{past}
 use Rattle.papaya_map_change.specs.Seeking.{Inserts}
@@ -65,13 +65,13 @@ returns-in-Lost-clause-comes g c = λ since led looked.
     comes_since puts since _ _ _ _ w then _ looked (λ a h. h) (λ y h. h)
     (comes_lost puts _ _ w then _ _ _ tried (ap is_put c.in-Lost.is) _ ((None, operation.Insert v) ∷ [], starts, (first, refl, (None, tt, said))))
 
-pub returns-in-Some-log_by_waiting-clause-comes : goal.returns-in-Some-log_by_waiting-clause-comes
-returns-in-Some-log_by_waiting-clause-comes g c = λ since led looked.
-    let w = c.args.window.now in let then = c.claim.new.window in let tried = c.claim.ensures.tried in let q = c.in-Some-log_by_waiting.pair in
+pub returns-in-Some-store_by_waiting-clause-comes : goal.returns-in-Some-store_by_waiting-clause-comes
+returns-in-Some-store_by_waiting-clause-comes g c = λ since led looked.
+    let w = c.args.window.now in let then = c.claim.new.window in let tried = c.claim.ensures.tried in let q = c.in-Some-store_by_waiting.pair in
     let decides = g.D.Rule.decides in let first = c.args.rule.now in let left = c.absent.new.self in let v = c.in-Some.value in
     let said : decides first None (Some v) left = subst (λ (o : Option _). decides first None o left) c.in-Some.is c.absent.ensures.decides in
     let back = c.claim.ensures.back (c.in-Back.key, c.in-Back.value) c.in-Back.is in
-    let l = subst (λ (z : Option (Stored _ _)). IfSome z (IsLoggedAs then.book.now c.in-Back.key c.in-Back.value)) c.in-Some-log_by_waiting.is c.log_by_waiting.ensures in
+    let l = subst (λ (z : Option (Stored _ _)). IfSome z (IsStoredAs then.book.now c.in-Back.key c.in-Back.value)) c.in-Some-store_by_waiting.is c.store_by_waiting.ensures in
     let starts = starts_filled g.K.PartialEq.eq g.K.Hash.hash_input g.S.BuildHasher.build_hasher g.S.Hasher.Hasher.write g.S.Hasher.Hasher.finish
     g.met.K.Eq.laws g.met.K.Hash.respects_eq w then tried.sees c.args.key c.args.table.now since.sight.log c.args.at led.found c.args.hash v q led.hashed tried.lawful
     (record { placed = l.placed; key_is = l.key_is ∙ ap (λ z. z.0) back; value_is = l.value_is ∙ ap (λ z. z.1) back; number = l.number })

@@ -4,7 +4,7 @@ use Rattle.std.specs.Prelude.{IfSome}
 use Rattle.papaya_words.specs.declared.refused.Refused.TheVariants.{Memory}
 use Rattle.papaya_call.specs.declared.answers.Operation.TheVariants as operation
 use Rattle.papaya_call.specs.declared.machine.State.TheVariants.{Writing}
-use Rattle.papaya_map_book.specs.Books.{IsIn, IsLoggedAs}
+use Rattle.papaya_map_book.specs.Books.{IsIn, IsStoredAs}
 use Rattle.papaya_map_book.specs.declared.rule.entry.Named.TheVariants as names
 use Rattle.papaya_map_book.specs.Logs.{Stored}
 use Rattle.papaya_map_lookup.specs.Drivers.{past}
@@ -14,7 +14,7 @@ use Rattle.papaya_map_change.specs.Seeking.{Inserts}
 use Rattle.papaya_map_change.specs.Tries.{is_put, pair_in}
 use Rattle.papaya_map_compute.specs.Deciding.{AsksRule, puts}
 use Rattle.papaya_map_compute.specs.FastPath.{IsOnItsWay}
-use Rattle.papaya_map_compute.specs.Operating.{Shows}
+use Rattle.papaya_map_compute.specs.Operating.{CallsClosure}
 use Rattle.papaya_map_compute.specs.declared.deciding.Decided.TheVariants.{Replaced}
 use Rattle.papaya_map_compute.specs.declared.fast_path.Start.TheVariants as start
 use Rattle.papaya_map_compute.proofs.AtOnce.{comes_idle, comes_lost, comes_over, met_placed, pair_since, put_over, starts_replaced, unseen}
@@ -40,8 +40,8 @@ pub value_of-requires : goal.value_of-requires
 value_of-requires g c =
     let tried = c.replace.ensures.tried in rw (sym tried.sees.book) (tried.logged c.in-Put.pair (ap pair_in c.in-Put.is)).placed
 
-pub log_by_waiting-requires : goal.log_by_waiting-requires
-log_by_waiting-requires g c =
+pub store_by_waiting-requires : goal.store_by_waiting-requires
+store_by_waiting-requires g c =
     let led = c.requires.led in let w = c.args.window.now in
     let at_hand = met_placed g.K.PartialEq.eq g.K.Hash.hash_input g.S.BuildHasher.build_hasher g.S.Hasher.Hasher.write g.S.Hasher.Hasher.finish
     g.met.K.Eq.laws g.met.K.Hash.respects_eq w w (unseen w) c.args.key c.args.table.now led.0 c.args.live led.1.found in
@@ -93,13 +93,13 @@ returns-in-Lost-clause-comes g c = λ since led looked.
     (tried.logged q (ap pair_in c.in-Lost.is)) (operation.Insert v) refl in
     comes_since puts since _ _ _ _ w then _ looked (λ a h. h) (λ y h. h)
     (comes_lost puts _ _ w then _ _ _ tried (ap is_put c.in-Lost.is) _
-    (subst (λ (z : Met _ _). IsOnItsWay since then c.args.key (Shows (AsksRule decides)) first left (start.Replaced c.args.key c.args.hash z q))
+    (subst (λ (z : Met _ _). IsOnItsWay since then c.args.key (CallsClosure (AsksRule decides)) first left (start.Replaced c.args.key c.args.hash z q))
     (sym c.into_met.ensures)
     ((Some p, operation.Insert v) ∷ [], starts, (first, refl, (Some (key_there, c.value-old.result), (refl, value_is), said)))))
 
-pub returns-in-Some-log_by_waiting-clause-comes : goal.returns-in-Some-log_by_waiting-clause-comes
-returns-in-Some-log_by_waiting-clause-comes g c = λ since led looked.
-    let w = c.args.window.now in let then = c.replace.new.window in let tried = c.replace.ensures.tried in let q = c.in-Some-log_by_waiting.pair in
+pub returns-in-Some-store_by_waiting-clause-comes : goal.returns-in-Some-store_by_waiting-clause-comes
+returns-in-Some-store_by_waiting-clause-comes g c = λ since led looked.
+    let w = c.args.window.now in let then = c.replace.new.window in let tried = c.replace.ensures.tried in let q = c.in-Some-store_by_waiting.pair in
     let met = c.args.live in let p = met.stored in let v = c.in-Some.value in
     let decides = g.D.Rule.decides in let first = c.args.rule.now in let left = c.present.new.self in
     let value_is = c.value-old.ensures ∙ ap (λ v. v.value) c.pair.ensures in
@@ -108,16 +108,16 @@ returns-in-Some-log_by_waiting-clause-comes g c = λ since led looked.
     let key_there : Bor _ = record { ref_ptr = (0, 0); now = key_of p } in
     let back = c.replace.ensures.back c.in-Back.value c.in-Back.is in
     let of : key_of c.again.result ≡ key_of p = ap key_of (c.again.ensures ∙ ap (λ (z : Met _ _). z.stored) c.met.ensures) in
-    let l = subst (λ (z : Option (Stored _ _)). IfSome z (IsLoggedAs w.book.now (key_of c.again.result) c.in-Back.value)) c.in-Some-log_by_waiting.is
-    c.log_by_waiting.ensures in
+    let l = subst (λ (z : Option (Stored _ _)). IfSome z (IsStoredAs w.book.now (key_of c.again.result) c.in-Back.value)) c.in-Some-store_by_waiting.is
+    c.store_by_waiting.ensures in
     let starts = starts_replaced g.K.PartialEq.eq g.K.Hash.hash_input g.S.BuildHasher.build_hasher g.S.Hasher.Hasher.write g.S.Hasher.Hasher.finish
     g.met.K.Eq.laws g.met.K.Hash.respects_eq w then tried.sees c.args.key c.args.table.now since.sight.log met led.found c.args.hash v q led.hashed tried.lawful
     (record { placed = rw tried.sees.book l.placed; key_is = l.key_is ∙ of; value_is = l.value_is ∙ back; number = l.number })
     (operation.Insert v) refl in
     comes_since puts since _ _ _ _ w then _ looked (λ a h. h) (λ y h. h)
     (comes_lost puts _ _ w then _ _ _ tried (ap is_put c.in-Back.is) _
-    (subst (λ (z : Met _ _). IsOnItsWay since then c.args.key (Shows (AsksRule decides)) first left (start.Replaced c.args.key c.args.hash z q))
-    (sym c.into_met-in-Some-log_by_waiting.ensures)
+    (subst (λ (z : Met _ _). IsOnItsWay since then c.args.key (CallsClosure (AsksRule decides)) first left (start.Replaced c.args.key c.args.hash z q))
+    (sym c.into_met-in-Some-store_by_waiting.ensures)
     ((Some p, operation.Insert v) ∷ [], starts, (first, refl, (Some (key_there, c.value-old.result), (refl, value_is), said)))))
 
 pub returns-clause-comes : goal.returns-clause-comes

@@ -5,7 +5,7 @@ use Rattle.papaya_call.specs.declared.answers.Operation.{Operation}
 use Rattle.papaya_call.specs.declared.answers.Operation.TheVariants as operation
 use Rattle.papaya_call.specs.declared.compute.Gap.TheVariants.{At}
 use Rattle.papaya_call.specs.declared.machine.State.TheVariants.{Offering, Writing}
-use Rattle.papaya_map_book.specs.Books.{IsLoggedAs}
+use Rattle.papaya_map_book.specs.Books.{IsStoredAs}
 use Rattle.papaya_map_book.specs.Logs.{Stored}
 use Rattle.papaya_map_book.specs.Parts.{begun_of}
 use Rattle.papaya_map_book.specs.Windows.{Does}
@@ -17,7 +17,7 @@ use Rattle.papaya_map_change.specs.declared.fast_path.Tried.{Tried}
 use Rattle.papaya_map_change.specs.Changes.{IsChangeOf}
 use Rattle.papaya_map_change.specs.Seeking.{Computes, Inserts}
 use Rattle.papaya_map_change.specs.Tries.{is_put, pair_in}
-use Rattle.papaya_map_change.proofs.Showings.{held_wider}
+use Rattle.papaya_map_change.proofs.ClosureCalls.{held_wider}
 use Rattle.papaya_map_change.proofs.Trading.{met_none}
 use Rattle.papaya_map_compute.proofs.FastPath.{aborts, inserts, refuses, removes_nothing}
 use Rattle.papaya_map_compute.proofs.Found.{none_found}
@@ -115,7 +115,7 @@ returns-in-Some g c =
     let tried = c.claim.ensures.tried in let then = c.claim.new.window in
     let back = c.claim.ensures.back (c.in-Back.key, c.in-Back.value) c.in-Back.is in
     let q = c.in-Some.pair in
-    let l = subst (λ (z : Option (Stored _ _)). IfSome z (IsLoggedAs then.book.now c.in-Back.key c.in-Back.value)) c.in-Some.is c.log_by_waiting.ensures in
+    let l = subst (λ (z : Option (Stored _ _)). IfSome z (IsStoredAs then.book.now c.in-Back.key c.in-Back.value)) c.in-Some.is c.store_by_waiting.ensures in
     let placed = l.placed in let number = l.number in
     let key_is = l.key_is ∙ ap (λ z. z.0) back in let value_is = l.value_is ∙ ap (λ z. z.1) back in
     record {

@@ -5,7 +5,7 @@ use Rattle.papaya_call.specs.declared.answers.Operation.{Operation}
 use Rattle.papaya_call.specs.declared.answers.Operation.TheVariants as operation
 use Rattle.papaya_call.specs.declared.machine.State.TheVariants.{Showing, Writing}
 use Rattle.papaya_map_book.specs.declared.rule.entry.Named.TheVariants as names
-use Rattle.papaya_map_book.specs.Books.{IsIn, IsLoggedAs}
+use Rattle.papaya_map_book.specs.Books.{IsIn, IsStoredAs}
 use Rattle.papaya_map_book.specs.Logs.{Stored}
 use Rattle.papaya_map_book.specs.Parts.{begun_of}
 use Rattle.papaya_map_book.specs.Windows.{Does}
@@ -20,10 +20,10 @@ use Rattle.papaya_map_change.specs.Seeking.{Computes, Inserts}
 use Rattle.papaya_map_change.specs.Tries.{TakesOut, is_put, pair_in}
 use Rattle.papaya_map_change.specs.Writing.{HasKeyAt}
 use Rattle.papaya_map_change.proofs.Replacing.{live_full, met_key_there, met_same}
-use Rattle.papaya_map_change.proofs.Showings.{held_wider}
+use Rattle.papaya_map_change.proofs.ClosureCalls.{held_wider}
 use Rattle.papaya_map_change.proofs.Trading.{met_some}
 use Rattle.papaya_map_lookup.specs.declared.lookup.Met.{Met}
-use Rattle.papaya_map_compute.specs.FastPath.{HasHeard}
+use Rattle.papaya_map_compute.specs.FastPath.{CanStartSince}
 use Rattle.papaya_map_compute.specs.declared.fast_path.Start.TheVariants.{Removing, Replaced}
 use Rattle.papaya_map_compute.proofs.FastPath.{aborts, refuses, removed, updates}
 use Rattle.papaya_map_compute.proofs.Found.{pair_found, pair_live, pair_placed}
@@ -33,7 +33,7 @@ pub replace-requires-clause-stands : goal.replace-requires-clause-stands
 replace-requires-clause-stands g c =
     let w = c.args.window.now in let log = w.sight.log in let key = c.args.key in let b = begun_of w.book.now.parts in
     let name = w.book.now.begun.book in let met = c.args.live in let p = met.stored in
-    let write = Writing (record { place = met.place; old = met.word }) in let show = Showing (record { place = met.place; word = met.word }) in
+    let write = Writing (record { place = met.place; old = met.word }) in let call_closure = Showing (record { place = met.place; word = met.word }) in
     let table = c.args.table.now in
     let led = c.requires.led in (key, (write, refl, (led.0, led.1.found Inserts write refl)))
 
@@ -44,7 +44,7 @@ pub value_of-requires : goal.value_of-requires
 value_of-requires g c =
     let w = c.args.window.now in let log = w.sight.log in let key = c.args.key in let b = begun_of w.book.now.parts in
     let name = w.book.now.begun.book in let met = c.args.live in let p = met.stored in
-    let write = Writing (record { place = met.place; old = met.word }) in let show = Showing (record { place = met.place; word = met.word }) in
+    let write = Writing (record { place = met.place; old = met.word }) in let call_closure = Showing (record { place = met.place; word = met.word }) in
     let table = c.args.table.now in
     let tried = c.replace.ensures.tried in let then = c.replace.new.window in
     let q = c.in-Put.pair in let l = tried.logged q (ap pair_in c.in-Put.is) in l.placed
@@ -53,7 +53,7 @@ pub returns-in-Put : goal.returns-in-Put
 returns-in-Put g c =
     let w = c.args.window.now in let log = w.sight.log in let key = c.args.key in let b = begun_of w.book.now.parts in
     let name = w.book.now.begun.book in let met = c.args.live in let p = met.stored in
-    let write = Writing (record { place = met.place; old = met.word }) in let show = Showing (record { place = met.place; word = met.word }) in
+    let write = Writing (record { place = met.place; old = met.word }) in let call_closure = Showing (record { place = met.place; word = met.word }) in
     let table = c.args.table.now in
     let tried = c.replace.ensures.tried in let then = c.replace.new.window in
     let q = c.in-Put.pair in let l = tried.logged q (ap pair_in c.in-Put.is) in
@@ -64,7 +64,7 @@ returns-in-Put g c =
         made = subst (λ (z : Tried _ _ _). Makes (is_put z) (own w) (own then) (past then)) c.in-Put.is tried.made;
         refused = λ cause e. absurd (cc e);
         right = λ begun found.
-            let there = found Computes show refl in
+            let there = found Computes call_closure refl in
             let was = pair_found g.K.PartialEq.eq g.K.Hash.hash_input g.S.BuildHasher.build_hasher g.S.Hasher.Hasher.write g.S.Hasher.Hasher.finish
             g.met.K.Eq.laws g.met.K.Hash.respects_eq b name key begun log table met.place met.word p there in
             let later = held_wider g.K.PartialEq.eq (g.K.PartialEq.eq key) (history_of begun) (history_of begun)
@@ -83,7 +83,7 @@ pub returns-in-Lost : goal.returns-in-Lost
 returns-in-Lost g c =
     let w = c.args.window.now in let log = w.sight.log in let key = c.args.key in let b = begun_of w.book.now.parts in
     let name = w.book.now.begun.book in let met = c.args.live in let p = met.stored in
-    let write = Writing (record { place = met.place; old = met.word }) in let show = Showing (record { place = met.place; word = met.word }) in
+    let write = Writing (record { place = met.place; old = met.word }) in let call_closure = Showing (record { place = met.place; word = met.word }) in
     let table = c.args.table.now in
     let tried = c.replace.ensures.tried in let then = c.replace.new.window in
     let q = c.in-Lost.pair in let l = tried.logged q (ap pair_in c.in-Lost.is) in
@@ -97,7 +97,7 @@ returns-in-Lost g c =
         right = tt;
         idle = subst (λ (z : Tried _ _ _). Does (is_put z) w then) c.in-Lost.is tried.does;
         starts = λ begun found.
-            let there = found Computes show refl in
+            let there = found Computes call_closure refl in
             let was = pair_found g.K.PartialEq.eq g.K.Hash.hash_input g.S.BuildHasher.build_hasher g.S.Hasher.Hasher.write g.S.Hasher.Hasher.finish
             g.met.K.Eq.laws g.met.K.Hash.respects_eq b name key begun log table met.place met.word p there in
             let later = held_wider g.K.PartialEq.eq (g.K.PartialEq.eq key) (history_of begun) (history_of begun)
@@ -115,7 +115,7 @@ returns-in-Lost g c =
             g.met.K.Eq.laws g.met.K.Hash.respects_eq b name key begun log met.place met.word full p table found_first)) in
             let at_hand = pair_placed g.K.PartialEq.eq g.K.Hash.hash_input g.S.BuildHasher.build_hasher g.S.Hasher.Hasher.write g.S.Hasher.Hasher.finish
             g.met.K.Eq.laws g.met.K.Hash.respects_eq b name key begun log table met.place met.word p there in
-            subst (λ (z : Met _ _). HasHeard then key begun (Replaced key c.args.hash z q) ((Some p, c.args.operation) ∷ [])) (sym c.into_met.ensures) (
+            subst (λ (z : Met _ _). CanStartSince then key begun (Replaced key c.args.hash z q) ((Some p, c.args.operation) ∷ [])) (sym c.into_met.ensures) (
               (
                 refl,
                 record {
@@ -138,13 +138,13 @@ pub returns-in-Some : goal.returns-in-Some
 returns-in-Some g c =
     let w = c.args.window.now in let log = w.sight.log in let key = c.args.key in let b = begun_of w.book.now.parts in
     let name = w.book.now.begun.book in let met = c.args.live in let p = met.stored in
-    let write = Writing (record { place = met.place; old = met.word }) in let show = Showing (record { place = met.place; word = met.word }) in
+    let write = Writing (record { place = met.place; old = met.word }) in let call_closure = Showing (record { place = met.place; word = met.word }) in
     let table = c.args.table.now in
     let tried = c.replace.ensures.tried in let then = c.replace.new.window in
     let back = c.replace.ensures.back c.in-Back.value c.in-Back.is in
     let q = c.in-Some.pair in
-    let l = subst (λ (z : Option (Stored _ _)). IfSome z (IsLoggedAs then.book.now (key_of c.again.result) c.in-Back.value)) c.in-Some.is
-    c.log_by_waiting.ensures in
+    let l = subst (λ (z : Option (Stored _ _)). IfSome z (IsStoredAs then.book.now (key_of c.again.result) c.in-Back.value)) c.in-Some.is
+    c.store_by_waiting.ensures in
     let of : key_of c.again.result ≡ key_of p = ap key_of (c.again.ensures ∙ ap (λ (z : Met _ _). z.stored) c.met.ensures) in
     let placed = l.placed in let number = l.number in
     let key_is = l.key_is ∙ of in let value_is = l.value_is ∙ back in
@@ -157,7 +157,7 @@ returns-in-Some g c =
         right = tt;
         idle = subst (λ (z : Tried _ _ _). Does (is_put z) w then) c.in-Back.is tried.does;
         starts = λ begun found.
-            let there = found Computes show refl in
+            let there = found Computes call_closure refl in
             let was = pair_found g.K.PartialEq.eq g.K.Hash.hash_input g.S.BuildHasher.build_hasher g.S.Hasher.Hasher.write g.S.Hasher.Hasher.finish
             g.met.K.Eq.laws g.met.K.Hash.respects_eq b name key begun log table met.place met.word p there in
             let later = held_wider g.K.PartialEq.eq (g.K.PartialEq.eq key) (history_of begun) (history_of begun)
@@ -175,7 +175,7 @@ returns-in-Some g c =
             g.met.K.Eq.laws g.met.K.Hash.respects_eq b name key begun log met.place met.word full p table found_first)) in
             let at_hand = pair_placed g.K.PartialEq.eq g.K.Hash.hash_input g.S.BuildHasher.build_hasher g.S.Hasher.Hasher.write g.S.Hasher.Hasher.finish
             g.met.K.Eq.laws g.met.K.Hash.respects_eq b name key begun log table met.place met.word p there in
-            subst (λ (z : Met _ _). HasHeard then key begun (Replaced key c.args.hash z q) ((Some p, c.args.operation) ∷ [])) (sym c.into_met-in-Some.ensures) (
+            subst (λ (z : Met _ _). CanStartSince then key begun (Replaced key c.args.hash z q) ((Some p, c.args.operation) ∷ [])) (sym c.into_met-in-Some.ensures) (
               (
                 refl,
                 record {
@@ -198,7 +198,7 @@ pub returns-in-Insert : goal.returns-in-Insert
 returns-in-Insert g c =
     let w = c.args.window.now in let log = w.sight.log in let key = c.args.key in let b = begun_of w.book.now.parts in
     let name = w.book.now.begun.book in let met = c.args.live in let p = met.stored in
-    let write = Writing (record { place = met.place; old = met.word }) in let show = Showing (record { place = met.place; word = met.word }) in
+    let write = Writing (record { place = met.place; old = met.word }) in let call_closure = Showing (record { place = met.place; word = met.word }) in
     let table = c.args.table.now in
     let tried = c.replace.ensures.tried in let then = c.replace.new.window in
     record {
@@ -208,7 +208,7 @@ returns-in-Insert g c =
         made = subst (λ (z : Tried _ _ _). Makes (is_put z) (own w) (own then) (past then)) c.in-Back.is tried.made;
         refused = λ cause e. let is : Memory ≡ cause = cc e in inl (sym is);
         right = λ begun found.
-            let there = found Computes show refl in
+            let there = found Computes call_closure refl in
             let was = pair_found g.K.PartialEq.eq g.K.Hash.hash_input g.S.BuildHasher.build_hasher g.S.Hasher.Hasher.write g.S.Hasher.Hasher.finish
             g.met.K.Eq.laws g.met.K.Hash.respects_eq b name key begun log table met.place met.word p there in
             let later = held_wider g.K.PartialEq.eq (g.K.PartialEq.eq key) (history_of begun) (history_of begun)
@@ -223,16 +223,16 @@ pub bury-requires : goal.bury-requires
 bury-requires g c =
     let w = c.args.window.now in let log = w.sight.log in let key = c.args.key in let b = begun_of w.book.now.parts in
     let name = w.book.now.begun.book in let met = c.args.live in let p = met.stored in
-    let write = Writing (record { place = met.place; old = met.word }) in let show = Showing (record { place = met.place; word = met.word }) in
+    let write = Writing (record { place = met.place; old = met.word }) in let call_closure = Showing (record { place = met.place; word = met.word }) in
     let table = c.args.table.now in
     let led = c.requires.led in
-    rw c.met-in-Remove.ensures (record { shows = (key, led.0, led.1.found Computes show refl) })
+    rw c.met-in-Remove.ensures (record { shows = (key, led.0, led.1.found Computes call_closure refl) })
 
 pub returns-then-not-bury : goal.returns-then-not-bury
 returns-then-not-bury g c =
     let w = c.args.window.now in let log = w.sight.log in let key = c.args.key in let b = begun_of w.book.now.parts in
     let name = w.book.now.begun.book in let met = c.args.live in let p = met.stored in
-    let write = Writing (record { place = met.place; old = met.word }) in let show = Showing (record { place = met.place; word = met.word }) in
+    let write = Writing (record { place = met.place; old = met.word }) in let call_closure = Showing (record { place = met.place; word = met.word }) in
     let table = c.args.table.now in
     let tried = c.bury.ensures.ends in let then = c.bury.new.window in
     let not : c.bury.result ≡ false = search rules in
@@ -245,14 +245,14 @@ returns-then-not-bury g c =
         right = tt;
         idle = subst (λ (z : Bool). Does z w then) not c.bury.ensures.does;
         starts = λ begun found.
-            let there = found Computes show refl in
+            let there = found Computes call_closure refl in
             let was = pair_found g.K.PartialEq.eq g.K.Hash.hash_input g.S.BuildHasher.build_hasher g.S.Hasher.Hasher.write g.S.Hasher.Hasher.finish
             g.met.K.Eq.laws g.met.K.Hash.respects_eq b name key begun log table met.place met.word p there in
             let later = held_wider g.K.PartialEq.eq (g.K.PartialEq.eq key) (history_of begun) (history_of begun)
             (history_of log) (history_of then.sight.log) ([], append-nil (history_of begun)) (history_since log then.sight.log tried.sees.log) (Some p) was in
             let at_hand = pair_placed g.K.PartialEq.eq g.K.Hash.hash_input g.S.BuildHasher.build_hasher g.S.Hasher.Hasher.write g.S.Hasher.Hasher.finish
             g.met.K.Eq.laws g.met.K.Hash.respects_eq b name key begun log table met.place met.word p there in
-            subst (λ (z : Met _ _). HasHeard then key begun (Removing key c.args.hash z.stored) ((Some p, c.args.operation) ∷ [])) (sym c.into_met-shown.ensures) (
+            subst (λ (z : Met _ _). CanStartSince then key begun (Removing key c.args.hash z.stored) ((Some p, c.args.operation) ∷ [])) (sym c.into_met-shown.ensures) (
               (
                 refl,
                 record {
@@ -272,7 +272,7 @@ pub returns-in-Remove : goal.returns-in-Remove
 returns-in-Remove g c =
     let w = c.args.window.now in let log = w.sight.log in let key = c.args.key in let b = begun_of w.book.now.parts in
     let name = w.book.now.begun.book in let met = c.args.live in let p = met.stored in
-    let write = Writing (record { place = met.place; old = met.word }) in let show = Showing (record { place = met.place; word = met.word }) in
+    let write = Writing (record { place = met.place; old = met.word }) in let call_closure = Showing (record { place = met.place; word = met.word }) in
     let table = c.args.table.now in
     let tried = c.bury.ensures.ends in let then = c.bury.new.window in
     let did : c.bury.result ≡ true = search rules in
@@ -283,7 +283,7 @@ returns-in-Remove g c =
         made = subst (λ (z : Bool). Makes z (own w) (own then) (past then)) did tried.made;
         refused = λ cause e. absurd (cc e);
         right = λ begun found.
-            let there = found Computes show refl in
+            let there = found Computes call_closure refl in
             let was = pair_found g.K.PartialEq.eq g.K.Hash.hash_input g.S.BuildHasher.build_hasher g.S.Hasher.Hasher.write g.S.Hasher.Hasher.finish
             g.met.K.Eq.laws g.met.K.Hash.respects_eq b name key begun log table met.place met.word p there in
             let later = held_wider g.K.PartialEq.eq (g.K.PartialEq.eq key) (history_of begun) (history_of begun)
@@ -299,7 +299,7 @@ pub returns : goal.returns
 returns g c =
     let w = c.args.window.now in let log = w.sight.log in let key = c.args.key in let b = begun_of w.book.now.parts in
     let name = w.book.now.begun.book in let met = c.args.live in let p = met.stored in
-    let write = Writing (record { place = met.place; old = met.word }) in let show = Showing (record { place = met.place; word = met.word }) in
+    let write = Writing (record { place = met.place; old = met.word }) in let call_closure = Showing (record { place = met.place; word = met.word }) in
     let table = c.args.table.now in
     record {
       does = record {
@@ -308,7 +308,7 @@ returns g c =
         made = sym (append-nil (own w));
         refused = λ cause e. absurd (cc e);
         right = λ begun found.
-            let there = found Computes show refl in
+            let there = found Computes call_closure refl in
             let was = pair_found g.K.PartialEq.eq g.K.Hash.hash_input g.S.BuildHasher.build_hasher g.S.Hasher.Hasher.write g.S.Hasher.Hasher.finish
             g.met.K.Eq.laws g.met.K.Hash.respects_eq b name key begun log table met.place met.word p there in
             aborts g.K.PartialEq.eq key _ _ (Some p) was c.args.operation c.in-Abort.with c.in-Abort.is;
@@ -317,13 +317,13 @@ returns g c =
       };
     }
 
-pub log_by_waiting-requires : goal.log_by_waiting-requires
-log_by_waiting-requires g c =
+pub store_by_waiting-requires : goal.store_by_waiting-requires
+store_by_waiting-requires g c =
     let w = c.args.window.now in let log = w.sight.log in let key = c.args.key in let b = begun_of w.book.now.parts in
-    let name = w.book.now.begun.book in let met = c.args.live in let p = met.stored in let show = Showing (record { place = met.place; word = met.word }) in
+    let name = w.book.now.begun.book in let met = c.args.live in let p = met.stored in let call_closure = Showing (record { place = met.place; word = met.word }) in
     let led = c.requires.led in
     let at_hand = pair_placed g.K.PartialEq.eq g.K.Hash.hash_input g.S.BuildHasher.build_hasher g.S.Hasher.Hasher.write g.S.Hasher.Hasher.finish
-    g.met.K.Eq.laws g.met.K.Hash.respects_eq b name key led.0 log c.args.table.now met.place met.word p (led.1.found Computes show refl) in
+    g.met.K.Eq.laws g.met.K.Hash.respects_eq b name key led.0 log c.args.table.now met.place met.word p (led.1.found Computes call_closure refl) in
     let same = c.again.ensures ∙ ap (λ (z : Met _ _). z.stored) c.met.ensures in
     let then : IsIn c.replace.new.window.book.now (names.Pair p) = rw c.replace.ensures.tried.sees.book at_hand in
     let of = subst (λ (z : Stored _ _). IsIn c.replace.new.window.book.now (names.Pair z)) (sym same) then in (of.0, of.1)

@@ -1,14 +1,14 @@
 use Rattle.std.proofs.Common.{refl}
 use Rattle.papaya_map_lookup.proofs.Histories.{history_since}
 use Rattle.papaya_map_compute.specs.ComputeAnswers.{changes}
-use Rattle.papaya_map_compute.specs.Operating.{Shows}
+use Rattle.papaya_map_compute.specs.Operating.{CallsClosure}
 use Rattle.papaya_map_compute.proofs.Endings.{ended_since}
 use Rattle.papaya_map_compute.proofs.FastPath.{on_ends, on_starts, over_ends, over_right, over_tells}
 use Rattle.papaya_map_compute.proofs.operating.compute.Goals as goal
 
 pub returns-in-Over-clause-ended : goal.returns-in-Over-clause-ended
 returns-in-Over-clause-ended g c = let l = c.learn.ensures in let a = c.args in let at = c.fast-first in
-    ended_since g.K.PartialEq.eq a.key _ _ _ (Shows g.A.Operator.operates) a.op.now at.new.op _ (history_since a.window.now.sight.log _ l.sees.log)
+    ended_since g.K.PartialEq.eq a.key _ _ _ (CallsClosure g.A.Operator.operates) a.op.now at.new.op _ (history_since a.window.now.sight.log _ l.sees.log)
     (over_right changes a.window.now c.learn.new.self at.new.window l.sees _ _ _ at.ensures.comes c.in-Over.answer c.in-Over.is)
 
 pub slow-answer-requires : goal.slow-answer-requires
@@ -30,7 +30,7 @@ slow-answer-requires g c = let l = c.learn.ensures in let a = c.args in let at =
 
 pub returns-in-On-clause-ended : goal.returns-in-On-clause-ended
 returns-in-On-clause-ended g c = let l = c.learn.ensures in let a = c.args in let at = c.fast-first in
-    ended_since g.K.PartialEq.eq a.key _ _ _ (Shows g.A.Operator.operates) a.op.now c.slow-answer.new.op _ (history_since a.window.now.sight.log _ l.sees.log)
+    ended_since g.K.PartialEq.eq a.key _ _ _ (CallsClosure g.A.Operator.operates) a.op.now c.slow-answer.new.op _ (history_since a.window.now.sight.log _ l.sees.log)
     (c.slow-answer.ensures.ended c.learn.new.self a.key a.op.now
     (on_starts changes a.window.now c.learn.new.self at.new.window l.sees _ _ _ at.ensures.comes c.in-On.start c.in-On.is))
 

@@ -7,43 +7,43 @@ use Rattle.papaya_map_lookup.specs.Drivers.{past}
 use Rattle.papaya_map_lookup.specs.declared.lookup.Met.{Met}
 use Rattle.papaya_map_change.specs.declared.fast_path.ProbeHit.{ProbeHit}
 use Rattle.papaya_map_change.specs.Seeking.{Computes}
-use Rattle.papaya_map_change.specs.Showings.{AreOf}
+use Rattle.papaya_map_change.specs.ClosureCalls.{AreOf}
 use Rattle.papaya_map_change.specs.declared.fast_path.ProbeHit.TheVariants.{Empty, Met as MetPair}
 use Rattle.papaya_map_compute.specs.ComputeAnswers.{changes}
-use Rattle.papaya_map_compute.specs.FastPath.{DoesAtOnce, IsLed}
+use Rattle.papaya_map_compute.specs.FastPath.{DoesAtOnce, IsSearchEnd}
 use Rattle.papaya_map_compute.proofs.FastPath.{comes_asked_nothing, comes_once}
 use Rattle.papaya_map_compute.proofs.Endings.{ended_once}
-use Rattle.papaya_map_compute.specs.Operating.{Shows}
+use Rattle.papaya_map_compute.specs.Operating.{CallsClosure}
 use Rattle.papaya_map_compute.proofs.Found.{pair_placed}
 use Rattle.papaya_map_compute.proofs.operating.fast.Goals as goal
 
 pub returns-in_default-clause-comes : goal.returns-in_default-clause-comes
 returns-in_default-clause-comes g c =
-    comes_asked_nothing changes c.args.window.now _ _ c.look.new.window _ c.look.ensures.looked ([], ((refl, refl), c.look.ensures.looked.log, tt), refl)
+    comes_asked_nothing changes c.args.window.now _ _ c.search_root.new.window _ c.search_root.ensures.looked ([], ((refl, refl), c.search_root.ensures.looked.log, tt), refl)
 
 pub returns-in_default-turn-clause-comes : goal.returns-in_default-turn-clause-comes
 returns-in_default-turn-clause-comes g c =
-    comes_asked_nothing changes c.args.window.now _ _ c.look.new.window _ c.look.ensures.looked ([], ((refl, refl), c.look.ensures.looked.log, tt), refl)
+    comes_asked_nothing changes c.args.window.now _ _ c.search_root.new.window _ c.search_root.ensures.looked ([], ((refl, refl), c.search_root.ensures.looked.log, tt), refl)
 
 pub fill-filled-requires : goal.fill-filled-requires
 fill-filled-requires g c =
-    let log = c.args.window.now.sight.log in let mid = c.look.new.window in let spot = c.in-Some.spot in
-    let led = subst (λ (z : ProbeHit _). IsLed mid c.args.key c.hash-hash.result log spot.table.now z) c.in-Empty.is (c.look.ensures.led spot c.in-Some.is) in
+    let log = c.args.window.now.sight.log in let mid = c.search_root.new.window in let spot = c.in-Some.spot in
+    let led = subst (λ (z : ProbeHit _). IsSearchEnd mid c.args.key c.hash-hash.result log spot.table.now z) c.in-Empty.is (c.search_root.ensures.led spot c.in-Some.is) in
     record { led = (log, led) }
 
 pub returns-in-Empty-clause-comes : goal.returns-in-Empty-clause-comes
 returns-in-Empty-clause-comes g c =
-    let w = c.args.window.now in let log = w.sight.log in let key = c.args.key in let mid = c.look.new.window in let spot = c.in-Some.spot in
-    let led = subst (λ (z : ProbeHit _). IsLed mid key c.hash-hash.result log spot.table.now z) c.in-Empty.is (c.look.ensures.led spot c.in-Some.is) in
+    let w = c.args.window.now in let log = w.sight.log in let key = c.args.key in let mid = c.search_root.new.window in let spot = c.in-Some.spot in
+    let led = subst (λ (z : ProbeHit _). IsSearchEnd mid key c.hash-hash.result log spot.table.now z) c.in-Empty.is (c.search_root.ensures.led spot c.in-Some.is) in
     let then = c.fill-filled.new.window in let done = c.operate-operation.result in let left = c.operate-operation.new.op in
-    let says = Shows g.A.Operator.operates in let said : says c.args.op.now None done left = (None, tt, c.operate-operation.ensures.operates) in
-    comes_once w mid then c.look.ensures.looked key c.hash-hash.result spot.table.now _ led says c.args.op.now left done said _
+    let says = CallsClosure g.A.Operator.operates in let said : says c.args.op.now None done left = (None, tt, c.operate-operation.ensures.operates) in
+    comes_once w mid then c.search_root.ensures.looked key c.hash-hash.result spot.table.now _ led says c.args.op.now left done said _
     (ended_once g.K.PartialEq.eq key (past w) (past then) says c.args.op.now left None done said None refl) _ c.fill-filled.ensures.does
 
 pub renew-renewed-requires-clause-led : goal.renew-renewed-requires-clause-led
 renew-renewed-requires-clause-led g c =
-    let log = c.args.window.now.sight.log in let mid = c.look.new.window in let spot = c.in-Some.spot in
-    let led = subst (λ (z : ProbeHit _). IsLed mid c.args.key c.hash-hash.result log spot.table.now z) c.in-Met.is (c.look.ensures.led spot c.in-Some.is) in
+    let log = c.args.window.now.sight.log in let mid = c.search_root.new.window in let spot = c.in-Some.spot in
+    let led = subst (λ (z : ProbeHit _). IsSearchEnd mid c.args.key c.hash-hash.result log spot.table.now z) c.in-Met.is (c.search_root.ensures.led spot c.in-Some.is) in
     rw c.in-Met.live-is (log, led)
 
 pub renew-renewed-requires-clause-shown : goal.renew-renewed-requires-clause-shown
@@ -51,26 +51,26 @@ renew-renewed-requires-clause-shown g c = (c.entry-old.ensures.key ∙ ap (λ p.
 
 pub returns-in-Met-clause-comes : goal.returns-in-Met-clause-comes
 returns-in-Met-clause-comes g c =
-    let w = c.args.window.now in let log = w.sight.log in let key = c.args.key in let mid = c.look.new.window in let spot = c.in-Some.spot in
-    let led = subst (λ (z : ProbeHit _). IsLed mid key c.hash-hash.result log spot.table.now z) c.in-Met.is (c.look.ensures.led spot c.in-Some.is) in
+    let w = c.args.window.now in let log = w.sight.log in let key = c.args.key in let mid = c.search_root.new.window in let spot = c.in-Some.spot in
+    let led = subst (λ (z : ProbeHit _). IsSearchEnd mid key c.hash-hash.result log spot.table.now z) c.in-Met.is (c.search_root.ensures.led spot c.in-Some.is) in
     let then = c.renew-renewed.new.window in let done = c.operate-again.result in let left = c.operate-again.new.op in let held = Some c.in-Met.live.stored in
     let are : AreOf c.entry-old.result c.in-Met.live.stored = (
       c.entry-old.ensures.key ∙ (ap (λ p. p.key.value) c.pair.ensures ∙ ap (λ (z : Met _ _). z.stored.value.key.value) c.in-Met.live-is),
       c.entry-old.ensures.value ∙ (ap (λ p. p.value) c.pair.ensures ∙ ap (λ (z : Met _ _). z.stored.value.value) c.in-Met.live-is),
     ) in
-    let says = Shows g.A.Operator.operates in let said : says c.args.op.now held done left = (Some c.entry-old.result, are, c.operate-again.ensures.operates) in
-    comes_once w mid then c.look.ensures.looked key c.hash-hash.result spot.table.now _ led says c.args.op.now left done said _
+    let says = CallsClosure g.A.Operator.operates in let said : says c.args.op.now held done left = (Some c.entry-old.result, are, c.operate-again.ensures.operates) in
+    comes_once w mid then c.search_root.ensures.looked key c.hash-hash.result spot.table.now _ led says c.args.op.now left done said _
     (ended_once g.K.PartialEq.eq key (past w) (past then) says c.args.op.now left held done said (Some c.entry-old.result.1) (ap (λ v. Some v) are.1)) _
     (subst (λ (z : Met _ _). DoesAtOnce mid then key spot.table.now (MetPair z) done c.renew-renewed.result) c.in-Met.live-is c.renew-renewed.ensures.does)
 
 pub entry-old-requires : goal.entry-old-requires
 entry-old-requires g c =
-    let w = c.args.window.now in let log = w.sight.log in let key = c.args.key in let mid = c.look.new.window in let spot = c.in-Some.spot in
-    let led = subst (λ (z : ProbeHit _). IsLed mid key c.hash-hash.result log spot.table.now z) c.in-Met.is (c.look.ensures.led spot c.in-Some.is) in
+    let w = c.args.window.now in let log = w.sight.log in let key = c.args.key in let mid = c.search_root.new.window in let spot = c.in-Some.spot in
+    let led = subst (λ (z : ProbeHit _). IsSearchEnd mid key c.hash-hash.result log spot.table.now z) c.in-Met.is (c.search_root.ensures.led spot c.in-Some.is) in
     let met = c.in-Met.live in let p = met.stored in
     let there = pair_placed g.K.PartialEq.eq g.K.Hash.hash_input g.S.BuildHasher.build_hasher g.S.Hasher.Hasher.write g.S.Hasher.Hasher.finish
     g.met.K.Eq.laws g.met.K.Hash.respects_eq (begun_of mid.book.now.parts) mid.book.now.begun.book key log mid.sight.log spot.table.now met.place
     met.word p (led.found Computes (Showing (record { place = met.place; word = met.word })) refl) in
-    let placed = subst (λ (k : _). IsPlaced (begun_of k.now.parts) (Some k.now.begun.book) (names.Pair p)) c.look.ensures.looked.book there in
+    let placed = subst (λ (k : _). IsPlaced (begun_of k.now.parts) (Some k.now.begun.book) (names.Pair p)) c.search_root.ensures.looked.book there in
     let there = subst (λ (z : Met _ _). IsPlaced (begun_of w.book.now.parts) (Some w.book.now.begun.book) (names.Pair z.stored)) (sym c.in-Met.live-is) placed in
     rw c.pair.ensures (record { key = there.1; value = there.2 })

@@ -4,7 +4,7 @@ use denote.Bor.{Bor}
 use Rattle.papaya_call.specs.declared.machine.State.TheVariants.{Searching}
 use Rattle.papaya_call.specs.declared.search.Search.TheVariants.{Looking}
 use Rattle.papaya_map_book.proofs.Logs.{prefix_trans}
-use Rattle.papaya_map_lookup.specs.Lookups.{led_to, left_of}
+use Rattle.papaya_map_lookup.specs.Lookups.{next_stage, left_of}
 use Rattle.papaya_map_lookup.specs.declared.lookup.Met.{Met}
 use Rattle.papaya_map_lookup.specs.declared.lookup.ProbeHit.{ProbeHit}
 use Rattle.papaya_map_lookup.specs.declared.lookup.ProbeHit.TheVariants as turns
@@ -106,8 +106,8 @@ loop-held-smaller g c =
     c.search.new.window.sight.log c.next-next.new.self.sight.log c.next-next.ensures.sees.log c.in-Some.table.now c.in-Over.passed
     c.in-Incremental.field-0 c.in-Incremental.is turned c.next-next.result.0 c.next-next.result.1 c.next-next.ensures.next in
     let mode = c.search.new.window.book.now.parts.mode in
-    let less : left_of (numbered c.next-next.result.0) < left_of (led_to mode 0 c.search.result) = rw c.in-Over.is next.2 in
-    let most : left_of (led_to mode 0 c.search.result) ≤ left_of (Searching (Looking c.first-first.result)) = rw c.search.ensures.sees.book
+    let less : left_of (numbered c.next-next.result.0) < left_of (next_stage mode 0 c.search.result) = rw c.in-Over.is next.2 in
+    let most : left_of (next_stage mode 0 c.search.result) ≤ left_of (Searching (Looking c.first-first.result)) = rw c.search.ensures.sees.book
     c.search.ensures.fewer in
     let before : left_of (Searching (Looking c.first-first.result)) < left_of (numbered l.number) = first.1 in
     let done : left_of (numbered c.next-next.result.0) < left_of (numbered l.number) = omega (arith, less, most, before) in done

@@ -2,21 +2,21 @@ use Rattle.std.proofs.Common.{◌<◌, refl, sym, ◌∙◌, subst, arith}
 use Rattle.papaya_call.specs.declared.machine.State.TheVariants.{Searching}
 use Rattle.papaya_call.specs.declared.search.Search.TheVariants.{Looking}
 use Rattle.papaya_map_book.proofs.Windows.{observed, observes_trans, sees_trans}
-use Rattle.papaya_map_lookup.specs.Lookups.{led_to, left_of}
+use Rattle.papaya_map_lookup.specs.Lookups.{next_stage, left_of}
 use Rattle.papaya_map_lookup.proofs.lookup.search.Goals as goal
 
-pub look_at-requires-clause-within : goal.look_at-requires-clause-within
-look_at-requires-clause-within g c = let r = c.requires.reads in (c.loop-next.invariant.0 r.0 r.1).within c.loop-next.place refl
+pub probe_at-requires-clause-within : goal.probe_at-requires-clause-within
+probe_at-requires-clause-within g c = let r = c.requires.reads in (c.loop-next.invariant.0 r.0 r.1).within c.loop-next.place refl
 
-pub look_at-requires-clause-reads : goal.look_at-requires-clause-reads
-look_at-requires-clause-reads g c =
+pub probe_at-requires-clause-reads : goal.probe_at-requires-clause-reads
+probe_at-requires-clause-reads g c =
     let r = c.requires.reads in let t = c.loop-next.invariant.0 r.0 r.1 in
     (r.0, (t.lent, t.lent_is, t.pair, t.reading))
 
 pub loop-next-preserved : goal.loop-next-preserved
 loop-next-preserved g c =
-    let looked = c.look_at.ensures in let inv = c.loop-next.invariant in
-    let less = subst (λ z. left_of (led_to c.loop-next.window.book.now.parts.mode 0 z) < left_of (Searching (Looking c.loop-next.place))) c.in-Next.is
+    let looked = c.probe_at.ensures in let inv = c.loop-next.invariant in
+    let less = subst (λ z. left_of (next_stage c.loop-next.window.book.now.parts.mode 0 z) < left_of (Searching (Looking c.loop-next.place))) c.in-Next.is
     looked.fewer in
     let most = inv.1 in (
       λ began reading. let t = inv.0 began reading in rw (sym c.in-Next.is) (looked.leads began (t.lent, t.lent_is, t.pair, t.reading)),
@@ -27,8 +27,8 @@ loop-next-preserved g c =
 
 pub returns-in_default : goal.returns-in_default
 returns-in_default g c =
-    let looked = c.look_at.ensures in let inv = c.loop-next.invariant in
-    let less = subst (λ (z : _). left_of (led_to z.now.parts.mode 0 c.look_at.result) < left_of (Searching (Looking c.loop-next.place))) inv.2.book
+    let looked = c.probe_at.ensures in let inv = c.loop-next.invariant in
+    let less = subst (λ (z : _). left_of (next_stage z.now.parts.mode 0 c.probe_at.result) < left_of (Searching (Looking c.loop-next.place))) inv.2.book
     looked.fewer in
     let most = inv.1 in
     record {

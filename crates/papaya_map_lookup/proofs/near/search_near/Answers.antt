@@ -1,7 +1,7 @@
 use Rattle.std.proofs.Common.{MatchOption, None, refl, subst}
 use denote.Bor.{Bor}
 use Rattle.papaya_call.specs.declared.search.Place.{Place}
-use Rattle.papaya_map_lookup.specs.Lookups.{turn_near}
+use Rattle.papaya_map_lookup.specs.Lookups.{hit_in_root}
 use Rattle.papaya_map_lookup.specs.declared.lookup.Met.{Met}
 use Rattle.papaya_map_lookup.specs.declared.near.RootHit.{RootHit}
 use Rattle.papaya_map_lookup.specs.declared.lookup.ProbeHit.{ProbeHit}
@@ -39,7 +39,7 @@ search_table-requires-clause-reads g c =
     (c.learn.new.self.sight.log, rw root.ensures.sees.book first.0)
 
 -- and so did the last place
-near_last : (g : Over) (c : After-search_table g) → (last : Place) × MatchOption (turn_near last c.search_table.result) (Unit {0}) (TurnedTo g c)
+near_last : (g : Over) (c : After-search_table g) → (last : Place) × MatchOption (hit_in_root last c.search_table.result) (Unit {0}) (TurnedTo g c)
 near_last g c =
     let root = c.root-number in let size = c.size-len in
     let reading = root_held g.K.PartialEq.eq g.K.Hash.hash_input g.S.BuildHasher.build_hasher g.S.Hasher.Hasher.write g.S.Hasher.Hasher.finish
@@ -56,11 +56,11 @@ near_last g c =
 -- it met the pair, or none is there
 turned_found : (g : Over) (c : In-Found g) → TurnedTo g (goal.at.In-Found g c).After-search_table (turns.Found c.in-Found._met c.in-Found.entry)
 turned_found g c = let at = (goal.at.In-Found g c).After-search_table in let n = near_last g at in
-    subst (λ (z : RootHit _ _). MatchOption (turn_near n.0 z) (Unit {0}) (TurnedTo g at)) c.in-Found.is n.1
+    subst (λ (z : RootHit _ _). MatchOption (hit_in_root n.0 z) (Unit {0}) (TurnedTo g at)) c.in-Found.is n.1
 
 turned_absent : (g : Over) (c : In-Absent g) → TurnedTo g (goal.at.In-Absent g c).After-search_table turns.Absent
 turned_absent g c = let at = (goal.at.In-Absent g c).After-search_table in let n = near_last g at in
-    subst (λ (z : RootHit _ _). MatchOption (turn_near n.0 z) (Unit {0}) (TurnedTo g at)) c.in-Absent.is n.1
+    subst (λ (z : RootHit _ _). MatchOption (hit_in_root n.0 z) (Unit {0}) (TurnedTo g at)) c.in-Absent.is n.1
 
 pub returns-in-Found-clause-lawful : goal.returns-in-Found-clause-lawful
 returns-in-Found-clause-lawful g c = (turned_found g (goal.at.returns-in-Found-clause-lawful g c).In-Found).reading.lawful

@@ -6,7 +6,7 @@ use Rattle.papaya_map_book.specs.Hashes.{hash_of}
 use Rattle.papaya_map_book.specs.Logs.{exchanges_of}
 use Rattle.papaya_map_book.specs.Parts.{begun_of}
 use Rattle.papaya_map_book.specs.Windows.{Sees}
-use Rattle.papaya_map_lookup.specs.Lookups.{IsReadingAt, IsTurned}
+use Rattle.papaya_map_lookup.specs.Lookups.{IsReadingAt, IsNextStage}
 use Rattle.papaya_map_lookup.specs.declared.lookup.ProbeHit.TheVariants.{Next}
 use Rattle.papaya_map_lookup.proofs.near.search_slots.Given as goal
 
@@ -18,7 +18,7 @@ invariant-loop-turned g l =
     (begun_of l.fn.window.book.now.parts) (g.Q.Equivalent.matches l.key)
     (hash_of g.Q.Hash.hash_input g.S.BuildHasher.build_hasher g.S.Hasher.Hasher.write g.S.Hasher.Hasher.finish l.fn.window.book.now.parts.hasher l.key)
     (exchanges_of began) l.hash l.fn.window.sight.log (Searching (Looking l.fn.at)) l.table
-    → IsTurned g.K.PartialEq.eq (hash_of g.K.Hash.hash_input g.S.BuildHasher.build_hasher g.S.Hasher.Hasher.write g.S.Hasher.Hasher.finish)
+    → IsNextStage g.K.PartialEq.eq (hash_of g.K.Hash.hash_input g.S.BuildHasher.build_hasher g.S.Hasher.Hasher.write g.S.Hasher.Hasher.finish)
     (begun_of l.window.book.now.parts) l.window.book.now.begun.book (g.Q.Equivalent.matches l.key)
     (hash_of g.Q.Hash.hash_input g.S.BuildHasher.build_hasher g.S.Hasher.Hasher.write g.S.Hasher.Hasher.finish l.window.book.now.parts.hasher l.key)
     (exchanges_of began) l.hash l.window.sight.log l.table (Next l.place))

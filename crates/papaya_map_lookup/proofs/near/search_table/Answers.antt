@@ -8,7 +8,7 @@ use Rattle.papaya_map_lookup.proofs.near.search_table.Goals as goal
 
 pub returns-in_default : goal.returns-in_default
 returns-in_default g c =
-    let looked = c.look_at_place.ensures in
+    let looked = c.probe_place.ensures in
     record {
       sees = looked.sees;
       ends = c.in_default.not-On;
@@ -40,7 +40,7 @@ search_slots-requires-clause-reads g c =
     (λ (n : ℕ). IsPowerOfTwo n → c.next.new.self.i ≡ (at.probe.i + at.probe.len + 1) % n) slots c.next.ensures.place within.size.power in
     let is : record at { probe = c.next.new.self } ≡ next_place at = search (rules, next) in
     let r = c.requires.reads in
-    let t = went_on _ at _ c.look_at_place.result c.in-On.is more is (c.look_at_place.ensures.near r.0 r.1) in
+    let t = went_on _ at _ c.probe_place.result c.in-On.is more is (c.probe_place.ensures.near r.0 r.1) in
     (r.0, (t.lent, t.lent_is, t.pair, t.reading))
 
 pub returns-clause-near : goal.returns-clause-near
@@ -51,5 +51,5 @@ returns-clause-near g c = λ began reading.
     let next : c.next.new.self.i ≡ (at.probe.i + at.probe.len + 1) % at.len = subst
     (λ (n : ℕ). IsPowerOfTwo n → c.next.new.self.i ≡ (at.probe.i + at.probe.len + 1) % n) slots c.next.ensures.place within.size.power in
     let is : record at { probe = c.next.new.self } ≡ next_place at = search (rules, next) in
-    let t = went_on _ at _ c.look_at_place.result c.in-On.is more is (c.look_at_place.ensures.near began reading) in
+    let t = went_on _ at _ c.probe_place.result c.in-On.is more is (c.probe_place.ensures.near began reading) in
     c.search_slots.ensures.near began (t.lent, t.lent_is, t.pair, t.reading)

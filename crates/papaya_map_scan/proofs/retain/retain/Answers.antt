@@ -9,7 +9,7 @@ use Rattle.papaya_map_book.specs.Windows.{IsTable}
 use Rattle.papaya_map_book.proofs.Logs.{prefix_trans}
 use Rattle.papaya_map_book.proofs.Windows.{observed, sees_trans}
 use Rattle.papaya_map_lookup.specs.Drivers.{own}
-use Rattle.papaya_map_change.specs.Showings.{Judges}
+use Rattle.papaya_map_change.specs.ClosureCalls.{Judges}
 use Rattle.papaya_map_scan.specs.TableScans.{Scans}
 use Rattle.papaya_map_scan.specs.Taking.{IsTaken, IsTakenAt}
 use Rattle.papaya_map_scan.proofs.TableScans.{shown_on, table_on}

@@ -12,7 +12,7 @@ use Rattle.papaya_map_book.specs.Rule.{IsLawfulLog}
 use Rattle.papaya_map_book.proofs.Windows.{observed, sees_trans}
 use Rattle.papaya_map_lookup.specs.Drivers.{own}
 use Rattle.papaya_map_lookup.specs.History.{history_of}
-use Rattle.papaya_map_change.specs.Showings.{Judges}
+use Rattle.papaya_map_change.specs.ClosureCalls.{Judges}
 use Rattle.papaya_map_scan.specs.Meeting.{HadPair, has_pair}
 use Rattle.papaya_map_scan.proofs.TableScans.{scans_none, scans_on, scans_stopped, table_on, taken_on}
 use Rattle.papaya_map_scan.proofs.Scanning.{burial_done, other_word, same_word, so_kept, so_past, so_shown, so_buried, some_same}
@@ -43,8 +43,8 @@ returns-in-Empty-clause-scans g c = λ began taken.
     (own c.loop.window) c.loop.stays c.args.place c.loop.word c.loop.pair c.loop.invariant.stands (c.loop.invariant.scans began taken) (false ≡ false)
     (ap has_pair (sym c.kind.ensures) ∙ past)
 
-pub returns-then-show-clause-scans : goal.returns-then-show-clause-scans
-returns-then-show-clause-scans g c = λ began taken.
+pub returns-then-call_closure-clause-scans : goal.returns-then-call_closure-clause-scans
+returns-then-call_closure-clause-scans g c = λ began taken.
     let live : kind_of c.loop.word ≡ kinds.Live = sym c.kind.ensures ∙ c.in-Live.is in
     let met = (c.loop.invariant.met began taken).had (ap has_pair live) in
     let same = some_same met.0 c.in-Some-pair.stored (sym met.1 ∙ c.in-Some-pair.is) in
@@ -53,7 +53,7 @@ returns-then-show-clause-scans g c = λ began taken.
     g.met.K.Hash.respects_eq (begun_of c.args.window.now.book.now.parts) (Judges g.F.FnMut) began c.args.window.now.sight.log
     (own c.args.window.now) c.args.stays.now c.args.number c.args.window.now.book.now.begun.book c.loop.window.sight.log c.loop.invariant.sees.log
     (own c.loop.window) c.loop.stays c.args.place c.loop.word c.loop.pair c.loop.invariant.stands (c.loop.invariant.scans began taken) live c.in-Some-pair.stored
-    c.in-Some-pair.is had c.show.new.stays (false ≡ false) (subst (λ (b : Bool). Judges g.F.FnMut c.loop.stays c.in-Some-pair.stored b c.show.new.stays) c.if-show.true c.show.ensures.shown)
+    c.in-Some-pair.is had c.call_closure.new.stays (false ≡ false) (subst (λ (b : Bool). Judges g.F.FnMut c.loop.stays c.in-Some-pair.stored b c.call_closure.new.stays) c.if-call_closure.true c.call_closure.ensures.shown)
 
 pub bury-found-requires-clause-table : goal.bury-found-requires-clause-table
 bury-found-requires-clause-table g c = table_on c.args.window.now c.loop.window c.args.number c.args.table.now c.loop.invariant.sees c.requires.table
@@ -88,7 +88,7 @@ returns-then-found-word-clause-scans g c = λ began taken.
     g.met.K.Hash.respects_eq (begun_of c.args.window.now.book.now.parts) (Judges g.F.FnMut) began c.args.window.now.sight.log
     (own c.args.window.now) c.args.stays.now c.args.number c.args.window.now.book.now.begun.book c.loop.window.sight.log c.loop.invariant.sees.log
     (own c.loop.window) c.loop.stays c.args.place c.loop.word c.loop.pair c.loop.invariant.stands (c.loop.invariant.scans began taken) live c.in-Some-pair.stored
-    c.in-Some-pair.is had c.show.new.stays (false ≡ false) (subst (λ (b : Bool). Judges g.F.FnMut c.loop.stays c.in-Some-pair.stored b c.show.new.stays) c.if-show.false c.show.ensures.shown)
+    c.in-Some-pair.is had c.call_closure.new.stays (false ≡ false) (subst (λ (b : Bool). Judges g.F.FnMut c.loop.stays c.in-Some-pair.stored b c.call_closure.new.stays) c.if-call_closure.false c.call_closure.ensures.shown)
     then'.sight.log c.bury-found.ensures.sees.log lawful
     (c.bury-found.ensures.buried stood) (own then')
     (λ r. burial_done then'.sight.log c.args.number c.args.place c.in-Some-pair.stored r c.loop.window.own.done then'.own.done does)
@@ -102,7 +102,7 @@ loop-preserved g c =
     let does = subst (λ (b : Bool). then'.own.done ≡ c.loop.window.own.done ++ last_if b (steps_of then'.sight.log)) lost c.bury-found.ensures.does
     in record {
       sees = sees_trans c.args.window.now c.loop.window then' c.loop.invariant.sees c.bury-found.ensures.sees;
-      callable = c.show.ensures.callable;
+      callable = c.call_closure.ensures.callable;
       stands = subst (λ (z : Bor (Book _ _ _ _)).
           IsSlot g.K.PartialEq.eq hash (begun_of z.now.parts) z.now.begun.book c.args.number c.args.place c.bury-found.result.0 then'.sight.log
           c.bury-found.result.1) c.loop.invariant.sees.book (c.bury-found.ensures.found lost);
@@ -111,13 +111,13 @@ loop-preserved g c =
           let met = (c.loop.invariant.met began taken).had (ap has_pair live) in
           let same = some_same met.0 c.in-Some-pair.stored (sym met.1 ∙ c.in-Some-pair.is) in
           let had = subst (λ (p : Stored _ _). HadPair g.K.PartialEq.eq (history_of began) (history_of c.loop.window.sight.log) p) same met.2 in
-          scans_on began (Judges g.F.FnMut) c.args.number c.args.window.now c.loop.window then' c.args.stays.now c.show.new.stays
+          scans_on began (Judges g.F.FnMut) c.args.number c.args.window.now c.loop.window then' c.args.stays.now c.call_closure.new.stays
           c.args.place c.args.place (Unit {0})
           (so_shown g.K.PartialEq.eq g.K.Hash.hash_input g.S.BuildHasher.build_hasher g.S.Hasher.Hasher.write g.S.Hasher.Hasher.finish g.met.K.Eq.laws
           g.met.K.Hash.respects_eq (begun_of c.args.window.now.book.now.parts) (Judges g.F.FnMut) began c.args.window.now.sight.log
           (own c.args.window.now) c.args.stays.now c.args.number c.args.window.now.book.now.begun.book c.loop.window.sight.log
           c.loop.invariant.sees.log (own c.loop.window) c.loop.stays c.args.place c.loop.word c.loop.pair c.loop.invariant.stands
-          (c.loop.invariant.scans began taken) live c.in-Some-pair.stored c.in-Some-pair.is had c.show.new.stays
-          (subst (λ (b : Bool). Judges g.F.FnMut c.loop.stays c.in-Some-pair.stored b c.show.new.stays) c.if-show.false c.show.ensures.shown))
+          (c.loop.invariant.scans began taken) live c.in-Some-pair.stored c.in-Some-pair.is had c.call_closure.new.stays
+          (subst (λ (b : Bool). Judges g.F.FnMut c.loop.stays c.in-Some-pair.stored b c.call_closure.new.stays) c.if-call_closure.false c.call_closure.ensures.shown))
           c.bury-found.ensures.sees (does ∙ append-nil c.loop.window.own.done);
     }

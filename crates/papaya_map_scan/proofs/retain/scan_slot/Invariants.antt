@@ -1,5 +1,5 @@
 use Rattle.papaya_map_book.specs.Windows.{IsSlot, Sees}
-use Rattle.papaya_map_change.specs.Showings.{Judges}
+use Rattle.papaya_map_change.specs.ClosureCalls.{Judges}
 use Rattle.papaya_map_scan.specs.TableScans.{IsMet, IsTaken, Scans}
 use Rattle.papaya_map_scan.proofs.retain.scan_slot.Given as goal
 

@@ -1,6 +1,6 @@
 use Rattle.std.proofs.Common.{◌≡◌, ℕ, suc, ◌+◌, true, false, length, arith, subst}
 use Rattle.papaya_map_book.proofs.Windows.{sees_trans}
-use Rattle.papaya_map_change.specs.Showings.{Judges}
+use Rattle.papaya_map_change.specs.ClosureCalls.{Judges}
 use Rattle.papaya_map_scan.specs.TableScans.{Scans}
 use Rattle.papaya_map_scan.proofs.TableScans.{scans_ended, scans_stopped, scans_then, table_on, taken_on}
 use Rattle.papaya_map_scan.proofs.retain.scan_table.Goals as goal

@@ -1,5 +1,5 @@
 use Rattle.papaya_map_book.specs.Windows.{Sees}
-use Rattle.papaya_map_change.specs.Showings.{Judges}
+use Rattle.papaya_map_change.specs.ClosureCalls.{Judges}
 use Rattle.papaya_map_scan.specs.TableScans.{IsTaken, Scans}
 use Rattle.papaya_map_scan.proofs.retain.scan_table.Given as goal
 

@@ -1,5 +1,5 @@
 use Rattle.std.proofs.Common.{◌≡◌, ◌++◌, ◌≤◌, length, reverse}
-use Rattle.papaya_run_lines.specs.Told.{gave_to, pairs_in}
+use Rattle.papaya_run_lines.specs.LineOutput.{gave_to, pairs_in}
 use Rattle.papaya_run_lines.proofs.replies.given.Given as goal
 
 abbrev pub invariant-loop-left : goal.invariant-loop-left

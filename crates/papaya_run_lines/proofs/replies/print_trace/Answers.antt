@@ -1,6 +1,6 @@
 use Rattle.std.proofs.Common.{◌+◌, ◌∙◌, List, ap, drop_of_length-le, slice_index_or, subst, sym}
 use Rattle.papaya_core_timeline.specs.declared.trace.Entry.{Entry}
-use Rattle.papaya_run_lines.specs.Told.{call_of, no_calls, own_of, reply_among, with_call}
+use Rattle.papaya_run_lines.specs.LineOutput.{call_of, no_calls, own_of, reply_among, with_call}
 use Rattle.papaya_run_lines.specs.declared.script.Line.{Line}
 use Rattle.papaya_run_lines.specs.declared.script.LinePart.{LinePart}
 use Rattle.papaya_run_lines.specs.declared.script.LinePart.TheVariants.{Update}

@@ -1,4 +1,4 @@
-use Rattle.papaya_run_lines.specs.Told.{no_calls}
+use Rattle.papaya_run_lines.specs.LineOutput.{no_calls}
 use Rattle.papaya_run_lines.proofs.ToldLemmas.{SoFar}
 use Rattle.papaya_run_lines.proofs.replies.print_trace.Given as goal
 

@@ -1,5 +1,5 @@
 use Rattle.std.proofs.Common.{◌≡◌, drop}
-use Rattle.papaya_run_lines.specs.Told.{reply_among}
+use Rattle.papaya_run_lines.specs.LineOutput.{reply_among}
 use Rattle.papaya_run_lines.proofs.replies.reply_of.Given as goal
 
 abbrev pub invariant-loop-entry : goal.invariant-loop-entry

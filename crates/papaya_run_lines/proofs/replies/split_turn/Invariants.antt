@@ -1,5 +1,5 @@
 use Rattle.std.proofs.Common.{◌≡◌, ◌++◌, ◌-◌, ◌≤◌, drop, length, take}
-use Rattle.papaya_run_lines.specs.Told.{behind, own_of}
+use Rattle.papaya_run_lines.specs.LineOutput.{behind, own_of}
 use Rattle.papaya_run_lines.proofs.replies.split_turn.Given as goal
 
 abbrev pub invariant-loop-count : goal.invariant-loop-count

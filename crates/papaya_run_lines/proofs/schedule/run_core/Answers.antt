@@ -6,7 +6,7 @@ use Rattle.papaya_words_keys.specs.Sizes.{IsAllowed}
 use Rattle.papaya_core_timeline.specs.New.{IsNew}
 use Rattle.papaya_core_timeline.specs.Runs.{TurnsRun}
 use Rattle.papaya_run_shell.specs.declared.failure.Failure.TheVariants as failure
-use Rattle.papaya_run_lines.specs.Told.{Tells, no_calls}
+use Rattle.papaya_run_lines.specs.LineOutput.{PrintsLines, no_calls}
 use Rattle.papaya_run_lines.specs.declared.script.Line.{Line}
 use Rattle.papaya_run_lines.proofs.WriteLemmas.{keeps_then}
 use Rattle.papaya_run_lines.specs.Core.{script_says}
@@ -31,7 +31,7 @@ returns-in-Some g c =
     TurnsRun (λ a b. a == b) script_says hash script.turns.items (length script.turns.items) core after (reverse t.entries.items)) _ refl
     c.in_ok-trace.ensures.cases (λ e no. no) c.run.ensures.ok in
     let told = c.in_ok-passed_over.ensures.told in
-    let tells = subst (λ (rows : List Line). Tells after.store trace.entries.items no_calls rows 0 trace.entries.items told.0 passed)
+    let tells = subst (λ (rows : List Line). PrintsLines after.store trace.entries.items no_calls rows 0 trace.entries.items told.0 passed)
     c.as_slice.ensures.value told.1 in
     ran_to hash (IsNew c.args.mode 0 1 c.args.hasher) (Appends first last) script.turns.items script.lines.items script.bad_line passed core after
     trace.entries.items new.1 runs (told.0, tells, keeps_then first printed last told.0 told.2 c.flush.ensures.bytes)
@@ -54,7 +54,7 @@ returns g c =
     TurnsRun (λ a b. a == b) script_says hash script.turns.items (length script.turns.items) core after (reverse t.entries.items)) _ refl
     c.in_ok-trace.ensures.cases (λ e no. no) c.run.ensures.ok in
     let told = c.in_ok-passed_over.ensures.told in
-    let tells = subst (λ (rows : List Line). Tells after.store trace.entries.items no_calls rows 0 trace.entries.items told.0 passed)
+    let tells = subst (λ (rows : List Line). PrintsLines after.store trace.entries.items no_calls rows 0 trace.entries.items told.0 passed)
     c.as_slice.ensures.value told.1 in
     ran_all hash (IsNew c.args.mode 0 1 c.args.hasher) (Appends first last) script.turns.items script.lines.items script.bad_line passed core after
     trace.entries.items new.1 runs (told.0, tells, keeps_then first printed last told.0 told.2 c.flush.ensures.bytes)

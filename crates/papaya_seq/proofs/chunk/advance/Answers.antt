@@ -1,6 +1,6 @@
 use Rattle.std.proofs.Common.{rules, ◌≡◌, ℕ, sym, ◌∙◌, subst}
 use Rattle.papaya_call.specs.declared.ask.At.TheVariants.{Done}
-use Rattle.papaya_call.specs.Step.{IsStandingStep, next_cursor}
+use Rattle.papaya_call.specs.Step.{IsValidStep, next_cursor}
 use Rattle.papaya_call.specs.declared.copy.copying.Copied.TheVariants.{On}
 use Rattle.papaya_call.specs.declared.copy.copying.Copying.TheVariants.{Stepping}
 use Rattle.papaya_call.specs.declared.copy.step.Step.TheVariants.{Advancing, AtChunk}
@@ -48,7 +48,7 @@ loop-at-preserved g c =
     let before : (mode : ResizeMode) → Steps g.K.PartialEq.eq (hash g) mode s (Advancing c.args.cursor) s' (AtChunk at) = λ mode. subst
     (λ x. Steps g.K.PartialEq.eq (hash g) mode s (Advancing c.args.cursor) s' x)
     (sym c.next-step.ensures.value ∙ c.in-AtChunk.is) (c.loop-at.invariant.1 mode) in (
-      subst IsStandingStep c.in-AtChunk.is c.next-step.ensures.standing,
+      subst IsValidStep c.in-AtChunk.is c.next-step.ensures.valid,
       λ mode aim. comes_then g.K.PartialEq.eq (hash g) mode s (On (Stepping aim (Advancing c.args.cursor))) s' (On (Stepping aim (AtChunk at))) s'
           (On (Stepping aim (next_cursor at))) (before mode aim)
           (chunk_led g.K.PartialEq.eq (hash g) mode s' at (next_cursor at) (chunk_passed at (word_at s'.words (Done at.to at.at)) some) aim),

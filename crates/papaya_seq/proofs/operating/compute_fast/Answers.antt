@@ -12,7 +12,7 @@ use Rattle.papaya_core_store.specs.Tables.{word_at}
 use Rattle.papaya_seq.specs.ComputeRuns.{IsComputedFrom}
 use Rattle.papaya_seq.specs.Computes.{AreOf, Says}
 use Rattle.papaya_seq.specs.Map.{deref_pair, entry_of}
-use Rattle.papaya_seq.specs.Searches.{IsRootTurn}
+use Rattle.papaya_seq.specs.Searches.{IsRootHit}
 use Rattle.papaya_seq.specs.Writes.{slot_of}
 use Rattle.papaya_seq.specs.declared.search.ProbeHit.{ProbeHit}
 use Rattle.papaya_seq.specs.declared.search.ProbeHit.TheVariants as turns
@@ -28,13 +28,13 @@ abbrev said : (g : Over) (f : g.row.F.Denot) → Option (Stored g.row.K.Denot g.
 said g f = Says (λ shown operation. given.F-post g f shown operation)
 
 -- what the search of the root saw
-empty : (g : Over) (c : In-Some-Empty g) → IsRootTurn (g.K.PartialEq.eq c.args.key) c.args.store.now c.args.hash (turns.Empty c.in-Some-Empty.place)
-empty g c = subst (λ (t : ProbeHit). IsRootTurn (g.K.PartialEq.eq c.args.key) c.args.store.now c.args.hash t) (search rules)
+empty : (g : Over) (c : In-Some-Empty g) → IsRootHit (g.K.PartialEq.eq c.args.key) c.args.store.now c.args.hash (turns.Empty c.in-Some-Empty.place)
+empty g c = subst (λ (t : ProbeHit). IsRootHit (g.K.PartialEq.eq c.args.key) c.args.store.now c.args.hash t) (search rules)
     (c.search_root.ensures c.in-Some-Empty.field-0 c.in-Some-Empty.is)
 
-here : (g : Over) (c : In-Some-Here g) → IsRootTurn (g.K.PartialEq.eq c.args.key) c.args.store.now c.args.hash
+here : (g : Over) (c : In-Some-Here g) → IsRootHit (g.K.PartialEq.eq c.args.key) c.args.store.now c.args.hash
     (turns.Here c.in-Some-Here.place c.in-Some-Here.word)
-here g c = subst (λ (t : ProbeHit). IsRootTurn (g.K.PartialEq.eq c.args.key) c.args.store.now c.args.hash t) (search rules)
+here g c = subst (λ (t : ProbeHit). IsRootHit (g.K.PartialEq.eq c.args.key) c.args.store.now c.args.hash t) (search rules)
     (c.search_root.ensures c.in-Some-Here.field-0 c.in-Some-Here.is)
 
 -- where nothing was, no word stands
@@ -60,8 +60,8 @@ returns-in-Some-Empty-clause-ok g c mode initial =
 in_log : (g : Over) (c : In-Some-Here g) → IsSome (pair_of c.args.store.now (number_of c.in-Some-Here.word))
 in_log g c = some_matched (g.K.PartialEq.eq c.args.key) (pair_of c.args.store.now (number_of c.in-Some-Here.word)) (here g c).matched
 
-pub logged-requires : goal.logged-requires
-logged-requires g c = subst (λ n. IsSome (pair_of c.args.store.now n)) (sym c.pair-pair.ensures) (in_log g (goal.at.logged-requires g c).In-Some-Here)
+pub stored_entry-requires : goal.stored_entry-requires
+stored_entry-requires g c = subst (λ n. IsSome (pair_of c.args.store.now n)) (sym c.pair-pair.ensures) (in_log g (goal.at.stored_entry-requires g c).In-Some-Here)
 
 -- and is shown to the closure
 shows : (g : Over) (c : In-Some-Here g) (n : ℕ) → n ≡ number_of c.in-Some-Here.word → (entry : Option (Bor g.row.K.Denot × Bor g.row.V.Denot))
@@ -77,8 +77,8 @@ pub decide-operation-requires-in-Some-Here : goal.decide-operation-requires-in-S
 decide-operation-requires-in-Some-Here g c =
     let at = (goal.at.decide-operation-requires-in-Some-Here g c).In-Some-Here in
     let live : kind_of c.in-Some-Here.word ≡ Live = search rules in
-    let (p, number, there, are) = shows g at c.pair-pair.result c.pair-pair.ensures (Some c.logged.result) c.logged.ensures in
-    c.requires.takes (turns.Here c.in-Some-Here.place c.in-Some-Here.word) (here g at) live (Some c.logged.result) (are ∙ ap (λ o. option_map entry_of o) (sym there))
+    let (p, number, there, are) = shows g at c.pair-pair.result c.pair-pair.ensures (Some c.stored_entry.result) c.stored_entry.ensures in
+    c.requires.takes (turns.Here c.in-Some-Here.place c.in-Some-Here.word) (here g at) live (Some c.stored_entry.result) (are ∙ ap (λ o. option_map entry_of o) (sym there))
 
 pub operate-requires-in-Some-Here-clause-stands : goal.operate-requires-in-Some-Here-clause-stands
 operate-requires-in-Some-Here-clause-stands g c = (here g (goal.at.operate-requires-in-Some-Here-clause-stands g c).In-Some-Here).stands
@@ -91,9 +91,9 @@ returns-in-Some-Here-clause-ok g c mode initial =
     let at = (goal.at.returns-in-Some-Here-clause-ok g c).In-Some-Here in
     let hashes = hash_of g.K.Hash.hash_input g.S.BuildHasher.build_hasher g.S.Hasher.Hasher.write g.S.Hasher.Hasher.finish in
     let live : kind_of c.in-Some-Here.word ≡ Live = search rules in
-    let (p, number, there, are) = shows g at c.pair-pair.result c.pair-pair.ensures (Some c.logged.result) c.logged.ensures in
+    let (p, number, there, are) = shows g at c.pair-pair.result c.pair-pair.ensures (Some c.stored_entry.result) c.stored_entry.ensures in
     subst (λ n. IsComputedFrom g.K.PartialEq.eq hashes c.args.key (said g c.args.f) c.args.store.now (started Compute c.args.hash mode initial None)
     (Some n) c.operate-in-Some-Here.result c.operate-in-Some-Here.new.store) (sym c.pair-pair.ensures)
     (pair_computed g.K.PartialEq.eq hashes c.args.store.now c.args.key c.args.hash c.in-Some-Here.place mode initial (said g c.args.f)
     c.decide-operation-in-Some-Here.result c.operate-in-Some-Here.result c.operate-in-Some-Here.new.store c.in-Some-Here.word live (here g at) p number there
-    (Some c.logged.result, are, c.decide-operation-in-Some-Here.ensures) c.operate-in-Some-Here.ensures)
+    (Some c.stored_entry.result, are, c.decide-operation-in-Some-Here.ensures) c.operate-in-Some-Here.ensures)

@@ -2,7 +2,7 @@ use Rattle.std.proofs.Common.{rules, ◌≡◌, subst}
 use Rattle.papaya_words.specs.Word.{kind_of, pair_of as number_of}
 use Rattle.papaya_words.specs.declared.word.Kind.TheVariants.{Live}
 use Rattle.papaya_core_store.specs.Store.{pair_of}
-use Rattle.papaya_seq.specs.Searches.{IsRootTurn}
+use Rattle.papaya_seq.specs.Searches.{IsRootHit}
 use Rattle.papaya_seq.specs.declared.search.ProbeHit.{ProbeHit}
 use Rattle.papaya_seq.specs.declared.search.ProbeHit.TheVariants as turns
 use Rattle.papaya_seq.proofs.Burying.{found_it, found_none}
@@ -12,9 +12,9 @@ use Rattle.papaya_seq.proofs.removal.remove_fast.Goals.{In-Some-Here}
 use Rattle.papaya_seq.proofs.removal.remove_fast.Given.{Over}
 
 -- the outcome of the search of the root
-here : (g : Over) (c : In-Some-Here g) → IsRootTurn (g.Q.Equivalent.matches c.args.key.now) c.args.store.now c.args.hash
+here : (g : Over) (c : In-Some-Here g) → IsRootHit (g.Q.Equivalent.matches c.args.key.now) c.args.store.now c.args.hash
     (turns.Here c.in-Some-Here.place c.in-Some-Here.word)
-here g c = subst (λ (t : ProbeHit). IsRootTurn (g.Q.Equivalent.matches c.args.key.now) c.args.store.now c.args.hash t) (search rules)
+here g c = subst (λ (t : ProbeHit). IsRootHit (g.Q.Equivalent.matches c.args.key.now) c.args.store.now c.args.hash t) (search rules)
     (c.search_root.ensures c.in-Some-Here.field-0 c.in-Some-Here.is)
 
 pub bury-requires-clause-stands : goal.bury-requires-clause-stands
@@ -26,9 +26,9 @@ bury-requires-clause-logged g c = some_matched (g.Q.Equivalent.matches c.args.ke
 
 pub returns-in-Some-Empty : goal.returns-in-Some-Empty
 returns-in-Some-Empty g c mode initial limit =
-    let root : IsRootTurn (g.Q.Equivalent.matches c.args.key.now) c.args.store.now c.args.hash
+    let root : IsRootHit (g.Q.Equivalent.matches c.args.key.now) c.args.store.now c.args.hash
     (turns.Empty c.in-Some-Empty.field-0-0) =
-    subst (λ (t : ProbeHit). IsRootTurn (g.Q.Equivalent.matches c.args.key.now) c.args.store.now c.args.hash t) c.in-Some-Empty.field-0-is
+    subst (λ (t : ProbeHit). IsRootHit (g.Q.Equivalent.matches c.args.key.now) c.args.store.now c.args.hash t) c.in-Some-Empty.field-0-is
     (c.search_root.ensures c.in-Some-Empty.field-0 c.in-Some-Empty.is) in
     found_none g.F.FnMut (g.Q.Equivalent.matches c.args.key.now) c.args.store.now c.args.agrees.now c.args.hash mode initial limit
     c.in-Some-Empty.field-0-0 root

@@ -5,7 +5,7 @@ use Rattle.papaya_call.specs.declared.search.ProbeStep.TheVariants.{On}
 use Rattle.papaya_call.specs.declared.search.Search.TheVariants.{Looking}
 use Rattle.papaya_call.specs.Search.{IsProbed, hinted}
 use Rattle.papaya_core_store.specs.Tables.{hint_at, table_of}
-use Rattle.papaya_seq.specs.Searches.{GoesOnIn, IsPassed, IsPassedTo, IsThere, left_at, passed_by, passed_on, seen_at}
+use Rattle.papaya_seq.specs.Searches.{ContinuesIn, IsPassed, IsPassedTo, IsThere, left_at, passed_by, passed_on, seen_at}
 use Rattle.papaya_seq.proofs.Searching.{hint_read, hinted_in, hinted_led, hinted_left, left_seen}
 use Rattle.papaya_seq.proofs.search.pass_by.Goals as goal
 use Rattle.papaya_seq.proofs.search.pass_by.Goals.{After-hinted}
@@ -27,8 +27,8 @@ module _ (g : Over) (c : After-hinted g) where
       c.loop-next.invariant.3 within c.hint.ensures)
 
   -- and the search goes on in that table
-  goes_on : (so : (number slots : ℕ) → Type 0) → so c.loop-next.place.table c.loop-next.place.len → GoesOnIn so c.hinted.result
-  goes_on so is = subst (GoesOnIn so) (sym told) (hinted_in so c.loop-next.place c.args.hash there is)
+  goes_on : (so : (number slots : ℕ) → Type 0) → so c.loop-next.place.table c.loop-next.place.len → ContinuesIn so c.hinted.result
+  goes_on so is = subst (ContinuesIn so) (sym told) (hinted_in so c.loop-next.place c.args.hash there is)
 
   -- the search of places ends here
   ends : ((place : Place) → c.hinted.result ≡ On (Looking place) → ⊥) → IsPassed c.args.store.now c.args.hash c.args.at c.hinted.result
@@ -59,7 +59,7 @@ loop-next-preserved g c =
     let less : left_at c.in-On-Looking.next < left_at c.loop-next.place = subst (λ s. left_seen s < left_at c.loop-next.place) (sym (told g h) ∙ is)
     (hinted_left c.loop-next.place c.args.hash (there g h) c.loop-next.invariant.1.len) in
     let near : left_at c.loop-next.place ≤ left_at c.args.at = c.loop-next.invariant.2 in
-    let on = subst (GoesOnIn (λ number slots. (table_of c.args.store.now.words.tables number ≡ Some c.in-Some.table.now)
+    let on = subst (ContinuesIn (λ number slots. (table_of c.args.store.now.words.tables number ≡ Some c.in-Some.table.now)
     × (length c.in-Some.table.now.slots ≡ slots))) is
     (goes_on g h (λ number slots. (table_of c.args.store.now.words.tables number ≡ Some c.in-Some.table.now)
     × (length c.in-Some.table.now.slots ≡ slots)) (c.loop-next.invariant.3, c.loop-next.invariant.4)) in (

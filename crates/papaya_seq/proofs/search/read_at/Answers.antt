@@ -5,7 +5,7 @@ use Rattle.papaya_call.specs.Search.{at_yes, look}
 use Rattle.papaya_call.specs.declared.machine.State.TheVariants.{Searching}
 use Rattle.papaya_words.specs.Word.{kind_of}
 use Rattle.papaya_core_store.specs.Tables.{table_of, word_at}
-use Rattle.papaya_seq.specs.Searches.{GoesOnIn, IsMatchedBy, IsThere, SeesFrom, StandsBy}
+use Rattle.papaya_seq.specs.Searches.{ContinuesIn, IsMatchedBy, IsThere, SeesFrom, HoldsWord}
 use Rattle.papaya_seq.proofs.Searching.{look_in, yes_in, slot_read, matched_look, matched_yes, sees_same, sees_word, stands_look, stands_yes, turn_seen, word_there}
 use Rattle.papaya_seq.proofs.search.read_at.Goals as goal
 use Rattle.papaya_seq.proofs.search.read_at.Goals.{After-slot-word}
@@ -34,18 +34,18 @@ returns-in-On-Comparing-clause-turn g c hash =
     let seen : c.look-seen.result ≡ On (Comparing c.in-On-Comparing.place c.in-On-Comparing.named) = search rules in
     let compares : look c.args.at (word_there matches store hash c.args.at) ≡ On (Comparing c.in-On-Comparing.place c.in-On-Comparing.named) = sym
     (c.look-seen.ensures.value ∙ ap (look c.args.at) word) ∙ seen in
-    turn_seen matches store hash c.args.at from c.turn_of.result c.at_yes.result c.turn_of.ensures
+    turn_seen matches store hash c.args.at from c.hit_of.result c.at_yes.result c.hit_of.ensures
     (subst (SeesFrom matches store hash from)
     (sym (c.at_yes.ensures.value ∙ ap (at_yes (Comparing c.in-On-Comparing.place c.in-On-Comparing.named)) (c.matches-same.ensures ∙ search rules)))
     (sees_same matches store hash c.args.at c.in-On-Comparing.place c.in-On-Comparing.named compares))
     c.at_yes.ensures.seen
-    (subst (GoesOnIn (IsThere store)) (sym c.at_yes.ensures.value)
+    (subst (ContinuesIn (IsThere store)) (sym c.at_yes.ensures.value)
     (yes_in (IsThere store) c.in-On-Comparing.place c.in-On-Comparing.named c.matches-same.result
-    (subst (GoesOnIn (IsThere store)) compares
+    (subst (ContinuesIn (IsThere store)) compares
     (look_in (IsThere store) (kind_of (word_there matches store hash c.args.at)) c.args.at (word_there matches store hash c.args.at) c.requires.there))))
-    (subst (StandsBy (λ w. word_at store.words w)) (sym c.at_yes.ensures.value)
+    (subst (HoldsWord (λ w. word_at store.words w)) (sym c.at_yes.ensures.value)
     (stands_yes (λ w. word_at store.words w) c.in-On-Comparing.place c.in-On-Comparing.named c.matches-same.result
-    (subst (StandsBy (λ w. word_at store.words w)) compares
+    (subst (HoldsWord (λ w. word_at store.words w)) compares
     (stands_look (λ w. word_at store.words w) (kind_of (word_there matches store hash c.args.at)) c.args.at
     (word_there matches store hash c.args.at) refl refl))))
     (subst (IsMatchedBy matches store hash) (sym c.at_yes.ensures.value)
@@ -57,13 +57,13 @@ returns-in_default-seen-clause-turn g c hash =
     let store = c.args.store.now in
     let word : c.slot-word.result ≡ word_there matches store hash c.args.at = word_is g (goal.at.returns-in_default-seen-clause-turn g c).After-slot-word hash in
     let from = Searching (Reading c.args.at) in
-    turn_seen matches store hash c.args.at from c.turn_of-in_default-seen.result c.look-seen.result c.turn_of-in_default-seen.ensures
+    turn_seen matches store hash c.args.at from c.hit_of-in_default-seen.result c.look-seen.result c.hit_of-in_default-seen.ensures
     (subst (SeesFrom matches store hash from) (sym (c.look-seen.ensures.value ∙ ap (look c.args.at) word))
     (sees_word matches store hash c.args.at))
     c.look-seen.ensures.seen
-    (subst (GoesOnIn (IsThere store)) (sym (c.look-seen.ensures.value ∙ ap (look c.args.at) word))
+    (subst (ContinuesIn (IsThere store)) (sym (c.look-seen.ensures.value ∙ ap (look c.args.at) word))
     (look_in (IsThere store) (kind_of (word_there matches store hash c.args.at)) c.args.at (word_there matches store hash c.args.at) c.requires.there))
-    (subst (StandsBy (λ w. word_at store.words w)) (sym (c.look-seen.ensures.value ∙ ap (look c.args.at) word))
+    (subst (HoldsWord (λ w. word_at store.words w)) (sym (c.look-seen.ensures.value ∙ ap (look c.args.at) word))
     (stands_look (λ w. word_at store.words w) (kind_of (word_there matches store hash c.args.at)) c.args.at
     (word_there matches store hash c.args.at) refl refl))
     (subst (IsMatchedBy matches store hash) (sym (c.look-seen.ensures.value ∙ ap (look c.args.at) word))

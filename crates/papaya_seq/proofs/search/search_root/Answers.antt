@@ -3,7 +3,7 @@ use Rattle.papaya_call.specs.declared.ask.Answer.TheVariants.{Size}
 use Rattle.papaya_call.specs.Search.{first_place}
 use Rattle.papaya_core_store.specs.Performs.{size_of}
 use Rattle.papaya_core_store.specs.Tables.{table_of}
-use Rattle.papaya_seq.specs.Searches.{IsRootTurn, IsThere, IsTurn, seen_by}
+use Rattle.papaya_seq.specs.Searches.{IsRootHit, IsThere, IsProbeHit, seen_by}
 use Rattle.papaya_seq.specs.declared.search.ProbeHit.{ProbeHit}
 use Rattle.papaya_seq.proofs.Searching.{sees_root}
 use Rattle.papaya_seq.proofs.search.search_root.Goals as goal
@@ -21,9 +21,9 @@ returns g c turn e =
     ∙ ap (λ n. first_place c.args.hash n c.len.result c.limit.result) c.word-number.ensures
     ∙ ap (λ n. first_place c.args.hash store.words.root n c.limit.result) c.len.ensures
     ∙ ap (first_place c.args.hash store.words.root (length t.slots)) c.limit.ensures in
-    let by : IsTurn matches store c.args.hash (first_place c.args.hash store.words.root (length t.slots) t.limit)
-    c.search.result = subst (λ p. IsTurn matches store c.args.hash p c.search.result) first c.search.ensures.turn in
-    subst (λ (x : ProbeHit). IsRootTurn matches store c.args.hash x) is
+    let by : IsProbeHit matches store c.args.hash (first_place c.args.hash store.words.root (length t.slots) t.limit)
+    c.search.result = subst (λ p. IsProbeHit matches store c.args.hash p c.search.result) first c.search.ensures.turn in
+    subst (λ (x : ProbeHit). IsRootHit matches store c.args.hash x) is
     (record {
       sees = sees_root matches store c.args.hash (length t.slots) t.limit size (seen_by c.search.result) by.sees;
       stands = by.stands;

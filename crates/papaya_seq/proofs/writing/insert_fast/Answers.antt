@@ -7,7 +7,7 @@ use Rattle.papaya_call.specs.declared.machine.State.TheVariants.{AtRoot, Growing
 use Rattle.papaya_call.specs.declared.need.Need.TheVariants.{Room}
 use Rattle.papaya_words_keys.specs.Hashes.{hash_of}
 use Rattle.papaya_seq.specs.Drives.{IsLedTo}
-use Rattle.papaya_seq.specs.Searches.{IsRootTurn}
+use Rattle.papaya_seq.specs.Searches.{IsRootHit}
 use Rattle.papaya_seq.specs.Writes.{slot_of}
 use Rattle.papaya_seq.specs.declared.search.ProbeHit.{ProbeHit}
 use Rattle.papaya_seq.specs.declared.search.ProbeHit.TheVariants as turns
@@ -20,13 +20,13 @@ use Rattle.papaya_seq.proofs.writing.insert_fast.Goals.{In-Some-Empty, In-Some-H
 use Rattle.papaya_seq.proofs.writing.insert_fast.Given.{Over}
 
 -- the outcome of the search of the root
-empty : (g : Over) (c : In-Some-Empty g) → IsRootTurn (g.K.PartialEq.eq c.args.key) c.args.store.now c.args.hash (turns.Empty c.in-Some-Empty.place)
-empty g c = subst (λ (t : ProbeHit). IsRootTurn (g.K.PartialEq.eq c.args.key) c.args.store.now c.args.hash t) (search rules)
+empty : (g : Over) (c : In-Some-Empty g) → IsRootHit (g.K.PartialEq.eq c.args.key) c.args.store.now c.args.hash (turns.Empty c.in-Some-Empty.place)
+empty g c = subst (λ (t : ProbeHit). IsRootHit (g.K.PartialEq.eq c.args.key) c.args.store.now c.args.hash t) (search rules)
     (c.search_root.ensures c.in-Some-Empty.field-0 c.in-Some-Empty.is)
 
-here : (g : Over) (c : In-Some-Here g) → IsRootTurn (g.K.PartialEq.eq c.args.key) c.args.store.now c.args.hash
+here : (g : Over) (c : In-Some-Here g) → IsRootHit (g.K.PartialEq.eq c.args.key) c.args.store.now c.args.hash
     (turns.Here c.in-Some-Here.place c.in-Some-Here.word)
-here g c = subst (λ (t : ProbeHit). IsRootTurn (g.K.PartialEq.eq c.args.key) c.args.store.now c.args.hash t) (search rules)
+here g c = subst (λ (t : ProbeHit). IsRootHit (g.K.PartialEq.eq c.args.key) c.args.store.now c.args.hash t) (search rules)
     (c.search_root.ensures c.in-Some-Here.field-0 c.in-Some-Here.is)
 
 -- where nothing was, no word stands
@@ -70,8 +70,8 @@ returns-else-not-replace-clause-ok g c mode initial =
 
 pub returns-in-Some-Over-clause-err : goal.returns-in-Some-Over-clause-err
 returns-in-Some-Over-clause-err g c =
-    let over : IsRootTurn (g.K.PartialEq.eq c.args.key) c.args.store.now c.args.hash
-    (turns.Over c.in-Some-Over.table) = subst (λ (t : ProbeHit). IsRootTurn (g.K.PartialEq.eq c.args.key) c.args.store.now c.args.hash t) (search rules)
+    let over : IsRootHit (g.K.PartialEq.eq c.args.key) c.args.store.now c.args.hash
+    (turns.Over c.in-Some-Over.table) = subst (λ (t : ProbeHit). IsRootHit (g.K.PartialEq.eq c.args.key) c.args.store.now c.args.hash t) (search rules)
     (c.search_root.ensures c.in-Some-Over.field-0 c.in-Some-Over.is) in
     (refl, refl, refl, leads (c.in-Some-Over.table == 0) (λ mode initial limit. over.sees (started (Insert c.args.replace) c.args.hash mode initial limit)))
   where

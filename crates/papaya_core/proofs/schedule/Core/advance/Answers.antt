@@ -19,8 +19,8 @@ abbrev says : (g : Over) → Says g.row.K.Denot g.row.V.Denot g.row.A.Denot
 says g = record { op = g.A.Answers.op_gives; yes = g.A.Answers.yes_gives }
 
 -- what was under way stands
-pub advance_work-event-requires-clause-standing : goal.advance_work-event-requires-clause-standing
-advance_work-event-requires-clause-standing g c = work_stands g.K.PartialEq.eq g.K.Hash.hash_input g.S.BuildHasher.build_hasher
+pub advance_work-event-requires-clause-valid : goal.advance_work-event-requires-clause-valid
+advance_work-event-requires-clause-valid g c = work_stands g.K.PartialEq.eq g.K.Hash.hash_input g.S.BuildHasher.build_hasher
     g.S.Hasher.Hasher.write g.S.Hasher.Hasher.finish g.met.K.Eq.laws g.met.K.Hash.respects_eq (says g)
     (record { store = c.self.inside.store; callers = c.self.inside.callers; mode = c.self.inside.mode; initial = c.self.inside.initial })
     c.self.invariant.0 c.args.caller c.take-work.result c.take-work.ensures.call

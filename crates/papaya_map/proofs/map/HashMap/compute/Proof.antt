@@ -19,16 +19,16 @@ use Rattle.papaya_map_book.specs.contracts.rule.law.LawRuleEventNamed.TheImpl as
 use Rattle.papaya_map_lookup.specs.History.{IsLegalHistory, history_of, key_of}
 use Rattle.papaya_words_keys.specs.contracts.results.Compute as Computed
 use Rattle.papaya_words_keys.proofs.results.Compute.TheLaws.{the_row_laws as computed_laws}
-use Rattle.papaya_map_change.specs.Showings.{Operates}
+use Rattle.papaya_map_change.specs.ClosureCalls.{Operates}
 use Rattle.papaya_map_compute.specs.ComputeAnswers.{IsComputeBy}
 use Rattle.papaya_map.specs.Plain.{IsSince, rule_of, unpinned}
 use Rattle.papaya_map.proofs.Telling.{held_good, one_of, one_ref}
 use Rattle.papaya_map.proofs.ToldWalks.{walk_rroor}
 use Rattle.papaya_map.proofs.Handed.{meets, Answer, six_facts, handed_3, past_first}
 use Rattle.papaya_map.specs.contracts.map.HashMap as HashMap
-use Rattle.papaya_map.specs.contracts.map.HashMap.compute_told as callee
-use Rattle.papaya_map.specs.contracts.map.HashMap.compute_told.Key.{name as #callee}
-use Rattle.papaya_map.proofs.map.HashMap.compute_told.Met.{met}
+use Rattle.papaya_map.specs.contracts.map.HashMap.compute_observed as callee
+use Rattle.papaya_map.specs.contracts.map.HashMap.compute_observed.Key.{name as #callee}
+use Rattle.papaya_map.proofs.map.HashMap.compute_observed.Met.{met}
 use Rattle.papaya_map.specs.contracts.map.HashMap.compute.{ended, clauses}
 use Rattle.papaya_map.specs.contracts.map.HashMap.compute.Key.{name as #self}
 use Rattle.papaya_map.proofs.map.HashMap.compute.Statement.{statement}
@@ -75,7 +75,7 @@ compute_spec 𝓤 𝓛 𝓜 𝓡 wired K V S S-Hasher R T F G LK LV LS LH LR LT 
     (inst_fn inst code.function) (code.unfolded 𝓤 𝓛.H 𝓜 𝓡 wired (K, (V, (S, (S-Hasher, (R, (T, (F, (G, tt)))))))) K-Hash-dict K-Eq-dict
     K-PartialEq-dict S-BuildHasher-dict S-Hasher-Hasher-dict K-Destruct-dict V-Destruct-dict S-Hasher-Destruct-dict R-Wait-dict F-FnMut-dict
     F-FnOnce-dict G-Guard-dict T-Destruct-dict F-Destruct-dict)
-    (met 𝓤 𝓛 𝓜 𝓡 (code.calls-papaya_map::map::HashMap::compute_told 𝓡.env wired) K V S S-Hasher R T F G LK LV LS LH LR LT LF LG K-Hash K-Hash-dict
+    (met 𝓤 𝓛 𝓜 𝓡 (code.calls-papaya_map::map::HashMap::compute_observed 𝓡.env wired) K V S S-Hasher R T F G LK LV LS LH LR LT LF LG K-Hash K-Hash-dict
     K-Eq K-Eq-dict K-PartialEq K-PartialEq-dict S-BuildHasher S-BuildHasher-dict S-Hasher-Hasher S-Hasher-Hasher-dict K-Destruct-dict
     V-Destruct-dict S-Hasher-Destruct-dict R-Wait R-Wait-dict F-FnMut F-FnMut-dict F-FnOnce-dict G-Guard G-Guard-dict T-Destruct-dict
     F-Destruct-dict Lasts m1 m2 m3 m4 m5 m6 m7 m8 m9 m10 m11 m12 m13 m14)

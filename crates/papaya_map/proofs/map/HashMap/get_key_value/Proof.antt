@@ -24,9 +24,9 @@ use Rattle.papaya_map.proofs.Telling.{held_good, one_ref, pair_laws, pair_row}
 use Rattle.papaya_map.proofs.ToldWalks.{walk_rrr}
 use Rattle.papaya_map.proofs.Handed.{meets, Answer, six_facts, handed_3, past_first}
 use Rattle.papaya_map.specs.contracts.map.HashMap as HashMap
-use Rattle.papaya_map.specs.contracts.map.HashMap.get_key_value_told as callee
-use Rattle.papaya_map.specs.contracts.map.HashMap.get_key_value_told.Key.{name as #callee}
-use Rattle.papaya_map.proofs.map.HashMap.get_key_value_told.Met.{met}
+use Rattle.papaya_map.specs.contracts.map.HashMap.get_key_value_observed as callee
+use Rattle.papaya_map.specs.contracts.map.HashMap.get_key_value_observed.Key.{name as #callee}
+use Rattle.papaya_map.proofs.map.HashMap.get_key_value_observed.Met.{met}
 use Rattle.papaya_map.specs.contracts.map.HashMap.get_key_value.{ended, clauses}
 use Rattle.papaya_map.specs.contracts.map.HashMap.get_key_value.Key.{name as #self}
 use Rattle.papaya_map.proofs.map.HashMap.get_key_value.Statement.{statement}
@@ -67,7 +67,7 @@ get_key_value_spec 𝓤 𝓛 𝓜 𝓡 wired K V S S-Hasher Q G LK LV LS LH LQ L
     (λ κs x f. refl, (λ κs x f. refl, (λ κs x f. refl, tt))) (#self inst) (#callee inst) (inst_fn inst code.function)
     (code.unfolded 𝓤 𝓛.H 𝓜 𝓡 wired (K, (V, (S, (S-Hasher, (Q, (G, tt)))))) K-Hash-dict K-Eq-dict K-PartialEq-dict S-BuildHasher-dict
     S-Hasher-Hasher-dict S-Hasher-Destruct-dict Q-Equivalent-dict Q-Hash-dict Q-Eq-dict Q-PartialEq-dict G-Guard-dict)
-    (met 𝓤 𝓛 𝓜 𝓡 (code.calls-papaya_map::map::HashMap::get_key_value_told 𝓡.env wired) K V S S-Hasher Q G LK LV LS LH LQ LG K-Hash K-Hash-dict K-Eq
+    (met 𝓤 𝓛 𝓜 𝓡 (code.calls-papaya_map::map::HashMap::get_key_value_observed 𝓡.env wired) K V S S-Hasher Q G LK LV LS LH LQ LG K-Hash K-Hash-dict K-Eq
     K-Eq-dict K-PartialEq K-PartialEq-dict S-BuildHasher S-BuildHasher-dict S-Hasher-Hasher S-Hasher-Hasher-dict S-Hasher-Destruct-dict Q-Equivalent
     Q-Equivalent-dict Q-Hash Q-Hash-dict Q-Eq Q-Eq-dict Q-PartialEq Q-PartialEq-dict G-Guard G-Guard-dict m1 m2 m3 m4 m5 m6 m7 m8 m9 m10 m11)
     (λ y are. walk_rrr 𝓤 𝓛 𝓜 𝓡 (one_ref (named 0) y.0.0.0

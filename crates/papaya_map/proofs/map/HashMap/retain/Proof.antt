@@ -21,16 +21,16 @@ use Rattle.papaya_map.proofs.Telling.{unit_laws}
 use Rattle.papaya_map_change.specs.Writing.{IsMemoryOrCapacity}
 use Rattle.papaya_map_book.specs.Logs.{Stored}
 use Rattle.papaya_map_lookup.specs.History.{Change}
-use Rattle.papaya_map_change.specs.Showings.{Judges}
+use Rattle.papaya_map_change.specs.ClosureCalls.{Judges}
 use Rattle.papaya_map_scan.specs.Leaving.{HasKept}
 use Rattle.papaya_map.specs.Plain.{IsSince, rule_of, unpinned}
 use Rattle.papaya_map.proofs.Telling.{held_good, one_of, one_ref}
 use Rattle.papaya_map.proofs.ToldWalks.{walk_rror}
 use Rattle.papaya_map.proofs.Handed.{meets, Answer, six_facts, handed_3, past_first}
 use Rattle.papaya_map.specs.contracts.map.HashMap as HashMap
-use Rattle.papaya_map.specs.contracts.map.HashMap.retain_told as callee
-use Rattle.papaya_map.specs.contracts.map.HashMap.retain_told.Key.{name as #callee}
-use Rattle.papaya_map.proofs.map.HashMap.retain_told.Met.{met}
+use Rattle.papaya_map.specs.contracts.map.HashMap.retain_observed as callee
+use Rattle.papaya_map.specs.contracts.map.HashMap.retain_observed.Key.{name as #callee}
+use Rattle.papaya_map.proofs.map.HashMap.retain_observed.Met.{met}
 use Rattle.papaya_map.specs.contracts.map.HashMap.retain.{ended, clauses}
 use Rattle.papaya_map.specs.contracts.map.HashMap.retain.Key.{name as #self}
 use Rattle.papaya_map.proofs.map.HashMap.retain.Statement.{statement}
@@ -72,7 +72,7 @@ retain_spec 𝓤 𝓛 𝓜 𝓡 wired K V S S-Hasher R F G LK LV LS LH LR LF LG 
     (λ κs x f. refl, (λ κs x f. refl, (λ κs x f. refl, (λ κs x f. refl, tt)))) (#self inst) (#callee inst) (inst_fn inst code.function)
     (code.unfolded 𝓤 𝓛.H 𝓜 𝓡 wired (K, (V, (S, (S-Hasher, (R, (F, (G, tt))))))) K-Hash-dict K-Eq-dict K-PartialEq-dict S-BuildHasher-dict
     S-Hasher-Hasher-dict S-Hasher-Destruct-dict R-Wait-dict F-FnMut-dict F-FnOnce-dict G-Guard-dict F-Destruct-dict)
-    (met 𝓤 𝓛 𝓜 𝓡 (code.calls-papaya_map::map::HashMap::retain_told 𝓡.env wired) K V S S-Hasher R F G LK LV LS LH LR LF LG K-Hash K-Hash-dict K-Eq
+    (met 𝓤 𝓛 𝓜 𝓡 (code.calls-papaya_map::map::HashMap::retain_observed 𝓡.env wired) K V S S-Hasher R F G LK LV LS LH LR LF LG K-Hash K-Hash-dict K-Eq
     K-Eq-dict K-PartialEq K-PartialEq-dict S-BuildHasher S-BuildHasher-dict S-Hasher-Hasher S-Hasher-Hasher-dict S-Hasher-Destruct-dict R-Wait
     R-Wait-dict F-FnMut F-FnMut-dict F-FnOnce-dict G-Guard G-Guard-dict F-Destruct-dict m1 m2 m3 m4 m5 m6 m7 m8 m9 m10 m11)
     (λ y are. walk_rror 𝓤 𝓛 𝓜 𝓡 (one_ref (named 0) y.0.0.0

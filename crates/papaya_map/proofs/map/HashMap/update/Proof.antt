@@ -26,9 +26,9 @@ use Rattle.papaya_map.proofs.Telling.{held_good, one_of, one_ref, ref_laws, ref_
 use Rattle.papaya_map.proofs.ToldWalks.{walk_rroor}
 use Rattle.papaya_map.proofs.Handed.{meets, Answer, six_facts, handed_3, past_first}
 use Rattle.papaya_map.specs.contracts.map.HashMap as HashMap
-use Rattle.papaya_map.specs.contracts.map.HashMap.update_told as callee
-use Rattle.papaya_map.specs.contracts.map.HashMap.update_told.Key.{name as #callee}
-use Rattle.papaya_map.proofs.map.HashMap.update_told.Met.{met}
+use Rattle.papaya_map.specs.contracts.map.HashMap.update_observed as callee
+use Rattle.papaya_map.specs.contracts.map.HashMap.update_observed.Key.{name as #callee}
+use Rattle.papaya_map.proofs.map.HashMap.update_observed.Met.{met}
 use Rattle.papaya_map.specs.contracts.map.HashMap.update.{ended, clauses}
 use Rattle.papaya_map.specs.contracts.map.HashMap.update.Key.{name as #self}
 use Rattle.papaya_map.proofs.map.HashMap.update.Statement.{statement}
@@ -72,7 +72,7 @@ update_spec 𝓤 𝓛 𝓜 𝓡 wired K V S S-Hasher R F G LK LV LS LH LR LF LG 
     (inst_fn inst code.function) (code.unfolded 𝓤 𝓛.H 𝓜 𝓡 wired (K, (V, (S, (S-Hasher, (R, (F, (G, tt))))))) K-Hash-dict K-Eq-dict K-PartialEq-dict
     S-BuildHasher-dict S-Hasher-Hasher-dict K-Destruct-dict V-Destruct-dict S-Hasher-Destruct-dict R-Wait-dict F-Fn-dict F-FnMut-dict F-FnOnce-dict
     G-Guard-dict F-Destruct-dict)
-    (met 𝓤 𝓛 𝓜 𝓡 (code.calls-papaya_map::map::HashMap::update_told 𝓡.env wired) K V S S-Hasher R F G LK LV LS LH LR LF LG K-Hash K-Hash-dict K-Eq
+    (met 𝓤 𝓛 𝓜 𝓡 (code.calls-papaya_map::map::HashMap::update_observed 𝓡.env wired) K V S S-Hasher R F G LK LV LS LH LR LF LG K-Hash K-Hash-dict K-Eq
     K-Eq-dict K-PartialEq K-PartialEq-dict S-BuildHasher S-BuildHasher-dict S-Hasher-Hasher S-Hasher-Hasher-dict K-Destruct-dict V-Destruct-dict
     S-Hasher-Destruct-dict R-Wait R-Wait-dict F-Fn F-Fn-dict F-FnMut-dict F-FnOnce-dict G-Guard G-Guard-dict F-Destruct-dict m1 m2 m3 m4 m5 m6 m7 m8
     m9 m10 m11 m12 m13 m14)

@@ -25,9 +25,9 @@ use Rattle.papaya_map.proofs.Telling.{held_good, one_ref}
 use Rattle.papaya_map.proofs.ToldWalks.{walk_rr}
 use Rattle.papaya_map.proofs.Handed.{meets, Answer, five_facts, handed_2, past_first}
 use Rattle.papaya_map.specs.contracts.map.HashMapRef as HashMapRef
-use Rattle.papaya_map.specs.contracts.map.HashMapRef.clear_told as callee
-use Rattle.papaya_map.specs.contracts.map.HashMapRef.clear_told.Key.{name as #callee}
-use Rattle.papaya_map.proofs.map.HashMapRef.clear_told.Met.{met}
+use Rattle.papaya_map.specs.contracts.map.HashMapRef.clear_observed as callee
+use Rattle.papaya_map.specs.contracts.map.HashMapRef.clear_observed.Key.{name as #callee}
+use Rattle.papaya_map.proofs.map.HashMapRef.clear_observed.Met.{met}
 use Rattle.papaya_map.specs.contracts.map.HashMapRef.clear.{ended, clauses}
 use Rattle.papaya_map.specs.contracts.map.HashMapRef.clear.Key.{name as #self}
 use Rattle.papaya_map.proofs.map.HashMapRef.clear.Statement.{statement}
@@ -59,7 +59,7 @@ clear_spec 𝓤 𝓛 𝓜 𝓡 wired K V S S-Hasher R LK LV LS LH LR K-Hash K-Ha
     (λ κs x f. refl, (λ κs x f. refl, tt)) (#self inst) (#callee inst) (inst_fn inst code.function)
     (code.unfolded 𝓤 𝓛.H 𝓜 𝓡 wired (K, (V, (S, (S-Hasher, (R, tt))))) K-Hash-dict K-Eq-dict K-PartialEq-dict S-BuildHasher-dict S-Hasher-Hasher-dict
     S-Hasher-Destruct-dict R-Wait-dict)
-    (met 𝓤 𝓛 𝓜 𝓡 (code.calls-papaya_map::map::HashMapRef::clear_told 𝓡.env wired) K V S S-Hasher R LK LV LS LH LR K-Hash K-Hash-dict K-Eq K-Eq-dict
+    (met 𝓤 𝓛 𝓜 𝓡 (code.calls-papaya_map::map::HashMapRef::clear_observed 𝓡.env wired) K V S S-Hasher R LK LV LS LH LR K-Hash K-Hash-dict K-Eq K-Eq-dict
     K-PartialEq K-PartialEq-dict S-BuildHasher S-BuildHasher-dict S-Hasher-Hasher S-Hasher-Hasher-dict S-Hasher-Destruct-dict R-Wait R-Wait-dict m1
     m2 m3 m4 m5 m6 m7)
     (λ y are. walk_rr 𝓤 𝓛 𝓜 𝓡 (one_ref (named 0) y.0.0.0

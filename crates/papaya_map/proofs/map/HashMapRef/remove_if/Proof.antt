@@ -19,15 +19,15 @@ use Rattle.papaya_map_lookup.specs.History.{IsLegalHistory, history_of, key_of}
 use Rattle.std.specs.contracts.option.Option as Option
 use Rattle.std.specs.contracts.result.Result as Result
 use Rattle.papaya_map_change.specs.RemovalAnswers.{IsRemovalBy}
-use Rattle.papaya_map_change.specs.Showings.{Judges}
+use Rattle.papaya_map_change.specs.ClosureCalls.{Judges}
 use Rattle.papaya_map.specs.Plain.{IsSince, rule_of}
 use Rattle.papaya_map.proofs.Telling.{held_good, one_of, one_ref, pair_laws, pair_row}
 use Rattle.papaya_map.proofs.ToldWalks.{walk_rrro}
 use Rattle.papaya_map.proofs.Handed.{meets, Answer, four_facts, handed_1, past_first}
 use Rattle.papaya_map.specs.contracts.map.HashMapRef as HashMapRef
-use Rattle.papaya_map.specs.contracts.map.HashMapRef.remove_if_told as callee
-use Rattle.papaya_map.specs.contracts.map.HashMapRef.remove_if_told.Key.{name as #callee}
-use Rattle.papaya_map.proofs.map.HashMapRef.remove_if_told.Met.{met}
+use Rattle.papaya_map.specs.contracts.map.HashMapRef.remove_if_observed as callee
+use Rattle.papaya_map.specs.contracts.map.HashMapRef.remove_if_observed.Key.{name as #callee}
+use Rattle.papaya_map.proofs.map.HashMapRef.remove_if_observed.Met.{met}
 use Rattle.papaya_map.specs.contracts.map.HashMapRef.remove_if.{ended, clauses}
 use Rattle.papaya_map.specs.contracts.map.HashMapRef.remove_if.Key.{name as #self}
 use Rattle.papaya_map.proofs.map.HashMapRef.remove_if.Statement.{statement}
@@ -71,7 +71,7 @@ remove_if_spec 𝓤 𝓛 𝓜 𝓡 wired K V S S-Hasher R Q F LK LV LS LH LR LQ 
     (code.unfolded 𝓤 𝓛.H 𝓜 𝓡 wired (K, (V, (S, (S-Hasher, (R, (Q, (F, tt))))))) K-Hash-dict K-Eq-dict K-PartialEq-dict S-BuildHasher-dict
     S-Hasher-Hasher-dict S-Hasher-Destruct-dict R-Wait-dict Q-Equivalent-dict Q-Hash-dict Q-Eq-dict Q-PartialEq-dict F-FnMut-dict F-FnOnce-dict
     F-Destruct-dict)
-    (met 𝓤 𝓛 𝓜 𝓡 (code.calls-papaya_map::map::HashMapRef::remove_if_told 𝓡.env wired) K V S S-Hasher R Q F LK LV LS LH LR LQ LF K-Hash K-Hash-dict
+    (met 𝓤 𝓛 𝓜 𝓡 (code.calls-papaya_map::map::HashMapRef::remove_if_observed 𝓡.env wired) K V S S-Hasher R Q F LK LV LS LH LR LQ LF K-Hash K-Hash-dict
     K-Eq K-Eq-dict K-PartialEq K-PartialEq-dict S-BuildHasher S-BuildHasher-dict S-Hasher-Hasher S-Hasher-Hasher-dict S-Hasher-Destruct-dict R-Wait
     R-Wait-dict Q-Equivalent Q-Equivalent-dict Q-Hash Q-Hash-dict Q-Eq Q-Eq-dict Q-PartialEq Q-PartialEq-dict F-FnMut F-FnMut-dict F-FnOnce-dict
     F-Destruct-dict m1 m2 m3 m4 m5 m6 m7 m8 m9 m10 m11 m12 m13 m14)

@@ -19,7 +19,7 @@ use Rattle.papaya_map_lookup.specs.History.{IsLegalHistory, history_of, key_of}
 use Rattle.papaya_map_change.specs.Writing.{IsMemoryOrCapacity}
 use denote.Struct.Field.{unit-field}
 use Rattle.papaya_map_book.specs.Logs.{Stored}
-use Rattle.papaya_map_change.specs.Showings.{Judges}
+use Rattle.papaya_map_change.specs.ClosureCalls.{Judges}
 use Rattle.papaya_map_lookup.specs.History.{Change}
 use Rattle.papaya_map_scan.specs.Leaving.{HasKept}
 use Rattle.papaya_map.proofs.Telling.{unit_laws}
@@ -28,9 +28,9 @@ use Rattle.papaya_map.proofs.Telling.{held_good, one_of, one_ref}
 use Rattle.papaya_map.proofs.ToldWalks.{walk_rro}
 use Rattle.papaya_map.proofs.Handed.{meets, Answer, five_facts, handed_2}
 use Rattle.papaya_map.specs.contracts.map.HashMapRef as HashMapRef
-use Rattle.papaya_map.specs.contracts.map.HashMapRef.retain_told as callee
-use Rattle.papaya_map.specs.contracts.map.HashMapRef.retain_told.Key.{name as #callee}
-use Rattle.papaya_map.proofs.map.HashMapRef.retain_told.Met.{met}
+use Rattle.papaya_map.specs.contracts.map.HashMapRef.retain_observed as callee
+use Rattle.papaya_map.specs.contracts.map.HashMapRef.retain_observed.Key.{name as #callee}
+use Rattle.papaya_map.proofs.map.HashMapRef.retain_observed.Met.{met}
 use Rattle.papaya_map.specs.contracts.map.HashMapRef.retain.{ended, clauses}
 use Rattle.papaya_map.specs.contracts.map.HashMapRef.retain.Key.{name as #self}
 use Rattle.papaya_map.proofs.map.HashMapRef.retain.Statement.{statement}
@@ -68,7 +68,7 @@ retain_spec 𝓤 𝓛 𝓜 𝓡 wired K V S S-Hasher R F LK LV LS LH LR LF K-Has
     (λ κs x f. refl, (λ κs x f. refl, (λ κs x f. refl, tt))) (#self inst) (#callee inst) (inst_fn inst code.function)
     (code.unfolded 𝓤 𝓛.H 𝓜 𝓡 wired (K, (V, (S, (S-Hasher, (R, (F, tt)))))) K-Hash-dict K-Eq-dict K-PartialEq-dict S-BuildHasher-dict
     S-Hasher-Hasher-dict S-Hasher-Destruct-dict R-Wait-dict F-FnMut-dict F-FnOnce-dict F-Destruct-dict)
-    (met 𝓤 𝓛 𝓜 𝓡 (code.calls-papaya_map::map::HashMapRef::retain_told 𝓡.env wired) K V S S-Hasher R F LK LV LS LH LR LF K-Hash K-Hash-dict K-Eq
+    (met 𝓤 𝓛 𝓜 𝓡 (code.calls-papaya_map::map::HashMapRef::retain_observed 𝓡.env wired) K V S S-Hasher R F LK LV LS LH LR LF K-Hash K-Hash-dict K-Eq
     K-Eq-dict K-PartialEq K-PartialEq-dict S-BuildHasher S-BuildHasher-dict S-Hasher-Hasher S-Hasher-Hasher-dict S-Hasher-Destruct-dict R-Wait
     R-Wait-dict F-FnMut F-FnMut-dict F-FnOnce-dict F-Destruct-dict m1 m2 m3 m4 m5 m6 m7 m8 m9 m10)
     (λ y are. walk_rro 𝓤 𝓛 𝓜 𝓡 (one_ref (named 0) y.0.0.0

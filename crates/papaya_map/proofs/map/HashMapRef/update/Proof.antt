@@ -26,9 +26,9 @@ use Rattle.papaya_map.proofs.Telling.{held_good, one_of, one_ref, ref_laws, ref_
 use Rattle.papaya_map.proofs.ToldWalks.{walk_rroo}
 use Rattle.papaya_map.proofs.Handed.{meets, Answer, five_facts, handed_2, past_first}
 use Rattle.papaya_map.specs.contracts.map.HashMapRef as HashMapRef
-use Rattle.papaya_map.specs.contracts.map.HashMapRef.update_told as callee
-use Rattle.papaya_map.specs.contracts.map.HashMapRef.update_told.Key.{name as #callee}
-use Rattle.papaya_map.proofs.map.HashMapRef.update_told.Met.{met}
+use Rattle.papaya_map.specs.contracts.map.HashMapRef.update_observed as callee
+use Rattle.papaya_map.specs.contracts.map.HashMapRef.update_observed.Key.{name as #callee}
+use Rattle.papaya_map.proofs.map.HashMapRef.update_observed.Met.{met}
 use Rattle.papaya_map.specs.contracts.map.HashMapRef.update.{ended, clauses}
 use Rattle.papaya_map.specs.contracts.map.HashMapRef.update.Key.{name as #self}
 use Rattle.papaya_map.proofs.map.HashMapRef.update.Statement.{statement}
@@ -69,7 +69,7 @@ update_spec 𝓤 𝓛 𝓜 𝓡 wired K V S S-Hasher R F LK LV LS LH LR LF K-Has
     (λ κs x f. refl, (λ κs x f. refl, (λ κs x f. refl, (λ κs x f. refl, tt)))) (#self inst) (#callee inst) (inst_fn inst code.function)
     (code.unfolded 𝓤 𝓛.H 𝓜 𝓡 wired (K, (V, (S, (S-Hasher, (R, (F, tt)))))) K-Hash-dict K-Eq-dict K-PartialEq-dict S-BuildHasher-dict
     S-Hasher-Hasher-dict K-Destruct-dict V-Destruct-dict S-Hasher-Destruct-dict R-Wait-dict F-Fn-dict F-FnMut-dict F-FnOnce-dict F-Destruct-dict)
-    (met 𝓤 𝓛 𝓜 𝓡 (code.calls-papaya_map::map::HashMapRef::update_told 𝓡.env wired) K V S S-Hasher R F LK LV LS LH LR LF K-Hash K-Hash-dict K-Eq
+    (met 𝓤 𝓛 𝓜 𝓡 (code.calls-papaya_map::map::HashMapRef::update_observed 𝓡.env wired) K V S S-Hasher R F LK LV LS LH LR LF K-Hash K-Hash-dict K-Eq
     K-Eq-dict K-PartialEq K-PartialEq-dict S-BuildHasher S-BuildHasher-dict S-Hasher-Hasher S-Hasher-Hasher-dict K-Destruct-dict V-Destruct-dict
     S-Hasher-Destruct-dict R-Wait R-Wait-dict F-Fn F-Fn-dict F-FnMut-dict F-FnOnce-dict F-Destruct-dict m1 m2 m3 m4 m5 m6 m7 m8 m9 m10 m11 m12 m13)
     (λ y are. walk_rroo 𝓤 𝓛 𝓜 𝓡 (one_ref (named 0) y.0.0.0

@@ -25,9 +25,9 @@ use Rattle.papaya_map.proofs.Telling.{held_good, one_of, one_ref, ref_laws, ref_
 use Rattle.papaya_map.proofs.ToldWalks.{walk_rrooo}
 use Rattle.papaya_map.proofs.Handed.{meets, Answer, five_facts, handed_2, past_first}
 use Rattle.papaya_map.specs.contracts.map.HashMapRef as HashMapRef
-use Rattle.papaya_map.specs.contracts.map.HashMapRef.update_or_insert_with_told as callee
-use Rattle.papaya_map.specs.contracts.map.HashMapRef.update_or_insert_with_told.Key.{name as #callee}
-use Rattle.papaya_map.proofs.map.HashMapRef.update_or_insert_with_told.Met.{met}
+use Rattle.papaya_map.specs.contracts.map.HashMapRef.update_or_insert_with_observed as callee
+use Rattle.papaya_map.specs.contracts.map.HashMapRef.update_or_insert_with_observed.Key.{name as #callee}
+use Rattle.papaya_map.proofs.map.HashMapRef.update_or_insert_with_observed.Met.{met}
 use Rattle.papaya_map.specs.contracts.map.HashMapRef.update_or_insert_with.{ended, clauses}
 use Rattle.papaya_map.specs.contracts.map.HashMapRef.update_or_insert_with.Key.{name as #self}
 use Rattle.papaya_map.proofs.map.HashMapRef.update_or_insert_with.Statement.{statement}
@@ -74,7 +74,7 @@ update_or_insert_with_spec 𝓤 𝓛 𝓜 𝓡 wired K V S S-Hasher R U F LK LV 
     (inst_fn inst code.function) (code.unfolded 𝓤 𝓛.H 𝓜 𝓡 wired (K, (V, (S, (S-Hasher, (R, (U, (F, tt))))))) K-Hash-dict K-Eq-dict K-PartialEq-dict
     S-BuildHasher-dict S-Hasher-Hasher-dict K-Destruct-dict V-Destruct-dict S-Hasher-Destruct-dict R-Wait-dict U-Fn-dict U-FnMut-dict U-FnOnce-dict
     F-FnOnce-dict U-Destruct-dict F-Destruct-dict)
-    (met 𝓤 𝓛 𝓜 𝓡 (code.calls-papaya_map::map::HashMapRef::update_or_insert_with_told 𝓡.env wired) K V S S-Hasher R U F LK LV LS LH LR LU LF K-Hash
+    (met 𝓤 𝓛 𝓜 𝓡 (code.calls-papaya_map::map::HashMapRef::update_or_insert_with_observed 𝓡.env wired) K V S S-Hasher R U F LK LV LS LH LR LU LF K-Hash
     K-Hash-dict K-Eq K-Eq-dict K-PartialEq K-PartialEq-dict S-BuildHasher S-BuildHasher-dict S-Hasher-Hasher S-Hasher-Hasher-dict K-Destruct-dict
     V-Destruct-dict S-Hasher-Destruct-dict R-Wait R-Wait-dict U-Fn U-Fn-dict U-FnMut-dict U-FnOnce-dict F-FnOnce F-FnOnce-dict U-Destruct-dict
     F-Destruct-dict m1 m2 m3 m4 m5 m6 m7 m8 m9 m10 m11 m12 m13 m14 m15)

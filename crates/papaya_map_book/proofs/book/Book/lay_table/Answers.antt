@@ -10,9 +10,9 @@ use Rattle.papaya_map_book.proofs.book.Book.lay_table.Goals as goal
 
 pub invariant_of-table : goal.invariant_of-table
 invariant_of-table g c =
-    let slots = c.give_words.new.slots.items in let hints = c.stand_hints.new.hints.items in let book = c.in_ok-aborted.aborted.book in
+    let slots = c.give_words.new.slots.items in let hints = c.place_hints.new.hints.items in let book = c.in_ok-aborted.aborted.book in
     let all : AllOf book slots = search rules in
-    let beside : AreBeside slots hints = subst (λ (ws : List Named). AreBeside ws hints) c.deref.ensures.value c.stand_hints.ensures in
+    let beside : AreBeside slots hints = subst (λ (ws : List Named). AreBeside ws hints) c.deref.ensures.value c.place_hints.ensures in
     (search rules, search rules, search rules, all, search rules, hold_hints book slots hints c.words.new.row.next all c.give_words.ensures.keys beside)
 
 pub returns-clause-made : goal.returns-clause-made

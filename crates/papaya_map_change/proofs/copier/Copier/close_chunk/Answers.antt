@@ -4,7 +4,7 @@ use Rattle.papaya_call.specs.declared.copy.copying.Copying.TheVariants.{Stepping
 use Rattle.papaya_call.specs.declared.copy.step.Cursor.{Cursor}
 use Rattle.papaya_call.specs.declared.copy.step.Step.TheVariants.{Advancing, AtChunk}
 use Rattle.papaya_call.specs.declared.chain.ask.Answer.TheVariants.{Call}
-use Rattle.papaya_call.specs.Step.{IsStandingStep, next_cursor}
+use Rattle.papaya_call.specs.Step.{IsValidStep, next_cursor}
 use Rattle.papaya_map_book.specs.Hashes.{hash_of}
 use Rattle.papaya_map_book.specs.Parts.{begun_of}
 use Rattle.papaya_map_change.specs.Window.Settling.{stop_in}
@@ -21,8 +21,8 @@ exchange-closed-requires g c =
     let w = c.args.window.now in let site = c.args.site.now in
     record { can = asked w site.mode (stop_in w (Stepping site.aim (Advancing site.chunk.cursor)) c.args.self.now) c.requires.can }
 
-pub returns-in_default-clause-standing : goal.returns-in_default-clause-standing
-returns-in_default-clause-standing g c = c.requires.standing
+pub returns-in_default-clause-valid : goal.returns-in_default-clause-valid
+returns-in_default-clause-valid g c = c.requires.valid
 
 pub returns-in_default-clause-ends : goal.returns-in_default-clause-ends
 returns-in_default-clause-ends g c =
@@ -31,7 +31,7 @@ returns-in_default-clause-ends g c =
     let b = begun_of w.book.now.parts in let name = w.book.now.begun.book in
     let site = c.args.site.now in let one = c.exchange-closed in let w1 = one.new.window in
     ends_here eq hash b name site.mode (stop_in w (Stepping site.aim (Advancing site.chunk.cursor)) h) w1.sight.log one.new.self one.result
-    one.ensures.sees.log one.ensures.answers c.requires.standing one.ensures.fit
+    one.ensures.sees.log one.ensures.answers c.requires.valid one.ensures.fit
 
 pub load-done-requires : goal.load-done-requires
 load-done-requires g c =
@@ -41,7 +41,7 @@ load-done-requires g c =
     let site = c.args.site.now in let cursor = site.chunk.cursor in let one = c.exchange-closed in let w1 = one.new.window in let h1 = one.new.self in
     let next : Cursor = c.in-AtChunk.next in
     let is : next_cursor (record cursor { copied = true }) ≡ AtChunk next = sym c.next.ensures.value ∙ c.in-AtChunk.is in
-    let stands = subst IsStandingStep c.in-AtChunk.is c.next.ensures.standing in
+    let stands = subst IsValidStep c.in-AtChunk.is c.next.ensures.valid in
     let s : Stop _ _ _ _ = stop_in w (Stepping site.aim (Advancing cursor)) h in
     let t : Stop _ _ _ _ = stop_in w1 (Stepping site.aim (AtChunk next)) h1 in
     let turn : TurnsBy w site.mode s t = closed eq hash b name site.mode site.aim w.sight.log h w1.sight.log h1 one.ensures.sees.log cursor next one.result
@@ -56,7 +56,7 @@ returns-clause-ends g c =
     let site = c.args.site.now in let cursor = site.chunk.cursor in let one = c.exchange-closed in let w1 = one.new.window in let h1 = one.new.self in
     let next : Cursor = c.in-AtChunk.next in
     let is : next_cursor (record cursor { copied = true }) ≡ AtChunk next = sym c.next.ensures.value ∙ c.in-AtChunk.is in
-    let stands = subst IsStandingStep c.in-AtChunk.is c.next.ensures.standing in
+    let stands = subst IsValidStep c.in-AtChunk.is c.next.ensures.valid in
     let s : Stop _ _ _ _ = stop_in w (Stepping site.aim (Advancing cursor)) h in
     let t : Stop _ _ _ _ = stop_in w1 (Stepping site.aim (AtChunk next)) h1 in
     let turn : TurnsBy w site.mode s t = closed eq hash b name site.mode site.aim w.sight.log h w1.sight.log h1 one.ensures.sees.log cursor next one.result

@@ -10,7 +10,7 @@ use Rattle.papaya_map_book.specs.Hashes.{hash_of}
 use Rattle.papaya_map_book.specs.Parts.{begun_of}
 use Rattle.papaya_map_book.specs.Rule.{IsLawfulLog}
 use Rattle.papaya_map_book.proofs.Loaded.{table_since}
-use Rattle.papaya_map_change.specs.Window.Settling.{CanLeadAt, placing, stop_at}
+use Rattle.papaya_map_change.specs.Window.Settling.{CanStepAt, placing, stop_at}
 use Rattle.papaya_map_change.proofs.SettlingTurns.{lost, notes, notes_last, places}
 use Rattle.papaya_map_change.proofs.SettlingSeen.{TurnsBy, asked, can_on, leaves_on, left_on, low, placed_on, settled_on}
 use Rattle.papaya_map_change.proofs.copier.Copier.fill.Goals as goal
@@ -39,7 +39,7 @@ returns-then-found-ne0-clause-leaves g c =
     one.ensures.sees.log
     (lost eq hash (begun_of w.book.now.parts) w.book.now.begun.book m.place.table m.place.probe.i (Some kinds.Place) 0
     (live_word (pair_of m.marked)) w.sight.log h w1.sight.log h1 one.result tried one.ensures.rest (eqb-false one.result 0 is))
-    (c.requires.placed.standing, c.requires.at.within) tt
+    (c.requires.placed.valid, c.requires.at.within) tt
 
 pub write_hint_at-requires-clause-table : goal.write_hint_at-requires-clause-table
 write_hint_at-requires-clause-table g c =
@@ -57,9 +57,9 @@ write_hint_at-requires-clause-place g c =
     let is : (one.result == 0) ≡ true = search rules in
     let turn : TurnsBy w site.mode (stop_at w site (placing m) h)
     (stop_at w1 site (Carrying m.marked (Placed m.hash m.place)) h1) = places eq hash (begun_of w.book.now.parts)
-    w.book.now.begun.book site.mode site.aim site.chunk c.requires.placed.standing w.sight.log h w1.sight.log h1 one.ensures.sees.log
+    w.book.now.begun.book site.mode site.aim site.chunk c.requires.placed.valid w.sight.log h w1.sight.log h1 one.ensures.sees.log
     one.ensures.rest m.marked m.hash m.place c.requires.at.within one.result tried (eqb-true one.result 0 is) in
-    let can : CanLeadAt w1 site (Carrying m.marked (Placed m.hash m.place)) h1 = can_on w w1 one.ensures.sees.book site.mode
+    let can : CanStepAt w1 site (Carrying m.marked (Placed m.hash m.place)) h1 = can_on w w1 one.ensures.sees.book site.mode
     (stop_at w site (placing m) h)
     (stop_at w1 site (Carrying m.marked (Placed m.hash m.place)) h1) c.requires.can turn in
     let table = table_since w.sight.log w1.sight.log m.place.table m.to.now one.ensures.sees.log c.requires.at.table in
@@ -75,9 +75,9 @@ write_hint_at-requires-clause-hint g c =
     let is : (one.result == 0) ≡ true = search rules in
     let turn : TurnsBy w site.mode (stop_at w site (placing m) h)
     (stop_at w1 site (Carrying m.marked (Placed m.hash m.place)) h1) = places eq hash (begun_of w.book.now.parts)
-    w.book.now.begun.book site.mode site.aim site.chunk c.requires.placed.standing w.sight.log h w1.sight.log h1 one.ensures.sees.log
+    w.book.now.begun.book site.mode site.aim site.chunk c.requires.placed.valid w.sight.log h w1.sight.log h1 one.ensures.sees.log
     one.ensures.rest m.marked m.hash m.place c.requires.at.within one.result tried (eqb-true one.result 0 is) in
-    let can : CanLeadAt w1 site (Carrying m.marked (Placed m.hash m.place)) h1 = can_on w w1 one.ensures.sees.book site.mode
+    let can : CanStepAt w1 site (Carrying m.marked (Placed m.hash m.place)) h1 = can_on w w1 one.ensures.sees.book site.mode
     (stop_at w site (placing m) h)
     (stop_at w1 site (Carrying m.marked (Placed m.hash m.place)) h1) c.requires.can turn in
     let table = table_since w.sight.log w1.sight.log m.place.table m.to.now one.ensures.sees.log c.requires.at.table in
@@ -92,9 +92,9 @@ finish-requires-clause-placed g c =
     let is : (one.result == 0) ≡ true = search rules in
     let turn : TurnsBy w site.mode (stop_at w site (placing m) h)
     (stop_at w1 site (Carrying m.marked (Placed m.hash m.place)) h1) = places eq hash (begun_of w.book.now.parts)
-    w.book.now.begun.book site.mode site.aim site.chunk c.requires.placed.standing w.sight.log h w1.sight.log h1 one.ensures.sees.log
+    w.book.now.begun.book site.mode site.aim site.chunk c.requires.placed.valid w.sight.log h w1.sight.log h1 one.ensures.sees.log
     one.ensures.rest m.marked m.hash m.place c.requires.at.within one.result tried (eqb-true one.result 0 is) in
-    let can : CanLeadAt w1 site (Carrying m.marked (Placed m.hash m.place)) h1 = can_on w w1 one.ensures.sees.book site.mode
+    let can : CanStepAt w1 site (Carrying m.marked (Placed m.hash m.place)) h1 = can_on w w1 one.ensures.sees.book site.mode
     (stop_at w site (placing m) h)
     (stop_at w1 site (Carrying m.marked (Placed m.hash m.place)) h1) c.requires.can turn in
     let table = table_since w.sight.log w1.sight.log m.place.table m.to.now one.ensures.sees.log c.requires.at.table in
@@ -111,9 +111,9 @@ finish-requires-clause-can g c =
     let is : (one.result == 0) ≡ true = search rules in
     let turn : TurnsBy w site.mode (stop_at w site (placing m) h)
     (stop_at w1 site (Carrying m.marked (Placed m.hash m.place)) h1) = places eq hash (begun_of w.book.now.parts)
-    w.book.now.begun.book site.mode site.aim site.chunk c.requires.placed.standing w.sight.log h w1.sight.log h1 one.ensures.sees.log
+    w.book.now.begun.book site.mode site.aim site.chunk c.requires.placed.valid w.sight.log h w1.sight.log h1 one.ensures.sees.log
     one.ensures.rest m.marked m.hash m.place c.requires.at.within one.result tried (eqb-true one.result 0 is) in
-    let can : CanLeadAt w1 site (Carrying m.marked (Placed m.hash m.place)) h1 = can_on w w1 one.ensures.sees.book site.mode
+    let can : CanStepAt w1 site (Carrying m.marked (Placed m.hash m.place)) h1 = can_on w w1 one.ensures.sees.book site.mode
     (stop_at w site (placing m) h)
     (stop_at w1 site (Carrying m.marked (Placed m.hash m.place)) h1) c.requires.can turn in
     let table = table_since w.sight.log w1.sight.log m.place.table m.to.now one.ensures.sees.log c.requires.at.table in
@@ -121,7 +121,7 @@ finish-requires-clause-can g c =
     let lawful = subst (λ (z : _). IsLawfulLog eq hash (begun_of z.now.parts) w2.sight.log) two.ensures.sees.book two.ensures.lawful in
     let on : TurnsBy w1 site.mode (stop_at w1 site (Carrying m.marked (Placed m.hash m.place)) h1)
     (stop_at w2 site (Finishing m.marked) h1) = notes eq hash (begun_of w1.book.now.parts) w1.book.now.begun.book site.mode site.aim site.chunk
-    c.requires.placed.standing w1.sight.log h1 w2.sight.log h1 two.ensures.sees.log lawful refl m.marked m.hash m.place _
+    c.requires.placed.valid w1.sight.log h1 w2.sight.log h1 two.ensures.sees.log lawful refl m.marked m.hash m.place _
     c.in-Incremental.is in
     can_on w1 w2 two.ensures.sees.book site.mode (stop_at w1 site (Carrying m.marked (Placed m.hash m.place)) h1)
     (stop_at w2 site (Finishing m.marked) h1) can on
@@ -135,9 +135,9 @@ returns-in-Incremental-clause-leaves g c =
     let is : (one.result == 0) ≡ true = search rules in
     let turn : TurnsBy w site.mode (stop_at w site (placing m) h)
     (stop_at w1 site (Carrying m.marked (Placed m.hash m.place)) h1) = places eq hash (begun_of w.book.now.parts)
-    w.book.now.begun.book site.mode site.aim site.chunk c.requires.placed.standing w.sight.log h w1.sight.log h1 one.ensures.sees.log
+    w.book.now.begun.book site.mode site.aim site.chunk c.requires.placed.valid w.sight.log h w1.sight.log h1 one.ensures.sees.log
     one.ensures.rest m.marked m.hash m.place c.requires.at.within one.result tried (eqb-true one.result 0 is) in
-    let can : CanLeadAt w1 site (Carrying m.marked (Placed m.hash m.place)) h1 = can_on w w1 one.ensures.sees.book site.mode
+    let can : CanStepAt w1 site (Carrying m.marked (Placed m.hash m.place)) h1 = can_on w w1 one.ensures.sees.book site.mode
     (stop_at w site (placing m) h)
     (stop_at w1 site (Carrying m.marked (Placed m.hash m.place)) h1) c.requires.can turn in
     let table = table_since w.sight.log w1.sight.log m.place.table m.to.now one.ensures.sees.log c.requires.at.table in
@@ -145,7 +145,7 @@ returns-in-Incremental-clause-leaves g c =
     let lawful = subst (λ (z : _). IsLawfulLog eq hash (begun_of z.now.parts) w2.sight.log) two.ensures.sees.book two.ensures.lawful in
     let on : TurnsBy w1 site.mode (stop_at w1 site (Carrying m.marked (Placed m.hash m.place)) h1)
     (stop_at w2 site (Finishing m.marked) h1) = notes eq hash (begun_of w1.book.now.parts) w1.book.now.begun.book site.mode site.aim site.chunk
-    c.requires.placed.standing w1.sight.log h1 w2.sight.log h1 two.ensures.sees.log lawful refl m.marked m.hash m.place _
+    c.requires.placed.valid w1.sight.log h1 w2.sight.log h1 two.ensures.sees.log lawful refl m.marked m.hash m.place _
     c.in-Incremental.is in
     let end = c.finish in let w3 = end.new.window in
     leaves_on w w3 (end.ensures.sees.book ∙ (two.ensures.sees.book ∙ one.ensures.sees.book)) site
@@ -164,9 +164,9 @@ returns-in-Blocking-clause-leaves g c =
     let is : (one.result == 0) ≡ true = search rules in
     let turn : TurnsBy w site.mode (stop_at w site (placing m) h)
     (stop_at w1 site (Carrying m.marked (Placed m.hash m.place)) h1) = places eq hash (begun_of w.book.now.parts)
-    w.book.now.begun.book site.mode site.aim site.chunk c.requires.placed.standing w.sight.log h w1.sight.log h1 one.ensures.sees.log
+    w.book.now.begun.book site.mode site.aim site.chunk c.requires.placed.valid w.sight.log h w1.sight.log h1 one.ensures.sees.log
     one.ensures.rest m.marked m.hash m.place c.requires.at.within one.result tried (eqb-true one.result 0 is) in
-    let can : CanLeadAt w1 site (Carrying m.marked (Placed m.hash m.place)) h1 = can_on w w1 one.ensures.sees.book site.mode
+    let can : CanStepAt w1 site (Carrying m.marked (Placed m.hash m.place)) h1 = can_on w w1 one.ensures.sees.book site.mode
     (stop_at w site (placing m) h)
     (stop_at w1 site (Carrying m.marked (Placed m.hash m.place)) h1) c.requires.can turn in
     let table = table_since w.sight.log w1.sight.log m.place.table m.to.now one.ensures.sees.log c.requires.at.table in
@@ -175,5 +175,5 @@ returns-in-Blocking-clause-leaves g c =
     leaves_on w w2 (two.ensures.sees.book ∙ one.ensures.sees.book) site (stop_at w site (placing m) h)
     (stop_at w1 site (Carrying m.marked (Placed m.hash m.place)) h1) h1 None turn
     (settled_on w1 w2 two.ensures.sees.book site (stop_at w1 site (Carrying m.marked (Placed m.hash m.place)) h1) h1
-    (notes_last eq hash (begun_of w1.book.now.parts) w1.book.now.begun.book site.mode site.aim site.chunk c.requires.placed.standing w1.sight.log h1
+    (notes_last eq hash (begun_of w1.book.now.parts) w1.book.now.begun.book site.mode site.aim site.chunk c.requires.placed.valid w1.sight.log h1
     w2.sight.log h1 two.ensures.sees.log lawful refl m.marked m.hash m.place c.in-Blocking.is))

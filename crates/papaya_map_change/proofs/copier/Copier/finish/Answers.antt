@@ -27,5 +27,5 @@ returns-clause-leaves g c =
     let one = c.exchange_slot in let w1 = one.new.window in
     let tried = rw c.with_copy-copied.ensures at one.ensures.tried in
     settled_on w w1 one.ensures.sees.book site (stop_at w site (Finishing c.args.marked) h) one.new.self
-    (finished eq hash (begun_of w.book.now.parts) w.book.now.begun.book site.mode site.aim site.chunk c.requires.placed.standing w.sight.log h
+    (finished eq hash (begun_of w.book.now.parts) w.book.now.begun.book site.mode site.aim site.chunk c.requires.placed.valid w.sight.log h
     w1.sight.log one.new.self one.ensures.sees.log one.ensures.rest c.args.marked one.result tried)

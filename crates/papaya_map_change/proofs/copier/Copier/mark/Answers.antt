@@ -36,7 +36,7 @@ returns-then-found-word-clause-leaves g c =
     left_on w w1 one.ensures.sees.book site (Marking c.args.word) w.sight.log h h1 (Call (Found one.result)) one.ensures.sees.log
     (lost eq hash (begun_of w.book.now.parts) w.book.now.begun.book site.chunk.cursor.from site.chunk.at (Some kinds.Mark) c.args.word
     (marked_as c.args.word) w.sight.log h w1.sight.log h1 one.result tried one.ensures.rest (eqb-false one.result c.args.word is))
-    (c.requires.placed.standing, tt) tt
+    (c.requires.placed.valid, tt) tt
 
 pub transfer-requires-clause-placed : goal.transfer-requires-clause-placed
 transfer-requires-clause-placed g c =
@@ -54,7 +54,7 @@ transfer-requires-clause-can g c =
     let is : (one.result == c.args.word) ≡ true = search rules in
     let turn : TurnsBy w site.mode (stop_at w site (Marking c.args.word) h)
     (stop_at w1 site (Carrying (marked_as c.args.word) (Hashing site.chunk.cursor.to)) h1) = marks eq hash (begun_of w.book.now.parts)
-    w.book.now.begun.book site.mode site.aim site.chunk c.requires.placed.standing w.sight.log h w1.sight.log h1 one.ensures.sees.log
+    w.book.now.begun.book site.mode site.aim site.chunk c.requires.placed.valid w.sight.log h w1.sight.log h1 one.ensures.sees.log
     one.ensures.rest c.args.word one.result tried (eqb-true one.result c.args.word is) in
     rw c.with_mark-marked.ensures (can_on w w1 one.ensures.sees.book site.mode (stop_at w site (Marking c.args.word) h)
     (stop_at w1 site (Carrying (marked_as c.args.word) (Hashing site.chunk.cursor.to)) h1) c.requires.can turn)
@@ -68,7 +68,7 @@ returns-clause-leaves g c =
     let is : (one.result == c.args.word) ≡ true = search rules in
     let turn : TurnsBy w site.mode (stop_at w site (Marking c.args.word) h)
     (stop_at w1 site (Carrying (marked_as c.args.word) (Hashing site.chunk.cursor.to)) h1) = marks eq hash (begun_of w.book.now.parts)
-    w.book.now.begun.book site.mode site.aim site.chunk c.requires.placed.standing w.sight.log h w1.sight.log h1 one.ensures.sees.log
+    w.book.now.begun.book site.mode site.aim site.chunk c.requires.placed.valid w.sight.log h w1.sight.log h1 one.ensures.sees.log
     one.ensures.rest c.args.word one.result tried (eqb-true one.result c.args.word is) in
     let end = c.transfer in
     let left = subst (λ (z : ℕ). Leaves w1 site (Carrying z (Hashing site.chunk.cursor.to)) h1 end.new.window end.new.self end.result)

@@ -24,7 +24,7 @@ returns-then-word-ne0-clause-leaves g c =
     let one = c.load_slot-word in let w1 = one.new.window in let h1 = one.new.self in
     left_on w w1 one.ensures.sees.book site (reading m) w.sight.log h h1 (Call (Word one.result))
     one.ensures.sees.log
-    (record { word = one.result; is = refl; as_loaded = one.ensures.as_loaded; rest = one.ensures.rest }) (c.requires.placed.standing, c.requires.at.within) tt
+    (record { word = one.result; is = refl; as_loaded = one.ensures.as_loaded; rest = one.ensures.rest }) (c.requires.placed.valid, c.requires.at.within) tt
 
 pub fill-requires-clause-placed : goal.fill-requires-clause-placed
 fill-requires-clause-placed g c =
@@ -51,7 +51,7 @@ fill-requires-clause-can g c =
     let is : (one.result == 0) ≡ true = search rules in
     let turn : TurnsBy w site.mode (stop_at w site (reading m) h)
     (stop_at w1 site (placing m) h1) = finds eq hash (begun_of w.book.now.parts)
-    w.book.now.begun.book site.mode site.aim site.chunk c.requires.placed.standing w.sight.log h w1.sight.log h1 one.ensures.sees.log
+    w.book.now.begun.book site.mode site.aim site.chunk c.requires.placed.valid w.sight.log h w1.sight.log h1 one.ensures.sees.log
     one.ensures.rest one.result m.marked m.hash m.place c.requires.at.within one.ensures.as_loaded (eqb-true one.result 0 is) in
     can_on w w1 one.ensures.sees.book site.mode (stop_at w site (reading m) h)
     (stop_at w1 site (placing m) h1) c.requires.can turn
@@ -64,7 +64,7 @@ returns-clause-leaves g c =
     let is : (one.result == 0) ≡ true = search rules in
     let turn : TurnsBy w site.mode (stop_at w site (reading m) h)
     (stop_at w1 site (placing m) h1) = finds eq hash (begun_of w.book.now.parts)
-    w.book.now.begun.book site.mode site.aim site.chunk c.requires.placed.standing w.sight.log h w1.sight.log h1 one.ensures.sees.log
+    w.book.now.begun.book site.mode site.aim site.chunk c.requires.placed.valid w.sight.log h w1.sight.log h1 one.ensures.sees.log
     one.ensures.rest one.result m.marked m.hash m.place c.requires.at.within one.ensures.as_loaded (eqb-true one.result 0 is) in
     let end = c.fill in leaves_on w end.new.window (end.ensures.sees.book ∙ one.ensures.sees.book) site
     (stop_at w site (reading m) h)

@@ -7,7 +7,7 @@ use Rattle.papaya_call.specs.declared.chain.ask.Answer.TheVariants.{Call}
 use Rattle.papaya_map_book.specs.Hashes.{hash_of}
 use Rattle.papaya_map_book.specs.Parts.{begun_of}
 use Rattle.papaya_map_book.specs.Rule.{IsLawfulLog}
-use Rattle.papaya_map_change.specs.Window.Settling.{CanLeadAt, stop_at}
+use Rattle.papaya_map_change.specs.Window.Settling.{CanStepAt, stop_at}
 use Rattle.papaya_map_change.proofs.SettlingTurns.{closes, lost, shuts}
 use Rattle.papaya_map_change.proofs.SettlingSeen.{TurnsBy, asked, can_on, leaves_on, left_on, low, placed_on, settled_on}
 use Rattle.papaya_map_change.proofs.copier.Copier.seal_empty.Goals as goal
@@ -33,7 +33,7 @@ returns-then-found-ne0-clause-leaves g c =
     let is : (one.result == 0) ≡ false = search rules in
     left_on w w1 one.ensures.sees.book site Closing w.sight.log h h1 (Call (Found one.result)) one.ensures.sees.log
     (lost eq hash (begun_of w.book.now.parts) w.book.now.begun.book site.chunk.cursor.from site.chunk.at (Some kinds.Close) 0 5 w.sight.log h
-    w1.sight.log h1 one.result one.ensures.tried one.ensures.rest (eqb-false one.result 0 is)) (c.requires.placed.standing, tt) tt
+    w1.sight.log h1 one.result one.ensures.tried one.ensures.rest (eqb-false one.result 0 is)) (c.requires.placed.valid, tt) tt
 
 pub write_hint_at-requires-clause-table : goal.write_hint_at-requires-clause-table
 write_hint_at-requires-clause-table g c =
@@ -49,9 +49,9 @@ write_hint_at-requires-clause-place g c =
     let one = c.exchange_slot-found in let w1 = one.new.window in let h1 = one.new.self in
     let is : (one.result == 0) ≡ true = search rules in
     let turn : TurnsBy w site.mode (stop_at w site Closing h) (stop_at w1 site Shutting h1) = closes eq hash (begun_of w.book.now.parts)
-    w.book.now.begun.book site.mode site.aim site.chunk c.requires.placed.standing w.sight.log h w1.sight.log h1 one.ensures.sees.log
+    w.book.now.begun.book site.mode site.aim site.chunk c.requires.placed.valid w.sight.log h w1.sight.log h1 one.ensures.sees.log
     one.ensures.rest one.result one.ensures.tried (eqb-true one.result 0 is) in
-    let can : CanLeadAt w1 site Shutting h1 = can_on w w1 one.ensures.sees.book site.mode (stop_at w site Closing h) (stop_at w1 site Shutting h1)
+    let can : CanStepAt w1 site Shutting h1 = can_on w w1 one.ensures.sees.book site.mode (stop_at w site Closing h) (stop_at w1 site Shutting h1)
     c.requires.can turn in
     let table = (placed_on w w1 one.ensures.sees site c.requires.placed).table in
     low w1.sight.log w1.sight.log ([], append-nil w1.sight.log) site.chunk.cursor.from site.chunk.at
@@ -64,9 +64,9 @@ write_hint_at-requires-clause-hint g c =
     let one = c.exchange_slot-found in let w1 = one.new.window in let h1 = one.new.self in
     let is : (one.result == 0) ≡ true = search rules in
     let turn : TurnsBy w site.mode (stop_at w site Closing h) (stop_at w1 site Shutting h1) = closes eq hash (begun_of w.book.now.parts)
-    w.book.now.begun.book site.mode site.aim site.chunk c.requires.placed.standing w.sight.log h w1.sight.log h1 one.ensures.sees.log
+    w.book.now.begun.book site.mode site.aim site.chunk c.requires.placed.valid w.sight.log h w1.sight.log h1 one.ensures.sees.log
     one.ensures.rest one.result one.ensures.tried (eqb-true one.result 0 is) in
-    let can : CanLeadAt w1 site Shutting h1 = can_on w w1 one.ensures.sees.book site.mode (stop_at w site Closing h) (stop_at w1 site Shutting h1)
+    let can : CanStepAt w1 site Shutting h1 = can_on w w1 one.ensures.sees.book site.mode (stop_at w site Closing h) (stop_at w1 site Shutting h1)
     c.requires.can turn in
     let table = (placed_on w w1 one.ensures.sees site c.requires.placed).table in
     (asked w1 site.mode (stop_at w1 site Shutting h1) can).1
@@ -78,14 +78,14 @@ returns-clause-leaves g c =
     let one = c.exchange_slot-found in let w1 = one.new.window in let h1 = one.new.self in
     let is : (one.result == 0) ≡ true = search rules in
     let turn : TurnsBy w site.mode (stop_at w site Closing h) (stop_at w1 site Shutting h1) = closes eq hash (begun_of w.book.now.parts)
-    w.book.now.begun.book site.mode site.aim site.chunk c.requires.placed.standing w.sight.log h w1.sight.log h1 one.ensures.sees.log
+    w.book.now.begun.book site.mode site.aim site.chunk c.requires.placed.valid w.sight.log h w1.sight.log h1 one.ensures.sees.log
     one.ensures.rest one.result one.ensures.tried (eqb-true one.result 0 is) in
-    let can : CanLeadAt w1 site Shutting h1 = can_on w w1 one.ensures.sees.book site.mode (stop_at w site Closing h) (stop_at w1 site Shutting h1)
+    let can : CanStepAt w1 site Shutting h1 = can_on w w1 one.ensures.sees.book site.mode (stop_at w site Closing h) (stop_at w1 site Shutting h1)
     c.requires.can turn in
     let table = (placed_on w w1 one.ensures.sees site c.requires.placed).table in
     let two = c.write_hint_at in let w2 = two.new.window in
     let lawful = subst (λ (z : _). IsLawfulLog eq hash (begun_of z.now.parts) w2.sight.log) two.ensures.sees.book two.ensures.lawful in
     leaves_on w w2 (two.ensures.sees.book ∙ one.ensures.sees.book) site (stop_at w site Closing h) (stop_at w1 site Shutting h1) h1 None turn
     (settled_on w1 w2 two.ensures.sees.book site (stop_at w1 site Shutting h1) h1
-    (shuts eq hash (begun_of w1.book.now.parts) w1.book.now.begun.book site.mode site.aim site.chunk c.requires.placed.standing w1.sight.log h1
+    (shuts eq hash (begun_of w1.book.now.parts) w1.book.now.begun.book site.mode site.aim site.chunk c.requires.placed.valid w1.sight.log h1
     w2.sight.log h1 two.ensures.sees.log lawful refl))

@@ -1,7 +1,7 @@
 use Rattle.std.proofs.Common.{◌≡◌}
 use Rattle.papaya_map_book.specs.Windows.{Observes}
 use Rattle.papaya_map_change.specs.Seeking.{left_at}
-use Rattle.papaya_map_change.specs.Window.Settling.{CanLeadAt, IsAt, IsPlacedAt, Leads, looking, stop_at}
+use Rattle.papaya_map_change.specs.Window.Settling.{CanStepAt, IsAt, IsPlacedAt, StepsTo, looking, stop_at}
 use Rattle.papaya_map_change.proofs.copier.Copier.seek.Given as goal
 
 -- The answers so far led from the first place to this one.
@@ -10,8 +10,8 @@ invariant-loop-next g l = record {
   sees : Observes l.fn.window l.window;
   placed : IsPlacedAt l.window l.site;
   at : IsAt l.window l.moving;
-  can : CanLeadAt l.window l.site (looking l.moving) l.self;
-  leads : Leads l.window l.site.mode (stop_at l.fn.window l.site (looking l.fn.first) l.fn.self)
+  can : CanStepAt l.window l.site (looking l.moving) l.self;
+  leads : StepsTo l.window l.site.mode (stop_at l.fn.window l.site (looking l.fn.first) l.fn.self)
       (stop_at l.window l.site (looking l.moving) l.self);
 }
 

@@ -32,7 +32,7 @@ seal_empty-requires-clause-can g c =
     let one = c.load_slot-word in let w1 = one.new.window in let h1 = one.new.self in
     let seen = c.requires.waits.0 in let pre = c.requires.waits.1 in
     let turn : TurnsBy w site.mode (stop_seen seen site h) (stop_at w1 site Closing h1) = sees_empty eq hash (begun_of w.book.now.parts)
-    w.book.now.begun.book site.mode site.aim site.chunk c.requires.placed.standing seen h w1.sight.log h1
+    w.book.now.begun.book site.mode site.aim site.chunk c.requires.placed.valid seen h w1.sight.log h1
     (prefix_trans seen w.sight.log w1.sight.log pre one.ensures.sees.log) one.ensures.rest one.result one.ensures.as_loaded
     (sym c.kind.ensures ∙ c.in-Empty.is) in
     can_on w w1 one.ensures.sees.book site.mode (stop_seen seen site h) (stop_at w1 site Closing h1) c.requires.waits.2 turn
@@ -44,7 +44,7 @@ returns-in-Empty-clause-leaves g c =
     let eq = g.K.PartialEq.eq in let hash = hash_of g.K.Hash.hash_input g.S.BuildHasher.build_hasher g.S.Hasher.Hasher.write g.S.Hasher.Hasher.finish in
     let one = c.load_slot-word in let w1 = one.new.window in let h1 = one.new.self in
     let turn : TurnsBy w site.mode (stop_seen seen site h) (stop_at w1 site Closing h1) = sees_empty eq hash (begun_of w.book.now.parts)
-    w.book.now.begun.book site.mode site.aim site.chunk c.requires.placed.standing seen h w1.sight.log h1
+    w.book.now.begun.book site.mode site.aim site.chunk c.requires.placed.valid seen h w1.sight.log h1
     (prefix_trans seen w.sight.log w1.sight.log pre one.ensures.sees.log) one.ensures.rest one.result one.ensures.as_loaded
     (sym c.kind.ensures ∙ c.in-Empty.is) in
     let end = c.seal_empty in leaves_on w end.new.window (end.ensures.sees.book ∙ one.ensures.sees.book) site (stop_seen seen site h)
@@ -64,7 +64,7 @@ mark-requires-clause-can g c =
     let one = c.load_slot-word in let w1 = one.new.window in let h1 = one.new.self in
     let seen = c.requires.waits.0 in let pre = c.requires.waits.1 in
     let turn : TurnsBy w site.mode (stop_seen seen site h) (stop_at w1 site (Marking one.result) h1) = sees_live eq hash (begun_of w.book.now.parts)
-    w.book.now.begun.book site.mode site.aim site.chunk c.requires.placed.standing seen h w1.sight.log h1
+    w.book.now.begun.book site.mode site.aim site.chunk c.requires.placed.valid seen h w1.sight.log h1
     (prefix_trans seen w.sight.log w1.sight.log pre one.ensures.sees.log) one.ensures.rest one.result one.ensures.as_loaded
     (sym c.kind.ensures ∙ c.in-Live.is) in
     can_on w w1 one.ensures.sees.book site.mode (stop_seen seen site h) (stop_at w1 site (Marking one.result) h1) c.requires.waits.2 turn
@@ -76,7 +76,7 @@ returns-in-Live-clause-leaves g c =
     let eq = g.K.PartialEq.eq in let hash = hash_of g.K.Hash.hash_input g.S.BuildHasher.build_hasher g.S.Hasher.Hasher.write g.S.Hasher.Hasher.finish in
     let one = c.load_slot-word in let w1 = one.new.window in let h1 = one.new.self in
     let turn : TurnsBy w site.mode (stop_seen seen site h) (stop_at w1 site (Marking one.result) h1) = sees_live eq hash (begun_of w.book.now.parts)
-    w.book.now.begun.book site.mode site.aim site.chunk c.requires.placed.standing seen h w1.sight.log h1
+    w.book.now.begun.book site.mode site.aim site.chunk c.requires.placed.valid seen h w1.sight.log h1
     (prefix_trans seen w.sight.log w1.sight.log pre one.ensures.sees.log) one.ensures.rest one.result one.ensures.as_loaded
     (sym c.kind.ensures ∙ c.in-Live.is) in
     let end = c.mark in leaves_on w end.new.window (end.ensures.sees.book ∙ one.ensures.sees.book) site (stop_seen seen site h)
@@ -89,7 +89,7 @@ returns-in-Marked-clause-leaves g c =
     let eq = g.K.PartialEq.eq in let hash = hash_of g.K.Hash.hash_input g.S.BuildHasher.build_hasher g.S.Hasher.Hasher.write g.S.Hasher.Hasher.finish in
     let one = c.load_slot-word in let w1 = one.new.window in let h1 = one.new.self in
     left_on w w1 one.ensures.sees.book site Looking seen h h1 (Call (Word one.result)) (prefix_trans seen w.sight.log w1.sight.log pre one.ensures.sees.log)
-    (record { word = one.result; is = refl; as_loaded = one.ensures.as_loaded; rest = one.ensures.rest }) (c.requires.placed.standing, tt) tt
+    (record { word = one.result; is = refl; as_loaded = one.ensures.as_loaded; rest = one.ensures.rest }) (c.requires.placed.valid, tt) tt
 
 pub returns-in_default-clause-leaves : goal.returns-in_default-clause-leaves
 returns-in_default-clause-leaves g c =
@@ -98,6 +98,6 @@ returns-in_default-clause-leaves g c =
     let eq = g.K.PartialEq.eq in let hash = hash_of g.K.Hash.hash_input g.S.BuildHasher.build_hasher g.S.Hasher.Hasher.write g.S.Hasher.Hasher.finish in
     let one = c.load_slot-word in let w1 = one.new.window in let h1 = one.new.self in
     settled_on w w1 one.ensures.sees.book site (stop_seen seen site h) h1
-    (sees_settled eq hash (begun_of w.book.now.parts) w.book.now.begun.book site.mode site.aim site.chunk c.requires.placed.standing seen h
+    (sees_settled eq hash (begun_of w.book.now.parts) w.book.now.begun.book site.mode site.aim site.chunk c.requires.placed.valid seen h
     w1.sight.log h1 (prefix_trans seen w.sight.log w1.sight.log pre one.ensures.sees.log) one.ensures.rest one.result one.ensures.as_loaded
     (λ e. c.in_default.not-Empty (c.kind.ensures ∙ e)) (λ e. c.in_default.not-Live (c.kind.ensures ∙ e)) (λ e. c.in_default.not-Marked (c.kind.ensures ∙ e)))

@@ -5,7 +5,7 @@ use Rattle.papaya_call.specs.declared.copy.step.Chunk.{Chunk}
 use Rattle.papaya_call.specs.declared.copy.step.Step.TheVariants.{AtChunk}
 use Rattle.papaya_call.specs.declared.copy.settle.Settle.TheVariants.{Looking}
 use Rattle.papaya_call.specs.declared.chain.ask.Answer.TheVariants.{Call}
-use Rattle.papaya_call.specs.Step.{IsStandingChunk, chunk_at}
+use Rattle.papaya_call.specs.Step.{IsValidChunk, chunk_at}
 use Rattle.papaya_map_book.specs.Hashes.{hash_of}
 use Rattle.papaya_map_book.specs.Parts.{begun_of}
 use Rattle.papaya_map_change.specs.Window.Settling.{stop_in}
@@ -27,7 +27,7 @@ returns-then-done-ne0-clause-ends g c =
     let b = begun_of w.book.now.parts in let name = w.book.now.begun.book in
     let one = c.load-done in let w1 = one.new.window in
     ends_here eq hash b name c.args.mode (stop_in w (Stepping c.args.aim (AtChunk c.args.cursor)) h) w1.sight.log one.new.self (Call (Word one.result))
-    one.ensures.sees.log (record { word = one.result; is = refl; as_loaded = one.ensures.as_loaded; rest = one.ensures.rest }) c.requires.standing tt
+    one.ensures.sees.log (record { word = one.result; is = refl; as_loaded = one.ensures.as_loaded; rest = one.ensures.rest }) c.requires.valid tt
 
 pub copy_slots-requires-clause-can : goal.copy_slots-requires-clause-can
 copy_slots-requires-clause-can g c =
@@ -39,7 +39,7 @@ copy_slots-requires-clause-can g c =
     let s : Stop _ _ _ _ = stop_in w (Stepping c.args.aim (AtChunk cursor)) h in
     let t : Stop _ _ _ _ = stop_in w1 (at_slot c.args.aim chunk Looking) h1 in
     let t₀ : Stop _ _ _ _ = stop_in w1 (at_slot c.args.aim (chunk_at cursor) Looking) h1 in
-    let stands = subst IsStandingChunk c.chunk_of-chunk.ensures.value c.chunk_of-chunk.ensures.standing in
+    let stands = subst IsValidChunk c.chunk_of-chunk.ensures.value c.chunk_of-chunk.ensures.valid in
     let turn₀ : TurnsBy w c.args.mode s t₀ = takes eq hash b name c.args.mode c.args.aim w.sight.log h w1.sight.log h1 one.ensures.sees.log cursor one.result
     (record { word = one.result; is = refl; as_loaded = one.ensures.as_loaded; rest = one.ensures.rest }) (search rules) (search rules) stands in
     let turn : TurnsBy w c.args.mode s t = subst (λ (z : Chunk). TurnsBy w c.args.mode s (stop_in w1 (at_slot c.args.aim z Looking) h1))
@@ -56,7 +56,7 @@ returns-clause-ends g c =
     let s : Stop _ _ _ _ = stop_in w (Stepping c.args.aim (AtChunk cursor)) h in
     let t : Stop _ _ _ _ = stop_in w1 (at_slot c.args.aim chunk Looking) h1 in
     let t₀ : Stop _ _ _ _ = stop_in w1 (at_slot c.args.aim (chunk_at cursor) Looking) h1 in
-    let stands = subst IsStandingChunk c.chunk_of-chunk.ensures.value c.chunk_of-chunk.ensures.standing in
+    let stands = subst IsValidChunk c.chunk_of-chunk.ensures.value c.chunk_of-chunk.ensures.valid in
     let turn₀ : TurnsBy w c.args.mode s t₀ = takes eq hash b name c.args.mode c.args.aim w.sight.log h w1.sight.log h1 one.ensures.sees.log cursor one.result
     (record { word = one.result; is = refl; as_loaded = one.ensures.as_loaded; rest = one.ensures.rest }) (search rules) (search rules) stands in
     let turn : TurnsBy w c.args.mode s t = subst (λ (z : Chunk). TurnsBy w c.args.mode s (stop_in w1 (at_slot c.args.aim z Looking) h1))

@@ -32,7 +32,7 @@ table-to-requires g c =
     let one = c.carry-hash in let h1 = one.new.self in
     let turn : TurnsBy w site.mode (stop_at w site (Carrying c.args.marked (Hashing site.chunk.cursor.to)) h)
     (stop_at w site (Carrying c.args.marked (Sizing c.carry-hash.result site.chunk.cursor.to)) h1) = hashes eq hash (begun_of w.book.now.parts)
-    w.book.now.begun.book site.mode site.aim site.chunk c.requires.placed.standing w.sight.log h h1 c.args.marked site.chunk.cursor.to one.result
+    w.book.now.begun.book site.mode site.aim site.chunk c.requires.placed.valid w.sight.log h h1 c.args.marked site.chunk.cursor.to one.result
     one.ensures.carries one.ensures.rest in
     let can = can_on w w refl site.mode (stop_at w site (Carrying c.args.marked (Hashing site.chunk.cursor.to)) h)
     (stop_at w site (Carrying c.args.marked (Sizing c.carry-hash.result site.chunk.cursor.to)) h1) c.requires.can turn in
@@ -52,7 +52,7 @@ seek-requires-clause-at g c =
     let one = c.carry-hash in let h1 = one.new.self in
     let turn : TurnsBy w site.mode (stop_at w site (Carrying c.args.marked (Hashing site.chunk.cursor.to)) h)
     (stop_at w site (Carrying c.args.marked (Sizing c.carry-hash.result site.chunk.cursor.to)) h1) = hashes eq hash (begun_of w.book.now.parts)
-    w.book.now.begun.book site.mode site.aim site.chunk c.requires.placed.standing w.sight.log h h1 c.args.marked site.chunk.cursor.to one.result
+    w.book.now.begun.book site.mode site.aim site.chunk c.requires.placed.valid w.sight.log h h1 c.args.marked site.chunk.cursor.to one.result
     one.ensures.carries one.ensures.rest in
     let can = can_on w w refl site.mode (stop_at w site (Carrying c.args.marked (Hashing site.chunk.cursor.to)) h)
     (stop_at w site (Carrying c.args.marked (Sizing c.carry-hash.result site.chunk.cursor.to)) h1) c.requires.can turn in
@@ -65,7 +65,7 @@ seek-requires-clause-at g c =
     let within : IsWithin first = subst IsWithin c.first-place.ensures.value c.first-place.ensures.within in
     let on : TurnsBy w site.mode (stop_at w site (Carrying c.args.marked (Sizing c.carry-hash.result site.chunk.cursor.to)) h1)
     (stop_at w2 site (Carrying c.args.marked (Looking_at c.carry-hash.result first)) h1) = sizes_next eq hash (begun_of w.book.now.parts)
-    w.book.now.begun.book site.mode site.aim site.chunk c.requires.placed.standing w.sight.log h1 w2.sight.log h1 pre c.args.marked one.result
+    w.book.now.begun.book site.mode site.aim site.chunk c.requires.placed.valid w.sight.log h1 w2.sight.log h1 pre c.args.marked one.result
     site.chunk.cursor.to two.result size_of refl within in
     record {
       within = c.first-place.ensures.within;
@@ -80,7 +80,7 @@ seek-requires-clause-can g c =
     let one = c.carry-hash in let h1 = one.new.self in
     let turn : TurnsBy w site.mode (stop_at w site (Carrying c.args.marked (Hashing site.chunk.cursor.to)) h)
     (stop_at w site (Carrying c.args.marked (Sizing c.carry-hash.result site.chunk.cursor.to)) h1) = hashes eq hash (begun_of w.book.now.parts)
-    w.book.now.begun.book site.mode site.aim site.chunk c.requires.placed.standing w.sight.log h h1 c.args.marked site.chunk.cursor.to one.result
+    w.book.now.begun.book site.mode site.aim site.chunk c.requires.placed.valid w.sight.log h h1 c.args.marked site.chunk.cursor.to one.result
     one.ensures.carries one.ensures.rest in
     let can = can_on w w refl site.mode (stop_at w site (Carrying c.args.marked (Hashing site.chunk.cursor.to)) h)
     (stop_at w site (Carrying c.args.marked (Sizing c.carry-hash.result site.chunk.cursor.to)) h1) c.requires.can turn in
@@ -93,7 +93,7 @@ seek-requires-clause-can g c =
     let within : IsWithin first = subst IsWithin c.first-place.ensures.value c.first-place.ensures.within in
     let on : TurnsBy w site.mode (stop_at w site (Carrying c.args.marked (Sizing c.carry-hash.result site.chunk.cursor.to)) h1)
     (stop_at w2 site (Carrying c.args.marked (Looking_at c.carry-hash.result first)) h1) = sizes_next eq hash (begun_of w.book.now.parts)
-    w.book.now.begun.book site.mode site.aim site.chunk c.requires.placed.standing w.sight.log h1 w2.sight.log h1 pre c.args.marked one.result
+    w.book.now.begun.book site.mode site.aim site.chunk c.requires.placed.valid w.sight.log h1 w2.sight.log h1 pre c.args.marked one.result
     site.chunk.cursor.to two.result size_of refl within in
     rw c.first-place.ensures.value (can_on w w2 same site.mode
     (stop_at w site (Carrying c.args.marked (Sizing c.carry-hash.result site.chunk.cursor.to)) h1)
@@ -106,7 +106,7 @@ returns-clause-leaves g c =
     let one = c.carry-hash in let h1 = one.new.self in
     let turn : TurnsBy w site.mode (stop_at w site (Carrying c.args.marked (Hashing site.chunk.cursor.to)) h)
     (stop_at w site (Carrying c.args.marked (Sizing c.carry-hash.result site.chunk.cursor.to)) h1) = hashes eq hash (begun_of w.book.now.parts)
-    w.book.now.begun.book site.mode site.aim site.chunk c.requires.placed.standing w.sight.log h h1 c.args.marked site.chunk.cursor.to one.result
+    w.book.now.begun.book site.mode site.aim site.chunk c.requires.placed.valid w.sight.log h h1 c.args.marked site.chunk.cursor.to one.result
     one.ensures.carries one.ensures.rest in
     let can = can_on w w refl site.mode (stop_at w site (Carrying c.args.marked (Hashing site.chunk.cursor.to)) h)
     (stop_at w site (Carrying c.args.marked (Sizing c.carry-hash.result site.chunk.cursor.to)) h1) c.requires.can turn in
@@ -119,7 +119,7 @@ returns-clause-leaves g c =
     let within : IsWithin first = subst IsWithin c.first-place.ensures.value c.first-place.ensures.within in
     let on : TurnsBy w site.mode (stop_at w site (Carrying c.args.marked (Sizing c.carry-hash.result site.chunk.cursor.to)) h1)
     (stop_at w2 site (Carrying c.args.marked (Looking_at c.carry-hash.result first)) h1) = sizes_next eq hash (begun_of w.book.now.parts)
-    w.book.now.begun.book site.mode site.aim site.chunk c.requires.placed.standing w.sight.log h1 w2.sight.log h1 pre c.args.marked one.result
+    w.book.now.begun.book site.mode site.aim site.chunk c.requires.placed.valid w.sight.log h1 w2.sight.log h1 pre c.args.marked one.result
     site.chunk.cursor.to two.result size_of refl within in
     let end = c.seek in let w3 = end.new.window in let all = end.ensures.sees.book ∙ same in
     let left = subst (λ (z : Place). Leaves w2 site (Carrying c.args.marked (Looking_at one.result z)) h1 w3 end.new.self end.result)

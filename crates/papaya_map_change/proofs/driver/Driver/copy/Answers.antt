@@ -33,5 +33,5 @@ returns-clause-copies g c = λ matches fed form k begun made r.
     c.answer.ensures.answers) in
     copied g.K.PartialEq.eq g.K.Hash.hash_input g.S.BuildHasher.build_hasher g.S.Hasher.Hasher.write g.S.Hasher.Hasher.finish g.met.K.Eq.laws
     g.met.K.Hash.respects_eq (begun_of c.args.window.now.book.now.parts) c.args.window.now.book.now.begun.book matches fed form k begun made
-    c.args.window.now.sight.log c.args.self.now r c.requires.standing log c.answer.ensures.sees.log h c.args.ask c.requires.asks
+    c.args.window.now.sight.log c.args.self.now r c.requires.valid log c.answer.ensures.sees.log h c.args.ask c.requires.asks
     c.answer.result told

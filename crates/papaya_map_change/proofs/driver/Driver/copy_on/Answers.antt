@@ -1,14 +1,14 @@
 use Rattle.std.proofs.Common.{◌≡◌, refl, sym, ap, ◌∙◌, subst}
-use Rattle.papaya_call.specs.ChainMachine.{IsStanding}
+use Rattle.papaya_call.specs.ChainMachine.{IsValid}
 use Rattle.papaya_map_change.specs.declared.driver.Driver.{Driver}
 use Rattle.papaya_map_change.specs.Going.{with_copier, with_machine}
 use Rattle.papaya_map_change.proofs.driver.Driver.copy_on.Goals as goal
 
-pub returns-in_default-clause-standing : goal.returns-in_default-clause-standing
-returns-in_default-clause-standing g c =
+pub returns-in_default-clause-valid : goal.returns-in_default-clause-valid
+returns-in_default-clause-valid g c =
     let w = c.args.window.now in let c₀ = c.args.self.now in let one = c.copy in let now = one.new.self in
     let machine_is : now.machine ≡ c₀.machine = ap (λ (z : Driver _ _ _ _). z.machine) one.ensures.rest in
-    subst IsStanding (sym machine_is) c.requires.standing
+    subst IsValid (sym machine_is) c.requires.valid
 
 pub returns-in_default-clause-goes : goal.returns-in_default-clause-goes
 returns-in_default-clause-goes g c =

@@ -38,7 +38,7 @@ unreachable-requires-in-ShowNone g c =
     let may : (a : Ask) → c.in-Call.ask ≡ a → MayAsk (Insert true) (calls.kind_of_ask m.call) a = λ a e.
     let own = call_asks m a (sym c.ask.ensures.value ∙ c.in-Call.is ∙ ap (λ z. Call z) e) in
     subst (λ (z : Ask). MayAsk (Insert true) (calls.kind_of_ask m.call) z) own.1
-    (subst (λ (z : Task). MayAsk z (calls.kind_of_ask m.call) (calls.ask_of m.call)) task (asked_of_task m.call c.requires.standing.call)) in
+    (subst (λ (z : Task). MayAsk z (calls.kind_of_ask m.call) (calls.ask_of m.call)) task (asked_of_task m.call c.requires.valid.call)) in
     ⊎_elim
     (λ e. may ShowNone e)
     (λ o.
@@ -62,7 +62,7 @@ returns-in-Load-clause-inserts g c = λ key value begun r.
     goes_on g.K.PartialEq.eq g.K.Hash.hash_input g.S.BuildHasher.build_hasher g.S.Hasher.Hasher.write g.S.Hasher.Hasher.finish g.met.K.Eq.laws
     g.met.K.Hash.respects_eq (begun_of c.args.window.now.book.now.parts) c.args.window.now.book.now.begun.book key value begun
     c.args.window.now.sight.log c.args.self.now r c.load.new.window.sight.log c.load.ensures.steps.sees.log c.load.new.self c.load.result on.machine
-    on.value on.put c.requires.standing c.requires.calling (λ reply h. let f = sym asks ∙ h in cc f)
+    on.value on.put c.requires.valid c.requires.calling (λ reply h. let f = sym asks ∙ h in cc f)
     (λ n e makes. subst (λ (a : Ask). MakesPair a) (call_asks c.args.self.now.writer.call.machine _ asks).1 makes) c.load.ensures.tells on.unsaid
     (on.writes key r.made begun r.writing)
 
@@ -72,7 +72,7 @@ returns-in-LoadHint-clause-inserts g c = λ key value begun r.
     goes_on g.K.PartialEq.eq g.K.Hash.hash_input g.S.BuildHasher.build_hasher g.S.Hasher.Hasher.write g.S.Hasher.Hasher.finish g.met.K.Eq.laws
     g.met.K.Hash.respects_eq (begun_of c.args.window.now.book.now.parts) c.args.window.now.book.now.begun.book key value begun
     c.args.window.now.sight.log c.args.self.now r c.hint.new.window.sight.log c.hint.ensures.steps.sees.log c.args.self.now.writer c.hint.result refl refl
-    refl c.requires.standing c.requires.calling (λ reply h. let f = sym asks ∙ h in cc f)
+    refl c.requires.valid c.requires.calling (λ reply h. let f = sym asks ∙ h in cc f)
     (λ n e makes. subst (λ (a : Ask). MakesPair a) (call_asks c.args.self.now.writer.call.machine _ asks).1 makes)
     (λ number. absurd (subst (λ (a : Ask). IsNumberAsk a) (call_asks c.args.self.now.writer.call.machine _ asks).1 number)) c.hint.ensures.steps.unsaid
     (c.hint.ensures.steps.writes key r.made begun r.writing)
@@ -84,7 +84,7 @@ returns-in-WriteHint-clause-inserts g c = λ key value begun r.
     goes_on g.K.PartialEq.eq g.K.Hash.hash_input g.S.BuildHasher.build_hasher g.S.Hasher.Hasher.write g.S.Hasher.Hasher.finish g.met.K.Eq.laws
     g.met.K.Hash.respects_eq (begun_of c.args.window.now.book.now.parts) c.args.window.now.book.now.begun.book key value begun
     c.args.window.now.sight.log c.args.self.now r c.args.window.now.sight.log ([], append-nil _) c.args.self.now.writer c.write_hint.result refl refl refl
-    c.requires.standing c.requires.calling (λ reply h. let f = sym asks ∙ h in cc f)
+    c.requires.valid c.requires.calling (λ reply h. let f = sym asks ∙ h in cc f)
     (λ n e makes. subst (λ (a : Ask). MakesPair a) (call_asks c.args.self.now.writer.call.machine _ asks).1 makes)
     (λ number. absurd (subst (λ (a : Ask). IsNumberAsk a) (call_asks c.args.self.now.writer.call.machine _ asks).1 number)) c.write_hint.ensures.steps.unsaid
     (c.write_hint.ensures.steps.writes key r.made begun r.writing)
@@ -95,7 +95,7 @@ returns-in-SizeOf-clause-inserts g c = λ key value begun r. let some : (n : ℕ
     goes_on g.K.PartialEq.eq g.K.Hash.hash_input g.S.BuildHasher.build_hasher g.S.Hasher.Hasher.write g.S.Hasher.Hasher.finish g.met.K.Eq.laws
     g.met.K.Hash.respects_eq (begun_of c.args.window.now.book.now.parts) c.args.window.now.book.now.begun.book key value begun
     c.args.window.now.sight.log c.args.self.now r c.args.window.now.sight.log ([], append-nil _) c.args.self.now.writer c.size.result refl refl refl
-    c.requires.standing c.requires.calling (λ reply h. let f = sym asks ∙ h in cc f)
+    c.requires.valid c.requires.calling (λ reply h. let f = sym asks ∙ h in cc f)
     (λ n e makes. subst (λ (a : Ask). MakesPair a) (call_asks c.args.self.now.writer.call.machine _ asks).1 makes)
     (λ number. absurd (subst (λ (a : Ask). IsNumberAsk a) (call_asks c.args.self.now.writer.call.machine _ asks).1 number)) c.size.ensures.steps.unsaid
     (c.size.ensures.steps.writes key r.made begun r.writing)
@@ -106,7 +106,7 @@ returns-in-SameKey-clause-inserts g c = λ key value begun r. let some : (n : �
     goes_on g.K.PartialEq.eq g.K.Hash.hash_input g.S.BuildHasher.build_hasher g.S.Hasher.Hasher.write g.S.Hasher.Hasher.finish g.met.K.Eq.laws
     g.met.K.Hash.respects_eq (begun_of c.args.window.now.book.now.parts) c.args.window.now.book.now.begun.book key value begun
     c.args.window.now.sight.log c.args.self.now r c.args.window.now.sight.log ([], append-nil _) c.args.self.now.writer c.same.result refl refl refl
-    c.requires.standing c.requires.calling (λ reply h. let f = sym asks ∙ h in cc f)
+    c.requires.valid c.requires.calling (λ reply h. let f = sym asks ∙ h in cc f)
     (λ n e makes. subst (λ (a : Ask). MakesPair a) (call_asks c.args.self.now.writer.call.machine _ asks).1 makes)
     (λ number. absurd (subst (λ (a : Ask). IsNumberAsk a) (call_asks c.args.self.now.writer.call.machine _ asks).1 number)) c.same.ensures.steps.unsaid
     (c.same.ensures.steps.writes key r.made begun r.writing)
@@ -118,7 +118,7 @@ returns-in-MakeKey-clause-inserts g c = λ key value begun r.
     goes_on g.K.PartialEq.eq g.K.Hash.hash_input g.S.BuildHasher.build_hasher g.S.Hasher.Hasher.write g.S.Hasher.Hasher.finish g.met.K.Eq.laws
     g.met.K.Hash.respects_eq (begun_of c.args.window.now.book.now.parts) c.args.window.now.book.now.begun.book key value begun
     c.args.window.now.sight.log c.args.self.now r c.args.window.now.sight.log ([], append-nil _) c.args.self.now.writer c.make_part.result refl refl
-    refl c.requires.standing c.requires.calling (λ reply h. let f = sym asks ∙ h in cc f)
+    refl c.requires.valid c.requires.calling (λ reply h. let f = sym asks ∙ h in cc f)
     (λ n e makes. subst (λ (a : Ask). MakesPair a) (call_asks c.args.self.now.writer.call.machine _ asks).1 makes)
     (λ number. absurd (subst (λ (a : Ask). IsNumberAsk a) (call_asks c.args.self.now.writer.call.machine _ asks).1 number))
     c.make_part.ensures.unsaid (c.make_part.ensures.makes c.args.window.now key r.made begun r.writing))
@@ -126,7 +126,7 @@ returns-in-MakeKey-clause-inserts g c = λ key value begun r.
     goes_on g.K.PartialEq.eq g.K.Hash.hash_input g.S.BuildHasher.build_hasher g.S.Hasher.Hasher.write g.S.Hasher.Hasher.finish g.met.K.Eq.laws
     g.met.K.Hash.respects_eq (begun_of c.args.window.now.book.now.parts) c.args.window.now.book.now.begun.book key value begun
     c.args.window.now.sight.log c.args.self.now r c.args.window.now.sight.log ([], append-nil _) c.args.self.now.writer c.make_part.result refl refl
-    refl c.requires.standing c.requires.calling (λ reply h. let f = sym asks ∙ h in cc f)
+    refl c.requires.valid c.requires.calling (λ reply h. let f = sym asks ∙ h in cc f)
     (λ n e makes. subst (λ (a : Ask). MakesPair a) (call_asks c.args.self.now.writer.call.machine _ asks).1 makes)
     (λ number. absurd (subst (λ (a : Ask). IsNumberAsk a) (call_asks c.args.self.now.writer.call.machine _ asks).1 number))
     c.make_part.ensures.unsaid (c.make_part.ensures.makes c.args.window.now key r.made begun r.writing))
@@ -139,7 +139,7 @@ returns-in-MakeTable-clause-inserts g c = λ key value begun r.
     goes_on g.K.PartialEq.eq g.K.Hash.hash_input g.S.BuildHasher.build_hasher g.S.Hasher.Hasher.write g.S.Hasher.Hasher.finish g.met.K.Eq.laws
     g.met.K.Hash.respects_eq (begun_of c.args.window.now.book.now.parts) c.args.window.now.book.now.begun.book key value begun
     c.args.window.now.sight.log c.args.self.now r c.make_table.new.window.sight.log c.make_table.ensures.steps.sees.log c.make_table.new.self
-    c.make_table.result on.machine on.value on.put c.requires.standing c.requires.calling (λ reply h. let f = sym asks ∙ h in cc f)
+    c.make_table.result on.machine on.value on.put c.requires.valid c.requires.calling (λ reply h. let f = sym asks ∙ h in cc f)
     (λ n e makes. subst (λ (a : Ask). MakesPair a) (call_asks c.args.self.now.writer.call.machine _ asks).1 makes)
     (λ number. absurd (subst (λ (a : Ask). IsNumberAsk a) (call_asks c.args.self.now.writer.call.machine _ asks).1 number)) on.unsaid
     (on.writes key r.made begun r.writing)
@@ -151,7 +151,7 @@ returns-in-Exchange-Root-default-default-clause-inserts g c = λ key value begun
     goes_on g.K.PartialEq.eq g.K.Hash.hash_input g.S.BuildHasher.build_hasher g.S.Hasher.Hasher.write g.S.Hasher.Hasher.finish g.met.K.Eq.laws
     g.met.K.Hash.respects_eq (begun_of c.args.window.now.book.now.parts) c.args.window.now.book.now.begun.book key value begun
     c.args.window.now.sight.log c.args.self.now r c.open.new.window.sight.log c.open.ensures.steps.sees.log c.open.new.self c.open.result on.machine
-    on.value on.put c.requires.standing c.requires.calling (λ reply h. let f = sym asks ∙ h in cc f)
+    on.value on.put c.requires.valid c.requires.calling (λ reply h. let f = sym asks ∙ h in cc f)
     (λ n e makes. subst (λ (a : Ask). MakesPair a) (call_asks c.args.self.now.writer.call.machine _ asks).1 makes)
     (λ number. absurd (subst (λ (a : Ask). IsNumberAsk a) (call_asks c.args.self.now.writer.call.machine _ asks).1 number)) on.unsaid
     (on.writes key r.made begun r.writing)
@@ -162,7 +162,7 @@ returns-in-AddToShard-clause-inserts g c = λ key value begun r.
     goes_on g.K.PartialEq.eq g.K.Hash.hash_input g.S.BuildHasher.build_hasher g.S.Hasher.Hasher.write g.S.Hasher.Hasher.finish g.met.K.Eq.laws
     g.met.K.Hash.respects_eq (begun_of c.args.window.now.book.now.parts) c.args.window.now.book.now.begun.book key value begun
     c.args.window.now.sight.log c.args.self.now r c.args.window.now.sight.log ([], append-nil _) c.args.self.now.writer Ok refl refl refl
-    c.requires.standing c.requires.calling (λ reply h. let f = sym asks ∙ h in cc f)
+    c.requires.valid c.requires.calling (λ reply h. let f = sym asks ∙ h in cc f)
     (λ n e makes. subst (λ (a : Ask). MakesPair a) (call_asks c.args.self.now.writer.call.machine _ asks).1 makes)
     (λ number. absurd (subst (λ (a : Ask). IsNumberAsk a) (call_asks c.args.self.now.writer.call.machine _ asks).1 number)) (λ cause e. absurd (cc e))
     (counted_on g.K.PartialEq.eq g.K.Hash.hash_input g.S.BuildHasher.build_hasher g.S.Hasher.Hasher.write g.S.Hasher.Hasher.finish g.met.K.Eq.laws
@@ -176,6 +176,6 @@ returns-in-Exchange-Made-default-default-clause-inserts g c = λ key value begun
     goes_on g.K.PartialEq.eq g.K.Hash.hash_input g.S.BuildHasher.build_hasher g.S.Hasher.Hasher.write g.S.Hasher.Hasher.finish g.met.K.Eq.laws
     g.met.K.Hash.respects_eq (begun_of c.args.window.now.book.now.parts) c.args.window.now.book.now.begun.book key value begun
     c.args.window.now.sight.log c.args.self.now r c.take.new.window.sight.log on.sees.log c.args.self.now.writer c.take.result refl refl refl
-    c.requires.standing c.requires.calling (λ reply h. let f = sym asks ∙ h in cc f)
+    c.requires.valid c.requires.calling (λ reply h. let f = sym asks ∙ h in cc f)
     (λ n e makes. subst (λ (a : Ask). MakesPair a) (call_asks c.args.self.now.writer.call.machine _ asks).1 makes) c.take.ensures.tells on.unsaid
     (on.writes key r.made begun r.writing)

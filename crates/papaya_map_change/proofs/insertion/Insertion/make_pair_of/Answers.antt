@@ -8,8 +8,8 @@ use Rattle.papaya_map_change.proofs.Inserting.{pair_of_made, pair_unmade}
 use Rattle.papaya_map_change.proofs.OwnParts.{unlogged_unmade}
 use Rattle.papaya_map_change.proofs.insertion.Insertion.make_pair_of.Goals as goal
 
-pub log_pair_of-requires-clause-waits : goal.log_pair_of-requires-clause-waits
-log_pair_of-requires-clause-waits g c = (
+pub store_pair_of-requires-clause-waits : goal.store_pair_of-requires-clause-waits
+store_pair_of-requires-clause-waits g c = (
   c.requires.asks.0,
   record {
     can = (c.requires.can.0, c.requires.can.3.made, c.requires.can.2, c.requires.can.3.writing);
@@ -19,18 +19,18 @@ log_pair_of-requires-clause-waits g c = (
 
 pub returns-in-Ok-clause-inserts : goal.returns-in-Ok-clause-inserts
 returns-in-Ok-clause-inserts g c = λ key value begun r.
-    let logged = c.in-Ok.ensures.logs in let same = c.log_pair_of.ensures.logs in let own = call_asks c.args.self.now.writer.call.machine _ c.requires.asks.1 in
+    let logged = c.in-Ok.ensures.stores in let same = c.store_pair_of.ensures.stores in let own = call_asks c.args.self.now.writer.call.machine _ c.requires.asks.1 in
     pair_of_made g.K.PartialEq.eq g.K.Hash.hash_input g.S.BuildHasher.build_hasher g.S.Hasher.Hasher.write g.S.Hasher.Hasher.finish g.met.K.Eq.laws
     g.met.K.Hash.respects_eq (begun_of c.args.window.now.book.now.parts) c.args.window.now.book.now.begun.book key value begun
-    c.args.window.now.sight.log c.args.self.now r c.log_pair_of.new.self c.in-Ok.pair c.index-number.result c.index-number.ensures same.machine
-    logged.value same.left same.put c.requires.standing own.0 (subst (λ (a : Ask). MakesPair a) (sym own.1) tt)
+    c.args.window.now.sight.log c.args.self.now r c.store_pair_of.new.self c.in-Ok.pair c.index-number.result c.index-number.ensures same.machine
+    logged.value same.left same.put c.requires.valid own.0 (subst (λ (a : Ask). MakesPair a) (sym own.1) tt)
     (logged.pairs key r.made begun r.writing) c.requires.asks.0 c.requires.asks.1 c.in-Ok.ensures.key
 
 pub returns-in-Err-clause-inserts : goal.returns-in-Err-clause-inserts
 returns-in-Err-clause-inserts g c = λ key value begun r.
-    let same = c.log_pair_of.ensures.logs in let own = call_asks c.args.self.now.writer.call.machine _ c.requires.asks.1 in
+    let same = c.store_pair_of.ensures.stores in let own = call_asks c.args.self.now.writer.call.machine _ c.requires.asks.1 in
     pair_unmade g.K.PartialEq.eq g.K.Hash.hash_input g.S.BuildHasher.build_hasher g.S.Hasher.Hasher.write g.S.Hasher.Hasher.finish g.met.K.Eq.laws
     g.met.K.Hash.respects_eq (begun_of c.args.window.now.book.now.parts) c.args.window.now.book.now.begun.book key value begun
-    c.args.window.now.sight.log c.args.self.now r c.log_pair_of.new.self c.in-Err.answer same.machine same.left same.put c.requires.standing own.0
-    (λ reply h. let f = sym c.requires.asks.1 ∙ h in cc f) (unlogged_unmade c.in-Err.answer c.in-Err.ensures.logs.unlogged)
-    (λ number. absurd (subst (λ (a : Ask). IsNumberAsk a) own.1 number)) c.in-Err.ensures.logs.unsaid (c.in-Err.ensures.logs.writes key r.made begun r.writing)
+    c.args.window.now.sight.log c.args.self.now r c.store_pair_of.new.self c.in-Err.answer same.machine same.left same.put c.requires.valid own.0
+    (λ reply h. let f = sym c.requires.asks.1 ∙ h in cc f) (unlogged_unmade c.in-Err.answer c.in-Err.ensures.stores.unlogged)
+    (λ number. absurd (subst (λ (a : Ask). IsNumberAsk a) own.1 number)) c.in-Err.ensures.stores.unsaid (c.in-Err.ensures.stores.writes key r.made begun r.writing)

@@ -11,7 +11,7 @@ use Rattle.papaya_map_book.specs.Logs.{Stored}
 use Rattle.papaya_map_book.specs.Parts.{begun_of}
 use Rattle.papaya_map_change.specs.declared.removal.Removal.{Removal}
 use Rattle.papaya_map_change.specs.Removing.{IsRemovingOn}
-use Rattle.papaya_map_change.specs.Showings.{Judges}
+use Rattle.papaya_map_change.specs.ClosureCalls.{Judges}
 use Rattle.papaya_map_lookup.specs.History.{key_of}
 use Rattle.papaya_map_lookup.proofs.Readings.{IsQuery}
 use Rattle.papaya_map_change.proofs.Doing.{idle, left_alone}
@@ -33,7 +33,7 @@ load-requires g c =
       held = load_held g.K.PartialEq.eq g.K.Hash.hash_input g.S.BuildHasher.build_hasher g.S.Hasher.Hasher.write g.S.Hasher.Hasher.finish
           g.met.K.Eq.laws g.met.K.Hash.respects_eq (begun_of c.args.window.now.book.now.parts) c.args.window.now.book.now.begun.book
           (g.Q.Equivalent.matches c.args.key.now) (g.Q.Hash.hash_input c.args.key.now) lawful (Judges g.F.FnMut) c.requires.can.0 c.requires.can.1
-          c.args.window.now.sight.log c.args.self.now c.args.agrees.now c.requires.can.2 c.requires.standing c.in-Load.at asks;
+          c.args.window.now.sight.log c.args.self.now c.args.agrees.now c.requires.can.2 c.requires.valid c.in-Load.at asks;
     }
 
 pub hint-requires : goal.hint-requires
@@ -48,7 +48,7 @@ hint-requires g c =
     hint_held g.K.PartialEq.eq g.K.Hash.hash_input g.S.BuildHasher.build_hasher g.S.Hasher.Hasher.write g.S.Hasher.Hasher.finish g.met.K.Eq.laws
     g.met.K.Hash.respects_eq (begun_of c.args.window.now.book.now.parts) c.args.window.now.book.now.begun.book
     (g.Q.Equivalent.matches c.args.key.now) (g.Q.Hash.hash_input c.args.key.now) lawful (Judges g.F.FnMut) c.requires.can.0 c.requires.can.1
-    c.args.window.now.sight.log c.args.self.now c.args.agrees.now c.requires.can.2 c.requires.standing c.in-LoadHint.number c.in-LoadHint.place asks
+    c.args.window.now.sight.log c.args.self.now c.args.agrees.now c.requires.can.2 c.requires.valid c.in-LoadHint.number c.in-LoadHint.place asks
 
 pub size-requires : goal.size-requires
 size-requires g c =
@@ -63,7 +63,7 @@ size-requires g c =
       held = size_held g.K.PartialEq.eq g.K.Hash.hash_input g.S.BuildHasher.build_hasher g.S.Hasher.Hasher.write g.S.Hasher.Hasher.finish
           g.met.K.Eq.laws g.met.K.Hash.respects_eq (begun_of c.args.window.now.book.now.parts) c.args.window.now.book.now.begun.book
           (g.Q.Equivalent.matches c.args.key.now) (g.Q.Hash.hash_input c.args.key.now) lawful (Judges g.F.FnMut) c.requires.can.0 c.requires.can.1
-          c.args.window.now.sight.log c.args.self.now c.args.agrees.now c.requires.can.2 c.requires.standing some.0 some.1;
+          c.args.window.now.sight.log c.args.self.now c.args.agrees.now c.requires.can.2 c.requires.valid some.0 some.1;
     }
 
 pub same-requires : goal.same-requires
@@ -79,11 +79,11 @@ same-requires g c =
       last = compared_last g.K.PartialEq.eq g.K.Hash.hash_input g.S.BuildHasher.build_hasher g.S.Hasher.Hasher.write g.S.Hasher.Hasher.finish
           g.met.K.Eq.laws g.met.K.Hash.respects_eq (begun_of c.args.window.now.book.now.parts) c.args.window.now.book.now.begun.book
           (g.Q.Equivalent.matches c.args.key.now) (g.Q.Hash.hash_input c.args.key.now) lawful (Judges g.F.FnMut) c.requires.can.0 c.requires.can.1
-          c.args.window.now.sight.log c.args.self.now c.args.agrees.now c.requires.can.2 c.requires.standing some.0 some.1;
+          c.args.window.now.sight.log c.args.self.now c.args.agrees.now c.requires.can.2 c.requires.valid some.0 some.1;
     }
 
-pub show-requires-clause-last : goal.show-requires-clause-last
-show-requires-clause-last g c =
+pub call_closure-requires-clause-last : goal.call_closure-requires-clause-last
+call_closure-requires-clause-last g c =
     let lawful : IsQuery g.K.PartialEq.eq g.K.Hash.hash_input (g.Q.Equivalent.matches c.args.key.now)
     (g.Q.Hash.hash_input c.args.key.now) = record {
       feeds = g.met.Q.Equivalent.hashes_as_key c.args.key.now;
@@ -94,7 +94,7 @@ show-requires-clause-last g c =
     shown_last g.K.PartialEq.eq g.K.Hash.hash_input g.S.BuildHasher.build_hasher g.S.Hasher.Hasher.write g.S.Hasher.Hasher.finish g.met.K.Eq.laws
     g.met.K.Hash.respects_eq (begun_of c.args.window.now.book.now.parts) c.args.window.now.book.now.begun.book
     (g.Q.Equivalent.matches c.args.key.now) (g.Q.Hash.hash_input c.args.key.now) lawful (Judges g.F.FnMut) c.requires.can.0 c.requires.can.1
-    c.args.window.now.sight.log c.args.self.now c.args.agrees.now c.requires.can.2 c.requires.standing some.0 some.1
+    c.args.window.now.sight.log c.args.self.now c.args.agrees.now c.requires.can.2 c.requires.valid some.0 some.1
 
 pub bury-requires-clause-held : goal.bury-requires-clause-held
 bury-requires-clause-held g c =
@@ -110,7 +110,7 @@ bury-requires-clause-held g c =
     bury_held g.K.PartialEq.eq g.K.Hash.hash_input g.S.BuildHasher.build_hasher g.S.Hasher.Hasher.write g.S.Hasher.Hasher.finish g.met.K.Eq.laws
     g.met.K.Hash.respects_eq (begun_of c.args.window.now.book.now.parts) c.args.window.now.book.now.begun.book
     (g.Q.Equivalent.matches c.args.key.now) (g.Q.Hash.hash_input c.args.key.now) lawful (Judges g.F.FnMut) c.requires.can.0 c.requires.can.1
-    c.args.window.now.sight.log c.args.self.now c.args.agrees.now c.requires.can.2 c.requires.standing c.in-Exchange-Slot-default-default.number
+    c.args.window.now.sight.log c.args.self.now c.args.agrees.now c.requires.can.2 c.requires.valid c.in-Exchange-Slot-default-default.number
     c.in-Exchange-Slot-default-default.place c.in-Exchange-Slot-default-default.old c.in-Exchange-Slot-default-default.new asks
 
 pub bury-requires-clause-can : goal.bury-requires-clause-can
@@ -127,7 +127,7 @@ bury-requires-clause-can g c =
     bury_can g.K.PartialEq.eq g.K.Hash.hash_input g.S.BuildHasher.build_hasher g.S.Hasher.Hasher.write g.S.Hasher.Hasher.finish g.met.K.Eq.laws
     g.met.K.Hash.respects_eq (begun_of c.args.window.now.book.now.parts) c.args.window.now.book.now.begun.book
     (g.Q.Equivalent.matches c.args.key.now) (g.Q.Hash.hash_input c.args.key.now) lawful (Judges g.F.FnMut) c.requires.can.0 c.requires.can.1
-    c.args.window.now.sight.log c.args.self.now c.args.agrees.now c.requires.can.2 c.requires.standing c.in-Exchange-Slot-default-default.number
+    c.args.window.now.sight.log c.args.self.now c.args.agrees.now c.requires.can.2 c.requires.valid c.in-Exchange-Slot-default-default.number
     c.in-Exchange-Slot-default-default.place c.in-Exchange-Slot-default-default.old c.in-Exchange-Slot-default-default.new asks
 
 pub returns-in-Load-clause-removes : goal.returns-in-Load-clause-removes
@@ -142,7 +142,7 @@ returns-in-Load-clause-removes g c = λ first begun r.
     loaded_as g.K.PartialEq.eq g.K.Hash.hash_input g.S.BuildHasher.build_hasher g.S.Hasher.Hasher.write g.S.Hasher.Hasher.finish g.met.K.Eq.laws
     g.met.K.Hash.respects_eq (begun_of c.args.window.now.book.now.parts) c.args.window.now.book.now.begun.book
     (g.Q.Equivalent.matches c.args.key.now) (g.Q.Hash.hash_input c.args.key.now) lawful (Judges g.F.FnMut) first begun c.args.window.now.sight.log
-    c.args.self.now c.args.agrees.now r c.requires.standing c.load.new.window.sight.log c.load.ensures.sees.log c.in-Load.at c.load.result
+    c.args.self.now c.args.agrees.now r c.requires.valid c.load.new.window.sight.log c.load.ensures.sees.log c.in-Load.at c.load.result
     c.load.new.self c.load.ensures.rest asks c.load.ensures.as_loaded
 
 pub returns-in-LoadHint-clause-removes : goal.returns-in-LoadHint-clause-removes
@@ -157,7 +157,7 @@ returns-in-LoadHint-clause-removes g c = λ first begun r.
     hinted_on g.K.PartialEq.eq g.K.Hash.hash_input g.S.BuildHasher.build_hasher g.S.Hasher.Hasher.write g.S.Hasher.Hasher.finish g.met.K.Eq.laws
     g.met.K.Hash.respects_eq (begun_of c.args.window.now.book.now.parts) c.args.window.now.book.now.begun.book
     (g.Q.Equivalent.matches c.args.key.now) (g.Q.Hash.hash_input c.args.key.now) lawful (Judges g.F.FnMut) first begun c.args.window.now.sight.log
-    c.args.self.now c.args.agrees.now r c.requires.standing c.hint.new.window.sight.log c.hint.ensures.sees.log c.in-LoadHint.number
+    c.args.self.now c.args.agrees.now r c.requires.valid c.hint.new.window.sight.log c.hint.ensures.sees.log c.in-LoadHint.number
     c.in-LoadHint.place c.hint.result asks c.hint.ensures.hint
 
 pub returns-in-SizeOf-clause-removes : goal.returns-in-SizeOf-clause-removes
@@ -179,7 +179,7 @@ returns-in-SizeOf-clause-removes g c = λ first begun r.
     (sized_on g.K.PartialEq.eq g.K.Hash.hash_input g.S.BuildHasher.build_hasher g.S.Hasher.Hasher.write g.S.Hasher.Hasher.finish g.met.K.Eq.laws
     g.met.K.Hash.respects_eq (begun_of c.args.window.now.book.now.parts) c.args.window.now.book.now.begun.book
     (g.Q.Equivalent.matches c.args.key.now) (g.Q.Hash.hash_input c.args.key.now) lawful (Judges g.F.FnMut) first begun c.args.window.now.sight.log
-    c.args.self.now c.args.agrees.now r c.requires.standing some.0 s.0 s.3 s.1 s.2 s.5 s.6 s.7 some.1)
+    c.args.self.now c.args.agrees.now r c.requires.valid some.0 s.0 s.3 s.1 s.2 s.5 s.6 s.7 some.1)
 
 pub returns-in-SameKey-clause-removes : goal.returns-in-SameKey-clause-removes
 returns-in-SameKey-clause-removes g c = λ first begun r.
@@ -193,7 +193,7 @@ returns-in-SameKey-clause-removes g c = λ first begun r.
     let told = compared_last g.K.PartialEq.eq g.K.Hash.hash_input g.S.BuildHasher.build_hasher g.S.Hasher.Hasher.write g.S.Hasher.Hasher.finish
     g.met.K.Eq.laws g.met.K.Hash.respects_eq (begun_of c.args.window.now.book.now.parts) c.args.window.now.book.now.begun.book
     (g.Q.Equivalent.matches c.args.key.now) (g.Q.Hash.hash_input c.args.key.now) lawful (Judges g.F.FnMut) first begun c.args.window.now.sight.log
-    c.args.self.now c.args.agrees.now r c.requires.standing some.0 some.1 in
+    c.args.self.now c.args.agrees.now r c.requires.valid some.0 some.1 in
     subst (λ (z : Answer). IsRemovingOn g.K.PartialEq.eq
     (hash_of g.K.Hash.hash_input g.S.BuildHasher.build_hasher g.S.Hasher.Hasher.write g.S.Hasher.Hasher.finish)
     (begun_of c.args.window.now.book.now.parts) c.args.window.now.book.now.begun.book (g.Q.Equivalent.matches c.args.key.now)
@@ -203,7 +203,7 @@ returns-in-SameKey-clause-removes g c = λ first begun r.
     (compared_on g.K.PartialEq.eq g.K.Hash.hash_input g.S.BuildHasher.build_hasher g.S.Hasher.Hasher.write g.S.Hasher.Hasher.finish g.met.K.Eq.laws
     g.met.K.Hash.respects_eq (begun_of c.args.window.now.book.now.parts) c.args.window.now.book.now.begun.book
     (g.Q.Equivalent.matches c.args.key.now) (g.Q.Hash.hash_input c.args.key.now) lawful (Judges g.F.FnMut) first begun c.args.window.now.sight.log
-    c.args.self.now c.args.agrees.now r c.requires.standing some.0 (g.Q.Equivalent.matches c.args.key.now (key_of told.0))
+    c.args.self.now c.args.agrees.now r c.requires.valid some.0 (g.Q.Equivalent.matches c.args.key.now (key_of told.0))
     (λ p e. let is : told.0 ≡ p = let same = sym told.1 ∙ e in cc same in
     ap (λ (z : Stored _ _). g.Q.Equivalent.matches c.args.key.now (key_of z)) is) some.1)
 
@@ -216,17 +216,17 @@ returns-in-ShowPair-clause-removes g c = λ first begun r.
           g.met.Q.Equivalent.matches_equal_keys c.args.key.now k l;
     } in
     let some : (n : ℕ) × (ask_of c.args.self.now.call.machine ≡ Call (ShowPair n)) = search rules in
-    let s = c.show.ensures.shows in
+    let s = c.call_closure.ensures.shows in
     subst (λ (z : Removal _ _ _ _ × Answer).
     IsRemovingOn g.K.PartialEq.eq (hash_of g.K.Hash.hash_input g.S.BuildHasher.build_hasher g.S.Hasher.Hasher.write g.S.Hasher.Hasher.finish)
     (begun_of c.args.window.now.book.now.parts) c.args.window.now.book.now.begun.book (g.Q.Equivalent.matches c.args.key.now)
     (hash_of g.Q.Hash.hash_input g.S.BuildHasher.build_hasher g.S.Hasher.Hasher.write g.S.Hasher.Hasher.finish
-    c.args.window.now.book.now.parts.hasher c.args.key.now) (Judges g.F.FnMut) first begun c.args.window.now.sight.log z.0 c.show.new.agrees
+    c.args.window.now.book.now.parts.hasher c.args.key.now) (Judges g.F.FnMut) first begun c.args.window.now.sight.log z.0 c.call_closure.new.agrees
     (Some z.1)) (λ i. (sym s.4 i, sym s.5 i))
     (shown_on g.K.PartialEq.eq g.K.Hash.hash_input g.S.BuildHasher.build_hasher g.S.Hasher.Hasher.write g.S.Hasher.Hasher.finish g.met.K.Eq.laws
     g.met.K.Hash.respects_eq (begun_of c.args.window.now.book.now.parts) c.args.window.now.book.now.begun.book
     (g.Q.Equivalent.matches c.args.key.now) (g.Q.Hash.hash_input c.args.key.now) lawful (Judges g.F.FnMut) first begun c.args.window.now.sight.log
-    c.args.self.now c.args.agrees.now r c.requires.standing some.0 s.0 s.1 c.show.new.agrees s.2 s.3 some.1)
+    c.args.self.now c.args.agrees.now r c.requires.valid some.0 s.0 s.1 c.call_closure.new.agrees s.2 s.3 some.1)
 
 pub returns-in-Exchange-Slot-default-default-clause-removes : goal.returns-in-Exchange-Slot-default-default-clause-removes
 returns-in-Exchange-Slot-default-default-clause-removes g c = λ first begun r.
@@ -243,7 +243,7 @@ returns-in-Exchange-Slot-default-default-clause-removes g c = λ first begun r.
     bury_on g.K.PartialEq.eq g.K.Hash.hash_input g.S.BuildHasher.build_hasher g.S.Hasher.Hasher.write g.S.Hasher.Hasher.finish g.met.K.Eq.laws
     g.met.K.Hash.respects_eq (begun_of c.args.window.now.book.now.parts) c.args.window.now.book.now.begun.book
     (g.Q.Equivalent.matches c.args.key.now) (g.Q.Hash.hash_input c.args.key.now) lawful (Judges g.F.FnMut) first begun c.args.window.now.sight.log
-    c.args.self.now c.args.agrees.now r c.requires.standing c.in-Exchange-Slot-default-default.number c.in-Exchange-Slot-default-default.place
+    c.args.self.now c.args.agrees.now r c.requires.valid c.in-Exchange-Slot-default-default.number c.in-Exchange-Slot-default-default.place
     c.in-Exchange-Slot-default-default.old c.in-Exchange-Slot-default-default.new asks c.bury.new.window.sight.log c.bury.ensures.sees.log b.0
     b.1 b.2 c.bury.new.self c.bury.result b.3
 
@@ -259,7 +259,7 @@ returns-in-AddToShard-clause-removes g c = λ first begun r.
     counted_on g.K.PartialEq.eq g.K.Hash.hash_input g.S.BuildHasher.build_hasher g.S.Hasher.Hasher.write g.S.Hasher.Hasher.finish g.met.K.Eq.laws
     g.met.K.Hash.respects_eq (begun_of c.args.window.now.book.now.parts) c.args.window.now.book.now.begun.book
     (g.Q.Equivalent.matches c.args.key.now) (g.Q.Hash.hash_input c.args.key.now) lawful (Judges g.F.FnMut) first begun c.args.window.now.sight.log
-    c.args.self.now c.args.agrees.now r c.requires.standing c.in-AddToShard.by asks
+    c.args.self.now c.args.agrees.now r c.requires.valid c.in-AddToShard.by asks
 
 pub returns-in-Load-clause-answers : goal.returns-in-Load-clause-answers
 returns-in-Load-clause-answers g c = let asks : ask_of c.args.self.now.call.machine ≡ Call (Load c.in-Load.at) = search rules in
@@ -284,7 +284,7 @@ returns-in-SameKey-clause-answers g c = let some : (n : ℕ) × (ask_of c.args.s
 
 pub returns-in-ShowPair-clause-answers : goal.returns-in-ShowPair-clause-answers
 returns-in-ShowPair-clause-answers g c = let some : (n : ℕ) × (ask_of c.args.self.now.call.machine ≡ Call (ShowPair n)) = search rules in
-    let asks = some.1 in idle (ShowPair some.0) _ (sym (call_asks c.args.self.now.call.machine _ asks).1) tt (Some c.show.result) c.args.window.now
+    let asks = some.1 in idle (ShowPair some.0) _ (sym (call_asks c.args.self.now.call.machine _ asks).1) tt (Some c.call_closure.result) c.args.window.now
     c.args.window.now refl
 
 pub returns-in-AddToShard-clause-answers : goal.returns-in-AddToShard-clause-answers

@@ -20,7 +20,7 @@ answer-requires g c = let hash = hash_of g.K.Hash.hash_input g.S.BuildHasher.bui
       (can_answer g.K.PartialEq.eq g.K.Hash.hash_input g.S.BuildHasher.build_hasher g.S.Hasher.Hasher.write g.S.Hasher.Hasher.finish g.met.K.Eq.laws
       g.met.K.Hash.respects_eq (begun_of c.args.window.now.book.now.parts) c.args.window.now.book.now.begun.book c.args.window.now.sight.log
       c.args.self.now.machine c.args.self.now.copier c.requires.can c.requires.closed c.args.ask c.requires.asks
-      (stage_fits c.args.self.now.machine.state c.requires.standing.state c.args.ask c.requires.asks)));
+      (stage_fits c.args.self.now.machine.state c.requires.valid.state c.args.ask c.requires.asks)));
 }
 
 pub returns : goal.returns

@@ -1,7 +1,7 @@
 use Rattle.std.proofs.Common.{◌≡◌, sym, ap, ◌∙◌, subst}
 use Rattle.papaya_call.specs.declared.copy.copying.Copying.{Copying}
 use Rattle.papaya_call.specs.declared.copy.settle.Settle.TheVariants.{Looking}
-use Rattle.papaya_call.specs.Resizer.{IsStandingIn, after}
+use Rattle.papaya_call.specs.Resizer.{IsValidIn, after}
 use Rattle.papaya_call.specs.declared.chain.resizer.Resizer.{Resizer}
 use Rattle.papaya_call.specs.declared.chain.resizer.ResizerState.{ResizerState}
 use Rattle.papaya_call.specs.declared.chain.resizer.ResizerState.TheVariants as stages
@@ -12,14 +12,14 @@ use Rattle.papaya_map_change.specs.Settling.{Stop, at_slot}
 use Rattle.papaya_map_change.proofs.ResizingSettling.{can_lead, relies_by}
 use Rattle.papaya_map_change.proofs.resizing.Resizing.copy_slots.Goals as goal
 
-pub copy_slots-copying-requires-clause-standing : goal.copy_slots-copying-requires-clause-standing
-copy_slots-copying-requires-clause-standing g c =
+pub copy_slots-copying-requires-clause-valid : goal.copy_slots-copying-requires-clause-valid
+copy_slots-copying-requires-clause-valid g c =
     let w = c.args.window.now in let m = c.args.self.now.machine in let eq = g.K.PartialEq.eq in
     let hash = hash_of g.K.Hash.hash_input g.S.BuildHasher.build_hasher g.S.Hasher.Hasher.write g.S.Hasher.Hasher.finish in
     let b = begun_of w.book.now.parts in let name = w.book.now.begun.book in
     let at : Copying = at_slot c.args.aim c.args.chunk Looking in
     let s : Stop _ _ _ _ = record { copying = at; log = w.sight.log; loaded = c.args.self.now.copier } in
-    let stands : IsStandingIn (stages.Copying c.args.from at) = subst IsStandingIn c.requires.state c.requires.standing.state in
+    let stands : IsValidIn (stages.Copying c.args.from at) = subst IsValidIn c.requires.state c.requires.valid.state in
     let relies = subst (λ (z : ResizerState). IsResizing eq hash b name w.sight.log (record m { state = z }) c.args.self.now.copier) c.requires.state c.requires.can in
     stands.0
 
@@ -30,7 +30,7 @@ copy_slots-copying-requires-clause-can g c =
     let b = begun_of w.book.now.parts in let name = w.book.now.begun.book in
     let at : Copying = at_slot c.args.aim c.args.chunk Looking in
     let s : Stop _ _ _ _ = record { copying = at; log = w.sight.log; loaded = c.args.self.now.copier } in
-    let stands : IsStandingIn (stages.Copying c.args.from at) = subst IsStandingIn c.requires.state c.requires.standing.state in
+    let stands : IsValidIn (stages.Copying c.args.from at) = subst IsValidIn c.requires.state c.requires.valid.state in
     let relies = subst (λ (z : ResizerState). IsResizing eq hash b name w.sight.log (record m { state = z }) c.args.self.now.copier) c.requires.state c.requires.can in
     can_lead g.K.PartialEq.eq g.K.Hash.hash_input g.S.BuildHasher.build_hasher g.S.Hasher.Hasher.write g.S.Hasher.Hasher.finish g.met.K.Eq.laws
     g.met.K.Hash.respects_eq b name m c.args.from s stands relies
@@ -42,7 +42,7 @@ returns-clause-goes_on g c =
     let b = begun_of w.book.now.parts in let name = w.book.now.begun.book in
     let at : Copying = at_slot c.args.aim c.args.chunk Looking in
     let s : Stop _ _ _ _ = record { copying = at; log = w.sight.log; loaded = c.args.self.now.copier } in
-    let stands : IsStandingIn (stages.Copying c.args.from at) = subst IsStandingIn c.requires.state c.requires.standing.state in
+    let stands : IsValidIn (stages.Copying c.args.from at) = subst IsValidIn c.requires.state c.requires.valid.state in
     let relies = subst (λ (z : ResizerState). IsResizing eq hash b name w.sight.log (record m { state = z }) c.args.self.now.copier) c.requires.state c.requires.can in
     let one = c.copy_slots-copying in let w' = one.new.window in
     let s' : Stop _ _ _ _ = record { copying = one.result.0; log = w'.sight.log; loaded = one.new.self } in

@@ -2,7 +2,7 @@ use Rattle.std.proofs.Common.{◌==◌, ◌≡◌, ◌<◌, MatchOption, Option,
 use denote.Bor.{Bor}
 use Rattle.papaya_call.specs.declared.ask.At.TheVariants.{Slot}
 use Rattle.papaya_call.specs.declared.ask.StepKind.{StepKind}
-use Rattle.papaya_call_law.specs.Told.{IsOneOf}
+use Rattle.papaya_call_law.specs.TrueAnswers.{IsOneOf}
 use Rattle.papaya_map_book.specs.Sheets.{Sheet}
 use Rattle.papaya_map_book.specs.Calls.{IsSlotTried, IsTable}
 use Rattle.papaya_map_book.specs.Hashes.{hash_of}

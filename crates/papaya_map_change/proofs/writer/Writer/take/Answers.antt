@@ -8,7 +8,7 @@ take-requires g c = record {
   can = taking g.K.PartialEq.eq g.K.Hash.hash_input g.S.BuildHasher.build_hasher g.S.Hasher.Hasher.write
       g.S.Hasher.Hasher.finish g.met.K.Eq.laws g.met.K.Hash.respects_eq (begun_of c.args.window.now.book.now.parts)
       c.args.window.now.book.now.begun.book c.requires.waits.can.0 c.requires.waits.can.1 c.requires.waits.can.2 c.args.window.now.sight.log c.args.self.now
-      c.requires.waits.can.3 c.requires.standing c.args.words.0 c.args.words.1 c.requires.waits.asks;
+      c.requires.waits.can.3 c.requires.valid c.args.words.0 c.args.words.1 c.requires.waits.asks;
 }
 
 pub returns-clause-steps : goal.returns-clause-steps
@@ -23,7 +23,7 @@ returns-clause-steps g c = record {
       let t = c.take.ensures.takes in
       took_on g.K.PartialEq.eq g.K.Hash.hash_input g.S.BuildHasher.build_hasher g.S.Hasher.Hasher.write g.S.Hasher.Hasher.finish g.met.K.Eq.laws
       g.met.K.Hash.respects_eq (begun_of c.args.window.now.book.now.parts) c.args.window.now.book.now.begun.book key made begun
-      c.args.window.now.sight.log c.args.self.now r c.requires.standing c.args.words.0 c.args.words.1 c.requires.waits.asks c.take.new.window.sight.log t.0
+      c.args.window.now.sight.log c.args.self.now r c.requires.valid c.args.words.0 c.args.words.1 c.requires.waits.asks c.take.new.window.sight.log t.0
       t.1.0 t.1.1 c.take.result t.2;
 }
 
@@ -32,5 +32,5 @@ returns-clause-tells g c =
     let t = c.take.ensures.takes in
     took_tells g.K.PartialEq.eq g.K.Hash.hash_input g.S.BuildHasher.build_hasher g.S.Hasher.Hasher.write g.S.Hasher.Hasher.finish g.met.K.Eq.laws
     g.met.K.Hash.respects_eq (begun_of c.args.window.now.book.now.parts) c.args.window.now.book.now.begun.book c.requires.waits.can.0 c.requires.waits.can.1
-    c.requires.waits.can.2 c.args.window.now.sight.log c.args.self.now c.requires.waits.can.3 c.requires.standing c.args.words.0 c.args.words.1 c.requires.waits.asks
+    c.requires.waits.can.2 c.args.window.now.sight.log c.args.self.now c.requires.waits.can.3 c.requires.valid c.args.words.0 c.args.words.1 c.requires.waits.asks
     c.take.new.window.sight.log t.0 t.1.0 t.1.1 c.take.result t.2

@@ -41,7 +41,7 @@ returns g c = record {
     helps = record {
       sees = c.help.ensures.helps.sees;
       own = c.help.ensures.helps.own;
-      standing = c.help.ensures.helps.standing;
+      valid = c.help.ensures.helps.valid;
       calling = c.help.ensures.helps.calling;
       helped = subst (λ (z : Machine).
           HasHelped z c.help.new.self.machine (tables_of c.help.new.window.sight.log) c.help.new.self.copier.given.done)

@@ -12,14 +12,14 @@ returns-in-Some-Bury-clause-computes g c = λ key begun heard r.
     let e = c.bury.ensures.tries in
     goes_untold g.K.PartialEq.eq g.K.Hash.hash_input g.S.BuildHasher.build_hasher g.S.Hasher.Hasher.write g.S.Hasher.Hasher.finish g.met.K.Eq.laws
     g.met.K.Hash.respects_eq (begun_of c.args.window.now.book.now.parts) c.args.window.now.book.now.begun.book key begun c.args.window.now.sight.log
-    c.args.self.now heard r c.requires.standing (Exchange (Slot c.args.number c.args.place) c.args.words.0 c.args.words.1) c.requires.asks tt
+    c.args.self.now heard r c.requires.valid (Exchange (Slot c.args.number c.args.place) c.args.words.0 c.args.words.1) c.requires.asks tt
     c.bury.result (λ number. number) c.bury.new.window.sight.log e.sees.log c.bury.new.self e.machine e.value e.unsaid
     (c.bury.ensures.writes key r.made begun r.writing)
 
 pub put-requires-clause-kind : goal.put-requires-clause-kind
 put-requires-clause-kind g c = puts g.K.PartialEq.eq g.K.Hash.hash_input g.S.BuildHasher.build_hasher g.S.Hasher.Hasher.write g.S.Hasher.Hasher.finish
     g.met.K.Eq.laws g.met.K.Hash.respects_eq (begun_of c.args.window.now.book.now.parts) c.args.window.now.book.now.begun.book c.requires.can.0
-    c.requires.can.1 c.args.window.now.sight.log c.args.self.now c.requires.can.2 c.requires.can.3 c.requires.standing c.args.number c.args.place
+    c.requires.can.1 c.args.window.now.sight.log c.args.self.now c.requires.can.2 c.requires.can.3 c.requires.valid c.args.number c.args.place
     c.args.words.0 c.args.words.1 c.requires.asks (elim c.in_default.branch [
       | in_default-via-in-Some+in_default w ↦ search rules
       | in_default-via-in_default w ↦ search rules

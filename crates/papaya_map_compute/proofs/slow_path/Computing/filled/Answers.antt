@@ -34,7 +34,7 @@ returns-clause-resumes g c = λ begun seen was.
 
 pub returns-clause-ahead : goal.returns-clause-ahead
 returns-clause-ahead g c = record {
-  standing = c.resume.ensures.standing;
+  valid = c.resume.ensures.valid;
   calling = ap (λ (m : Machine). m.phase) c.resume.ensures.machine;
   initial_is = ap (λ (m : Machine). m.call.initial) c.resume.ensures.machine;
   unchanged = ap has_changed c.resume.ensures.machine;

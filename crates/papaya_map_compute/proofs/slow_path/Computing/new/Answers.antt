@@ -20,7 +20,7 @@ returns-clause-begins g c =
 
 pub returns-clause-ahead : goal.returns-clause-ahead
 returns-clause-ahead g c = record {
-  standing = c.new.ensures.standing;
+  valid = c.new.ensures.valid;
   calling = ap (λ (m : Machine). m.phase) c.new.ensures.machine;
   initial_is = ap (λ (m : Machine). m.call.initial) c.new.ensures.machine;
   unchanged = ap has_changed c.new.ensures.machine;

@@ -25,7 +25,7 @@ returns-in-AddToShard g c =
               begun c.args.window.now.sight.log c.args.self.now.writer r.writing c.in-AddToShard.by asks in
               goes_untold g.K.PartialEq.eq g.K.Hash.hash_input g.S.BuildHasher.build_hasher g.S.Hasher.Hasher.write g.S.Hasher.Hasher.finish
               g.met.K.Eq.laws g.met.K.Hash.respects_eq (begun_of c.args.window.now.book.now.parts) c.args.window.now.book.now.begun.book key begun
-              c.args.window.now.sight.log c.args.self.now heard r c.requires.standing (AddToShard c.in-AddToShard.by) asks tt Ok (λ number. number)
+              c.args.window.now.sight.log c.args.self.now heard r c.requires.valid (AddToShard c.in-AddToShard.by) asks tt Ok (λ number. number)
               c.args.window.now.sight.log ([], append-nil c.args.window.now.sight.log) c.args.self.now.writer refl refl (λ cause e. absurd (cc e)) on,
           left_alone (AddToShard c.in-AddToShard.by) tt _ (sym (call_asks c.args.self.now.writer.call.machine _ asks).1) (Some Ok) c.args.window.now,
         );
@@ -44,7 +44,7 @@ returns-in-WriteHint g c =
           λ key begun heard r.
               goes_untold g.K.PartialEq.eq g.K.Hash.hash_input g.S.BuildHasher.build_hasher g.S.Hasher.Hasher.write g.S.Hasher.Hasher.finish
               g.met.K.Eq.laws g.met.K.Hash.respects_eq (begun_of c.args.window.now.book.now.parts) c.args.window.now.book.now.begun.book key begun
-              c.args.window.now.sight.log c.args.self.now heard r c.requires.standing
+              c.args.window.now.sight.log c.args.self.now heard r c.requires.valid
               (WriteHint c.in-WriteHint.number c.in-WriteHint.place c.in-WriteHint.hint) asks tt c.write_hint.result (λ number. number)
               c.args.window.now.sight.log ([], append-nil c.args.window.now.sight.log) c.args.self.now.writer refl refl e.unsaid
               (e.writes key r.made begun r.writing),
@@ -100,7 +100,7 @@ write-requires-clause-asks g c =
       elim c.in_default-ask.branch [
         | in_default-ask-via-in-Exchange+in_default w ↦
             let n = w.in_default-ask in
-            left_to_write c.args.self.now.writer.call.machine c.requires.standing c.in-Call.ask asks
+            left_to_write c.args.self.now.writer.call.machine c.requires.valid c.in-Call.ask asks
             (record {
               hint = n.not-WriteHint;
               none = n.not-ShowNone;
@@ -113,7 +113,7 @@ write-requires-clause-asks g c =
             })
         | in_default-ask-via-in_default w ↦
             let n = w.in_default-ask in
-            left_to_write c.args.self.now.writer.call.machine c.requires.standing c.in-Call.ask asks
+            left_to_write c.args.self.now.writer.call.machine c.requires.valid c.in-Call.ask asks
             (record {
               hint = n.not-WriteHint;
               none = n.not-ShowNone;

@@ -10,7 +10,7 @@ use Rattle.papaya_core_timeline.specs.Content.{map_in}
 use Rattle.papaya_seq.specs.ComputeRuns.{IsComputedFrom}
 use Rattle.papaya_seq.specs.Computes.{ComputesBy, Says, Takes}
 use Rattle.papaya_seq.specs.Map.{MapState}
-use Rattle.papaya_seq.specs.Searches.{IsRootTurn}
+use Rattle.papaya_seq.specs.Searches.{IsRootHit}
 use Rattle.papaya_seq.proofs.ComputingDone.{ComputationDone, computation_done, computation_takes}
 use Rattle.papaya_seq.proofs.Lawful.{core_bare}
 use Rattle.papaya_seq.proofs.seq.HashMap.compute_by.Goals as goal
@@ -44,7 +44,7 @@ compute_fast-requires-clause-takes g c turn root =
     c.self.invariant.power)
     (λ shown. given.F-pre g c.args.f shown) (subst (λ (m : MapState g.row.K.Denot g.row.V.Denot g.row.S.Denot).
     Takes (λ shown. given.F-pre g c.args.f shown) (map_in g.K.PartialEq.eq m.store c.args.key)) (sym c.self.view_is) c.requires)
-    turn (subst (λ n. IsRootTurn (g.K.PartialEq.eq c.args.key) view.store n turn) c.hash-hash.ensures.value root)
+    turn (subst (λ n. IsRootHit (g.K.PartialEq.eq c.args.key) view.store n turn) c.hash-hash.ensures.value root)
 
 -- it was done at once
 done : (g : Over) (c : In-Ok g) → ComputationDone g.K.PartialEq.eq (hash g) c.args.self.now c.args.key (Says (post g c.args.f)) c.in-Ok.done.0

@@ -9,7 +9,7 @@ use Rattle.papaya_call.specs.declared.call.Reply.{Reply}
 use Rattle.papaya_call.specs.declared.chain.ask.Answer.{Answer}
 use Rattle.papaya_call.specs.declared.chain.ask.Ask.TheVariants as asks
 use Rattle.papaya_call.specs.declared.chain.machine.Machine.{Machine}
-use Rattle.papaya_call.specs.ChainMachine.{IsFitAsk, IsStanding, after, ask_of}
+use Rattle.papaya_call.specs.ChainMachine.{IsFitAsk, IsValid, after, ask_of}
 use Rattle.papaya_core_store.specs.Asks.{PerformsAsk}
 use Rattle.papaya_core_store.specs.declared.pairs.Part.TheVariants.{Own}
 use Rattle.papaya_words_keys.specs.Hashes.{hash_of}
@@ -75,42 +75,42 @@ loop-self-init g c =
     (record { machine = c.new.result; key = Own c.args.key; value = None; answers = None }) (Some c.args.f) None None
     × (c.self.inside.mode ≡ m.mode) × (c.self.inside.initial ≡ m.initial)) c.self.view_is (
       computing_begin g.K.PartialEq.eq (hash g) view c.args.key (post g) c.args.f c.new.result c.hash-hash.result c.copies_from-number.result None
-          c.new.ensures.value c.hash-hash.ensures.value c.new.ensures.standing,
+          c.new.ensures.value c.hash-hash.ensures.value c.new.ensures.valid,
       refl,
       refl,
     )
 
 pub ask-ask-requires : goal.ask-ask-requires
-ask-ask-requires g c = c.loop-self.invariant.0.standing
+ask-ask-requires g c = c.loop-self.invariant.0.valid
 
-pub show-requires : goal.show-requires
-show-requires g c =
+pub call_closure-requires : goal.call_closure-requires
+call_closure-requires g c =
     let none : c.in-Call-ShowNone.field-0 ≡ ShowNone = rw c.in-Call-ShowNone.is at c.in-Call-ShowNone.field-0-is in
     let shows : ask_of c.loop-self.running.machine ≡ asks.Call ShowNone = sym c.ask-ask.ensures.value ∙ c.in-Call-ShowNone.is ∙ ap asks.Call none in (
       c.args.f,
       closure_none g.K.PartialEq.eq g.K.Hash.hash_input g.S.BuildHasher.build_hasher g.S.Hasher.Hasher.write g.S.Hasher.Hasher.finish g.met.K.Eq.laws
-          g.met.K.Hash.respects_eq c.args.self.now (lawful g (goal.at.show-requires g c).After-new) c.args.key
-          (fits g (goal.at.show-requires g c).After-new) (post g) c.args.f c.loop-self.self-inside.store c.loop-self.running c.loop-self.closure
+          g.met.K.Hash.respects_eq c.args.self.now (lawful g (goal.at.call_closure-requires g c).After-new) c.args.key
+          (fits g (goal.at.call_closure-requires g c).After-new) (post g) c.args.f c.loop-self.self-inside.store c.loop-self.running c.loop-self.closure
           c.loop-self.shown c.loop-self.aborted c.loop-self.invariant.0 shows,
       c.requires c.no_pair-entry.result (none_are g.K.PartialEq.eq g.K.Hash.hash_input g.S.BuildHasher.build_hasher g.S.Hasher.Hasher.write
-          g.S.Hasher.Hasher.finish g.met.K.Eq.laws g.met.K.Hash.respects_eq c.args.self.now (lawful g (goal.at.show-requires g c).After-new) c.args.key
-          (fits g (goal.at.show-requires g c).After-new) (post g) c.args.f c.loop-self.self-inside.store c.loop-self.running c.loop-self.closure
+          g.S.Hasher.Hasher.finish g.met.K.Eq.laws g.met.K.Hash.respects_eq c.args.self.now (lawful g (goal.at.call_closure-requires g c).After-new) c.args.key
+          (fits g (goal.at.call_closure-requires g c).After-new) (post g) c.args.f c.loop-self.self-inside.store c.loop-self.running c.loop-self.closure
           c.loop-self.shown c.loop-self.aborted c.loop-self.invariant.0 c.no_pair-entry.result c.no_pair-entry.ensures shows),
     )
 
-pub show-requires-in-Call-ShowPair : goal.show-requires-in-Call-ShowPair
-show-requires-in-Call-ShowPair g c =
+pub call_closure-requires-in-Call-ShowPair : goal.call_closure-requires-in-Call-ShowPair
+call_closure-requires-in-Call-ShowPair g c =
     let pair : c.in-Call-ShowPair.field-0 ≡ ShowPair c.in-Call-ShowPair.pair = rw c.in-Call-ShowPair.is at c.in-Call-ShowPair.field-0-is in
     let shows : ask_of c.loop-self.running.machine ≡ asks.Call (ShowPair c.in-Call-ShowPair.pair) = sym c.ask-ask.ensures.value
     ∙ c.in-Call-ShowPair.is ∙ ap asks.Call pair in (
       c.args.f,
       closure_pair g.K.PartialEq.eq g.K.Hash.hash_input g.S.BuildHasher.build_hasher g.S.Hasher.Hasher.write g.S.Hasher.Hasher.finish g.met.K.Eq.laws
-          g.met.K.Hash.respects_eq c.args.self.now (lawful g (goal.at.show-requires-in-Call-ShowPair g c).After-new) c.args.key
-          (fits g (goal.at.show-requires-in-Call-ShowPair g c).After-new) (post g) c.args.f c.loop-self.self-inside.store c.loop-self.running
+          g.met.K.Hash.respects_eq c.args.self.now (lawful g (goal.at.call_closure-requires-in-Call-ShowPair g c).After-new) c.args.key
+          (fits g (goal.at.call_closure-requires-in-Call-ShowPair g c).After-new) (post g) c.args.f c.loop-self.self-inside.store c.loop-self.running
           c.loop-self.closure c.loop-self.shown c.loop-self.aborted c.loop-self.invariant.0 c.in-Call-ShowPair.pair shows,
       c.requires c.pair-entry.result (entry_are g.K.PartialEq.eq g.K.Hash.hash_input g.S.BuildHasher.build_hasher g.S.Hasher.Hasher.write
           g.S.Hasher.Hasher.finish g.met.K.Eq.laws g.met.K.Hash.respects_eq c.args.self.now
-          (lawful g (goal.at.show-requires-in-Call-ShowPair g c).After-new) c.args.key (fits g (goal.at.show-requires-in-Call-ShowPair g c).After-new)
+          (lawful g (goal.at.call_closure-requires-in-Call-ShowPair g c).After-new) c.args.key (fits g (goal.at.call_closure-requires-in-Call-ShowPair g c).After-new)
           (post g) c.args.f c.loop-self.self-inside.store c.loop-self.running c.loop-self.closure c.loop-self.shown c.loop-self.aborted
           c.loop-self.invariant.0 c.pair-entry.result c.in-Call-ShowPair.pair c.pair-entry.ensures shows),
     )
@@ -131,8 +131,8 @@ went g c orderly fit =
           (ap (λ i. i.store) w.self-inside-is) w.running-is w.closure-is w.shown-is w.aborted-is
           (none_went g.K.PartialEq.eq g.K.Hash.hash_input g.S.BuildHasher.build_hasher g.S.Hasher.Hasher.write g.S.Hasher.Hasher.finish
           g.met.K.Eq.laws g.met.K.Hash.respects_eq c.args.self.now orderly c.args.key fit (post g) c.args.f store r c.loop-self.closure
-          c.loop-self.shown c.loop-self.aborted c.loop-self.invariant.0 w.show.result w.show.new.value w.show.new.closure w.show.new.aborted
-          w.no_pair-entry.result w.show.ensures.0 w.show.ensures.1 w.show.ensures.2 w.show.ensures.4 w.show.ensures.5
+          c.loop-self.shown c.loop-self.aborted c.loop-self.invariant.0 w.call_closure.result w.call_closure.new.value w.call_closure.new.closure w.call_closure.new.aborted
+          w.no_pair-entry.result w.call_closure.ensures.0 w.call_closure.ensures.1 w.call_closure.ensures.2 w.call_closure.ensures.4 w.call_closure.ensures.5
           (sym c.ask-ask.ensures.value ∙ w.in-Call-ShowNone.is ∙ ap asks.Call none) w.no_pair-entry.ensures)
       | in-Call-ShowPair w ↦
           let shows : w.in-Call-ShowPair.field-0 ≡ ShowPair w.in-Call-ShowPair.pair = rw w.in-Call-ShowPair.is at w.in-Call-ShowPair.field-0-is in
@@ -140,9 +140,9 @@ went g c orderly fit =
           (ap (λ i. i.store) w.self-inside-is) w.running-is w.closure-is w.shown-is w.aborted-is
           (pair_went g.K.PartialEq.eq g.K.Hash.hash_input g.S.BuildHasher.build_hasher g.S.Hasher.Hasher.write g.S.Hasher.Hasher.finish
           g.met.K.Eq.laws g.met.K.Hash.respects_eq c.args.self.now orderly c.args.key fit (post g) c.args.f store r c.loop-self.closure
-          c.loop-self.shown c.loop-self.aborted c.loop-self.invariant.0 w.show-in-Call-ShowPair.result w.show-in-Call-ShowPair.new.value
-          w.show-in-Call-ShowPair.new.closure w.show-in-Call-ShowPair.new.aborted w.pair-entry.result w.show-in-Call-ShowPair.ensures.0
-          w.show-in-Call-ShowPair.ensures.1 w.show-in-Call-ShowPair.ensures.2 w.show-in-Call-ShowPair.ensures.4 w.show-in-Call-ShowPair.ensures.5
+          c.loop-self.shown c.loop-self.aborted c.loop-self.invariant.0 w.call_closure-in-Call-ShowPair.result w.call_closure-in-Call-ShowPair.new.value
+          w.call_closure-in-Call-ShowPair.new.closure w.call_closure-in-Call-ShowPair.new.aborted w.pair-entry.result w.call_closure-in-Call-ShowPair.ensures.0
+          w.call_closure-in-Call-ShowPair.ensures.1 w.call_closure-in-Call-ShowPair.ensures.2 w.call_closure-in-Call-ShowPair.ensures.4 w.call_closure-in-Call-ShowPair.ensures.5
           w.in-Call-ShowPair.pair (sym c.ask-ask.ensures.value ∙ w.in-Call-ShowPair.is ∙ ap asks.Call shows) w.pair-entry.ensures)
       | in_default w ↦
           let no_reply : (reply : Reply) → c.ask-ask.result ≡ asks.Call (Ask_done reply) → ⊥ = λ reply e. search rules in
@@ -164,10 +164,10 @@ went g c orderly fit =
 answered : (m m' next : Machine) (answer : Answer) → next ≡ after m' answer → m' ≡ m → next ≡ after m answer
 answered m m' next answer goes same = goes ∙ ap (λ (x : Machine). after x answer) same
 
-pub answer-requires-clause-standing : goal.answer-requires-clause-standing
-answer-requires-clause-standing g c =
-    let n = (goal.at.answer-requires-clause-standing g c).After-new in
-    subst IsStanding (sym (went g c (lawful g n) (fits g n)).same) c.loop-self.invariant.0.standing
+pub answer-requires-clause-valid : goal.answer-requires-clause-valid
+answer-requires-clause-valid g c =
+    let n = (goal.at.answer-requires-clause-valid g c).After-new in
+    subst IsValid (sym (went g c (lawful g n) (fits g n)).same) c.loop-self.invariant.0.valid
 
 pub answer-requires-clause-fit : goal.answer-requires-clause-fit
 answer-requires-clause-fit g c = let n = (goal.at.answer-requires-clause-fit g c).After-new in (went g c (lawful g n) (fits g n)).fit
@@ -181,7 +181,7 @@ gone g c =
     let is = answered c.loop-self.running.machine c.match-ask.running.machine c.answer.new.self c.match-ask.answer c.answer.ensures.after goes.same in
     subst (λ (m : Machine). IsComputing g.K.PartialEq.eq (hash g) c.args.self.now c.args.key (post g) c.args.f c.match-ask.self-inside.store
     (record c.match-ask.running { machine = m }) c.match-ask.closure c.match-ask.shown c.match-ask.aborted) (sym is)
-    (goes.goes (subst IsStanding is c.answer.ensures.standing))
+    (goes.goes (subst IsValid is c.answer.ensures.valid))
 
 pub copy_for_call-requires-clause-sized : goal.copy_for_call-requires-clause-sized
 copy_for_call-requires-clause-sized g c =

@@ -28,7 +28,7 @@ loop-key-preserved g c =
     (sym (map_push deref_pair c.loop-key.yielded (c.in-Some.key, c.in-Some.value))) (
       copied_more g.K.PartialEq.eq g.K.Clone.is_clone g.V.Clone.is_clone c.args.self.now (map deref_pair c.loop-key.yielded) c.loop-key.self
           c.loop-key.invariant.0 (c.in-Some.key.now, c.in-Some.value.now) (c.in-Ok.own_key, c.in-Ok-clone.own_value) c.in-Ok.ensures.cases
-          c.in-Ok-clone.ensures.cases c.in-Ok-put.field-0 c.put.new.self c.in-Ok-put.ensures.puts c.put.ensures.logs,
+          c.in-Ok-clone.ensures.cases c.in-Ok-put.field-0 c.put.new.self c.in-Ok-put.ensures.puts c.put.ensures.stores,
       cloned_more g.K.PartialEq.eq (hash g) g.K.Clone.is_clone g.V.Clone.is_clone c.args.self.now (map deref_pair c.loop-key.yielded) c.loop-key.self
           c.loop-key.invariant.1 (c.in-Some.key.now, c.in-Some.value.now) (c.in-Ok.own_key, c.in-Ok-clone.own_value) c.in-Ok.ensures.cases
           c.in-Ok-clone.ensures.cases c.in-Ok-put.field-0 c.put.new.self c.in-Ok-put.ensures.alone,

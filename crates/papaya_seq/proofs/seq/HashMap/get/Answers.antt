@@ -6,7 +6,7 @@ use Rattle.papaya_core_timeline.specs.Content.{map_in}
 use Rattle.papaya_seq.specs.Map.{Holds, IsLawfulMap, MapState, core_of, value_of}
 use Rattle.papaya_seq.proofs.LookResults.{found_map, no_value, number_logged}
 use Rattle.papaya_seq.proofs.seq.HashMap.get.Goals as goal
-use Rattle.papaya_seq.proofs.seq.HashMap.get.Goals.{After-logged_value, After-look_up, In-Some}
+use Rattle.papaya_seq.proofs.seq.HashMap.get.Goals.{After-stored_value, After-look_up, In-Some}
 use Rattle.papaya_seq.proofs.seq.HashMap.get.Given.{Over}
 
 -- the pair that was found
@@ -18,15 +18,15 @@ there g c =
     (sym c.in-Some.is ∙ found.2)
 
 -- its value
-value_is : (g : Over) (c : After-logged_value g) → c.logged_value.result.now ≡ (there g (goal.at.After-logged_value g c).In-Some).0.value
+value_is : (g : Over) (c : After-stored_value g) → c.stored_value.result.now ≡ (there g (goal.at.After-stored_value g c).In-Some).0.value
 value_is g c =
-    let p = there g (goal.at.After-logged_value g c).In-Some in
-    c.logged_value.ensures p.0
+    let p = there g (goal.at.After-stored_value g c).In-Some in
+    c.stored_value.ensures p.0
     (subst (λ (s : MapState g.row.K.Denot g.row.V.Denot g.row.S.Denot). pair_of s.store c.in-Some.pair ≡ Some p.0) (sym c.self.view_is) p.3)
 
-pub logged_value-requires : goal.logged_value-requires
-logged_value-requires g c =
-    let p = there g (goal.at.logged_value-requires g c).In-Some in
+pub stored_value-requires : goal.stored_value-requires
+stored_value-requires g c =
+    let p = there g (goal.at.stored_value-requires g c).In-Some in
     subst (λ (s : MapState g.row.K.Denot g.row.V.Denot g.row.S.Denot). IsSome (pair_of s.store c.in-Some.pair)) (sym c.self.view_is)
     (subst (λ o. IsSome o) (sym p.3) refl)
 
@@ -34,14 +34,14 @@ pub returns-in-Some-clause-answer : goal.returns-in-Some-clause-answer
 returns-in-Some-clause-answer g c =
     let at = goal.at.returns-in-Some-clause-answer g c in
     let p = there g at.In-Some in
-    (p.0, p.2, sym (value_is g at.After-logged_value))
+    (p.0, p.2, sym (value_is g at.After-stored_value))
 
 pub returns-in-Some-clause-machine : goal.returns-in-Some-clause-machine
 returns-in-Some-clause-machine g c =
     let at = goal.at.returns-in-Some-clause-machine g c in
     let p = there g at.In-Some in
     let found = c.look_up.ensures.found in
-    (found.0, found.1, ap Some (value_is g at.After-logged_value) ∙ ap value_of (sym p.1))
+    (found.0, found.1, ap Some (value_is g at.After-stored_value) ∙ ap value_of (sym p.1))
 
 -- the map is in order
 abbrev Orderly : (g : Over) → MapState g.row.K.Denot g.row.V.Denot g.row.S.Denot → Type 0
@@ -61,7 +61,7 @@ map_is g c orderly k matched =
 pub returns-in-Some-clause-map : goal.returns-in-Some-clause-map
 returns-in-Some-clause-map g c k matched =
     let at = goal.at.returns-in-Some-clause-map g c in
-    ap Some (value_is g at.After-logged_value)
+    ap Some (value_is g at.After-stored_value)
     ∙ ap value_of (sym (map_is g at.After-look_up (subst (Orderly g) c.self.view_is c.self.invariant) k matched ∙ (there g at.In-Some).1))
 
 pub returns-in-None-clause-map : goal.returns-in-None-clause-map

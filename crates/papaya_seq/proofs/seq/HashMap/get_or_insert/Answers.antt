@@ -23,8 +23,8 @@ returns-in_err-pair g c =
 
 pub returns : goal.returns
 returns g c =
-    let r = tried_value g.K.PartialEq.eq c.args.key c.args.value c.args.self.now c.insert_absent.new.self c.logged.result.now c.insert_absent.result
-    c.in_ok-pair.pair _ c.in_ok-pair.was c.insert_absent.ensures.tried c.logged.ensures in
+    let r = tried_value g.K.PartialEq.eq c.args.key c.args.value c.args.self.now c.insert_absent.new.self c.stored_value.result.now c.insert_absent.result
+    c.in_ok-pair.pair _ c.in_ok-pair.was c.insert_absent.ensures.tried c.stored_value.ensures in
     let made = alone_done g.K.PartialEq.eq (hash g) c.args.self.now c.insert_absent.new.self (TryInsert c.args.key c.args.value)
     c.insert_absent.result c.insert_absent.ensures.alone _ in
     ((refl, λ _. tt, (r.0, made)), record { inserts = tt; value = r.1; err = tt })

@@ -13,8 +13,8 @@ use Rattle.papaya_seq.proofs.seq.HashMap.insert.Given.{Over}
 abbrev hash : (g : Over) → g.row.S.Denot → g.row.K.Denot → ℕ
 hash g = hash_of g.K.Hash.hash_input g.S.BuildHasher.build_hasher g.S.Hasher.Hasher.write g.S.Hasher.Hasher.finish
 
-pub logged-requires : goal.logged-requires
-logged-requires g c =
+pub stored_value-requires : goal.stored_value-requires
+stored_value-requires g c =
     let e = c.insert_by-reply.ensures in
     let r = replaced_by g.K.PartialEq.eq g.met.K.Eq.laws c.args.key c.args.value c.args.self.now.store c.insert_by-reply.new.self.store
     c.insert_by-reply.result.0 c.in-Replaced.old c.in-Replaced.new c.in-Replaced.is e.answers e.fresh in
@@ -25,7 +25,7 @@ returns-in-Replaced g c =
     let e = c.insert_by-reply.ensures in
     let r = replaced_by g.K.PartialEq.eq g.met.K.Eq.laws c.args.key c.args.value c.args.self.now.store c.insert_by-reply.new.self.store
     c.insert_by-reply.result.0 c.in-Replaced.old c.in-Replaced.new c.in-Replaced.is e.answers e.fresh in
-    let shown = c.logged.ensures r.old (e.keeps.0.pairs c.in-Replaced.old r.old r.logged) in
+    let shown = c.stored_value.ensures r.old (e.keeps.0.pairs c.in-Replaced.old r.old r.logged) in
     let made = made_done g.K.PartialEq.eq (hash g) c.args.self.now c.insert_by-reply.new.self (Insert c.args.key c.args.value)
     c.insert_by-reply.result.0 e.alone _ in
     rw shown ((refl, λ _. tt, ((r.made.inserts, e.keeps), made)), record { inserts = tt; old = sym (ap value_of r.here); err = tt })

@@ -73,8 +73,8 @@ returns-in-Ok-clause-alone g c = (done g (goal.at.returns-in-Ok-clause-alone g c
 pub returns-in-Ok-clause-keeps : goal.returns-in-Ok-clause-keeps
 returns-in-Ok-clause-keeps g c = (done g (goal.at.returns-in-Ok-clause-keeps g c).In-Ok).keeps
 
-pub returns-in-Ok-clause-logs : goal.returns-in-Ok-clause-logs
-returns-in-Ok-clause-logs g c = (done g (goal.at.returns-in-Ok-clause-logs g c).In-Ok).logs
+pub returns-in-Ok-clause-stores : goal.returns-in-Ok-clause-stores
+returns-in-Ok-clause-stores g c = (done g (goal.at.returns-in-Ok-clause-stores g c).In-Ok).logs
 
 -- a call that begins at the root has come there
 pub insert_slow-requires : goal.insert_slow-requires

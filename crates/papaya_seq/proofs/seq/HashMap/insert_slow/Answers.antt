@@ -6,7 +6,7 @@ use Rattle.papaya_call.specs.declared.answers.Operation.TheVariants.{Abort}
 use Rattle.papaya_call.specs.declared.answers.Listed.{Listed}
 use Rattle.papaya_call.specs.declared.chain.ask.Ask.TheVariants as asks
 use Rattle.papaya_call.specs.declared.chain.machine.Machine.{Machine}
-use Rattle.papaya_call.specs.ChainMachine.{IsStanding, after, ask_of}
+use Rattle.papaya_call.specs.ChainMachine.{IsValid, after, ask_of}
 use Rattle.papaya_core_store.specs.declared.pairs.Part.TheVariants.{Own}
 use Rattle.papaya_words_keys.specs.Hashes.{hash_of}
 use Rattle.papaya_core_timeline.specs.Content.{map_in}
@@ -82,7 +82,7 @@ loop-reply-init g c =
     }) × (c.self.inside.mode ≡ m.mode) × (c.self.inside.initial ≡ m.initial)) c.self.view_is (
       inserting_led g.K.PartialEq.eq (hash g) view c.args.replace c.args.key c.args.value (keys g view.store.hasher) c.self.invariant fit begun
           c.hash-hash.result c.copies_from-number.result c.led-machine.result c.new-machine.ensures.value c.hash-hash.ensures.value
-          c.new-machine.ensures.standing led,
+          c.new-machine.ensures.valid led,
       refl,
       refl,
     )
@@ -110,7 +110,7 @@ went g c =
     (lawful g n) (fits g n) (said g) c.loop-reply.self-inside.store c.loop-reply.running c.perform_ask-answer.result c.perform_ask-answer.new.self
     c.perform_ask-answer.new.running c.ask-ask.result c.ask-ask.ensures.value (asks_on g (goal.at.After-answer g c).After-perform_ask-answer)
     c.perform_ask-answer.ensures.performs c.perform_ask-answer.ensures.machine c.loop-reply.invariant.0
-    (subst IsStanding (sym (answered g c)) c.answer.ensures.standing))
+    (subst IsValid (sym (answered g c)) c.answer.ensures.valid))
 
 pub copy_for_call-requires-clause-sized : goal.copy_for_call-requires-clause-sized
 copy_for_call-requires-clause-sized g c =
@@ -241,5 +241,5 @@ returns-in-Call-Done-clause-keeps g c =
           (lawful g n) (fits g n) c.loop-reply.self-inside.store c.loop-reply.running c.in-Call-Done.reply (replied g end) c.loop-reply.invariant.0,
     )
 
-pub returns-in-Call-Done-clause-logs : goal.returns-in-Call-Done-clause-logs
-returns-in-Call-Done-clause-logs g c = c.loop-reply.invariant.0.logs
+pub returns-in-Call-Done-clause-stores : goal.returns-in-Call-Done-clause-stores
+returns-in-Call-Done-clause-stores g c = c.loop-reply.invariant.0.logs

@@ -12,7 +12,7 @@ use Rattle.papaya_core_timeline.proofs.CountedCore.{lawful_apart}
 use Rattle.papaya_core_timeline.proofs.KeptCore.{keys_lawful}
 use Rattle.papaya_seq.specs.Looks.{LooksUp}
 use Rattle.papaya_seq.specs.Map.{IsLawfulMap, MapState, core_of}
-use Rattle.papaya_seq.specs.Searches.{IsRootTurn, seen_by}
+use Rattle.papaya_seq.specs.Searches.{IsRootHit, seen_by}
 use Rattle.papaya_seq.specs.declared.search.ProbeHit.{ProbeHit}
 use Rattle.papaya_seq.specs.declared.search.ProbeHit.TheVariants as turns
 use Rattle.papaya_seq.proofs.LookFinds.{found_number, look_up_answers}
@@ -37,7 +37,7 @@ module _ (g : Over) where
 
   -- if the search of the root ended a lookup, its reply is what was found
   root_found : (s : Map) → Orderly s → (key : g.row.Q.Denot) → query_hash s.store.hasher key < 2 ^ 64 → (turn : ProbeHit)
-      → IsRootTurn (g.Q.Equivalent.matches key) s.store (query_hash s.store.hasher key) turn → (reply : Reply) (answer : Option ℕ)
+      → IsRootHit (g.Q.Equivalent.matches key) s.store (query_hash s.store.hasher key) turn → (reply : Reply) (answer : Option ℕ)
       → answer ≡ found_number reply
       → goes (started Get (query_hash s.store.hasher key) s.mode.resize s.initial s.mode.limit) (seen_by turn) ≡ Ended reply
       → (found : _) × LooksUp g.K.PartialEq.eq (g.Q.Equivalent.matches key) s.store
@@ -74,8 +74,8 @@ module _ (g : Over) where
         (started Get (query_hash c.args.self.now.store.hasher c.args.key.now) c.args.self.now.mode.resize c.args.self.now.initial
         c.args.self.now.mode.limit) found × (answer ≡ option_map (λ p. p.number) found)
     ended turn is = root_found c.args.self.now orderly c.args.key.now (subst (λ n. n < 2 ^ 64) hash_made c.hash-hash.ensures.fits) turn
-        (subst (λ n. IsRootTurn (g.Q.Equivalent.matches c.args.key.now) c.args.self.now.store n turn) hash_made
-        (subst (λ (s : Map). IsRootTurn (g.Q.Equivalent.matches c.args.key.now) s.store c.hash-hash.result turn) c.self.view_is
+        (subst (λ n. IsRootHit (g.Q.Equivalent.matches c.args.key.now) c.args.self.now.store n turn) hash_made
+        (subst (λ (s : Map). IsRootHit (g.Q.Equivalent.matches c.args.key.now) s.store c.hash-hash.result turn) c.self.view_is
         (c.search_root.ensures turn is)))
 
 pub search_root-requires : goal.search_root-requires

@@ -17,7 +17,7 @@ use Rattle.papaya_core_timeline.proofs.KeptCore.{keys_lawful}
 use Rattle.papaya_core_timeline.proofs.KeptSettings.{IsLawfulKeys}
 use Rattle.papaya_seq.specs.Looks.{LooksUp}
 use Rattle.papaya_seq.specs.Map.{IsLawfulMap, MapState}
-use Rattle.papaya_seq.specs.Searches.{IsThere, IsTurn, seen_by}
+use Rattle.papaya_seq.specs.Searches.{IsThere, IsProbeHit, seen_by}
 use Rattle.papaya_seq.specs.declared.search.ProbeHit.{ProbeHit}
 use Rattle.papaya_seq.proofs.LookFinds.{found_number, look_up_answers}
 use Rattle.papaya_seq.proofs.LookSteps.{IsLookUp, lookup_left}
@@ -101,7 +101,7 @@ module _ (g : Over) where
       searched g.K.PartialEq.eq (key_hash s.store.hasher) s.mode s.store orderly.lawful (same_keys s) (g.Q.Equivalent.matches c.args.key.now)
       c.hash-hash.result s.initial c.loop-table.number c.len.result c.limit.result size
       c.loop-table.invariant c.first-first.result c.first-first.ensures.value c.search.result
-      (subst (λ (y : Map). IsTurn (g.Q.Equivalent.matches c.args.key.now) y.store c.hash-hash.result c.first-first.result c.search.result)
+      (subst (λ (y : Map). IsProbeHit (g.Q.Equivalent.matches c.args.key.now) y.store c.hash-hash.result c.first-first.result c.search.result)
       c.self.view_is c.search.ensures.turn)
 
 pub loop-table-init : goal.loop-table-init

@@ -6,7 +6,7 @@ use Rattle.papaya_core_store.specs.Tables.{table_of, word_at}
 use Rattle.papaya_core_timeline.proofs.KeptCore.{keys_lawful}
 use Rattle.papaya_core_timeline.proofs.KeptSettings.{IsLawfulKeys}
 use Rattle.papaya_seq.specs.Map.{IsLawfulMap, MapState, slots_in}
-use Rattle.papaya_seq.specs.Walks.{IsStand, left_to}
+use Rattle.papaya_seq.specs.Walks.{IsPosition, left_to}
 use Rattle.papaya_seq.proofs.WalkSteps.{here_next, here_none, next_left, next_rises, next_stands, over_blocking, over_last, stand_same}
 use Rattle.papaya_seq.proofs.seq.HashMap.next_pair.Goals as goal
 use Rattle.papaya_seq.proofs.seq.HashMap.next_pair.Goals.{Else-is_some, Else-next-eq0, in-Incremental, in-Blocking}
@@ -36,7 +36,7 @@ module _ (g : Over) where
   behind c = here_none g.K.PartialEq.eq c.args.self.now.store c.loop-self.at c.next_here-pair.new.at c.next_here-pair.result
       c.next_here-pair.ensures.next (search rules)
 
-  stands : (c : Else-is_some g) → IsStand c.args.self.now c.next_here-pair.new.at
+  stands : (c : Else-is_some g) → IsPosition c.args.self.now c.next_here-pair.new.at
   stands c = stand_same c.args.self.now c.loop-self.at c.next_here-pair.new.at c.next_here-pair.ensures.same.0 c.next_here-pair.ensures.same.1
       c.loop-self.invariant.0
 
@@ -115,7 +115,7 @@ loop-self-preserved g c =
     let move = moved g c in
     let eq = g.K.PartialEq.eq in
     let here = c.next_here-pair.new.at in
-    subst (λ t. IsStand s (record { table = t; slot = 0; passed = here.passed + 1 })
+    subst (λ t. IsPosition s (record { table = t; slot = 0; passed = here.passed + 1 })
     × (left_to eq s.store c.args.at.now ≡ left_to eq s.store (record { table = t; slot = 0; passed = here.passed + 1 }))) (sym move.next_is) (
       next_stands eq (key_hash g s.store.hasher) s (orderly g at).lawful (keys g s) here (stands g at) (behind g at).1 move.some move.going,
       c.loop-self.invariant.1 ∙ (behind g at).0

@@ -2,7 +2,7 @@ use Rattle.std.proofs.Common.{◌≡◌, ℕ, ◌<◌, ◌≤◌, arith, fold, s
 use Rattle.papaya_call.specs.declared.ask.Ask.TheVariants.{Done as Ask_done}
 use Rattle.papaya_call.specs.declared.call.Call.TheVariants.{RemoveIf}
 use Rattle.papaya_call.specs.declared.chain.ask.Ask.TheVariants as asks
-use Rattle.papaya_call.specs.ChainMachine.{IsFitAsk, IsStanding, ask_of}
+use Rattle.papaya_call.specs.ChainMachine.{IsFitAsk, IsValid, ask_of}
 use Rattle.papaya_words_keys.specs.Hashes.{hash_of}
 use Rattle.papaya_core_timeline.proofs.KeptCore.{keys_lawful}
 use Rattle.papaya_seq.specs.MadeAlone.{IsMadeAlone}
@@ -75,7 +75,7 @@ pub loop-ask-init : goal.loop-ask-init
 loop-ask-init g c =
     let matches = g.Q.Equivalent.matches c.args.key.now in
     let view : MapState _ _ _ = record { store = c.self.inside.store; mode = c.self.inside.mode; initial = c.self.inside.initial } in (
-      c.new-machine.ensures.standing,
+      c.new-machine.ensures.valid,
       ap (λ (m : MapState _ _ _). m.mode) c.self.view_is,
       ap (λ (m : MapState _ _ _). m.initial) c.self.view_is,
       subst (λ (m : MapState _ _ _). IsUnderWay g.F.FnMut g.K.PartialEq.eq (hashes g) matches c.hash-hash.result m c.args.agrees.now c.self.inside.store
@@ -135,19 +135,19 @@ copy_for_call-requires-clause-sized g c =
 -- and after the slots that were copied
 copied : (g : Over) (c : After-copy_for_call g)
     → IsUnderWay g.F.FnMut g.K.PartialEq.eq (hashes g) (g.Q.Equivalent.matches c.args.key.now) c.hash-hash.result c.args.self.now c.args.agrees.now
-    c.copy_for_call.new.store c.match-ask.agrees c.copy_for_call.new.machine × IsStanding c.copy_for_call.new.machine
+    c.copy_for_call.new.store c.match-ask.agrees c.copy_for_call.new.machine × IsValid c.copy_for_call.new.machine
     × (left_of c.copy_for_call.new.store c.copy_for_call.new.machine ≤ left_of c.match-ask.self-inside.store c.answer.new.self)
 copied g c =
     let (said, led) = c.copy_for_call.ensures in
     removing_copies g.F.FnMut g.K.PartialEq.eq (hashes g) (g.Q.Equivalent.matches c.args.key.now) c.hash-hash.result c.args.self.now c.args.agrees.now
     (query g (goal.at.After-copy_for_call g c).After-new-machine) said c.match-ask.self-inside.store c.match-ask.agrees c.answer.new.self
-    c.copy_for_call.new.store c.copy_for_call.new.machine led c.answer.ensures.standing (went g (goal.at.After-copy_for_call g c).After-answer)
+    c.copy_for_call.new.store c.copy_for_call.new.machine led c.answer.ensures.valid (went g (goal.at.After-copy_for_call g c).After-answer)
 
 pub loop-ask-preserved : goal.loop-ask-preserved
 loop-ask-preserved g c =
     let at = (goal.at.loop-ask-preserved g c).After-answer in
-    let (going, standing, near) = copied g (goal.at.loop-ask-preserved g c).After-copy_for_call in
-    (standing, (stays g at).0 ∙ c.loop-ask.invariant.1, (stays g at).1 ∙ c.loop-ask.invariant.2, going)
+    let (going, valid, near) = copied g (goal.at.loop-ask-preserved g c).After-copy_for_call in
+    (valid, (stays g at).0 ∙ c.loop-ask.invariant.1, (stays g at).1 ∙ c.loop-ask.invariant.2, going)
 
 pub loop-ask-smaller : goal.loop-ask-smaller
 loop-ask-smaller g c =

@@ -1,5 +1,5 @@
 use Rattle.std.proofs.Common.{◌≡◌}
-use Rattle.papaya_call.specs.ChainMachine.{IsStanding}
+use Rattle.papaya_call.specs.ChainMachine.{IsValid}
 use Rattle.papaya_words_keys.specs.Hashes.{hash_of}
 use Rattle.papaya_seq.proofs.Ending.{left_of}
 use Rattle.papaya_seq.proofs.RemovalWays.{IsUnderWay}
@@ -8,7 +8,7 @@ use Rattle.papaya_seq.proofs.seq.HashMap.remove_slow.Given as goal
 -- the removal is under way, in a map that keeps its mode and its initial capacity
 abbrev pub invariant-loop-ask : goal.invariant-loop-ask
 invariant-loop-ask g l =
-    IsStanding l.machine
+    IsValid l.machine
     × (l.self-inside.mode ≡ l.fn.self.mode)
     × (l.self-inside.initial ≡ l.fn.self.initial)
     × IsUnderWay g.F.FnMut g.K.PartialEq.eq (hash_of g.K.Hash.hash_input g.S.BuildHasher.build_hasher g.S.Hasher.Hasher.write

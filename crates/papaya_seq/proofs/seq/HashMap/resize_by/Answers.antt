@@ -5,7 +5,7 @@ use Rattle.papaya_words.specs.declared.refused.Refused.{Refused}
 use Rattle.papaya_words.specs.declared.refused.Refused.TheVariants.{Capacity}
 use Rattle.papaya_call.specs.declared.chain.resizer.Resizer.{Resizer}
 use Rattle.papaya_call.specs.declared.chain.resizer.ResizerState.TheVariants.{Refused as Was_refused}
-use Rattle.papaya_call.specs.Resizer.{IsStandingResizer, after, ask_of, reply_in, reply_of}
+use Rattle.papaya_call.specs.Resizer.{IsValidResizer, after, ask_of, reply_in, reply_of}
 use Rattle.papaya_words_keys.specs.Hashes.{hash_of}
 use Rattle.papaya_core_store.specs.Store.{StoreState}
 use Rattle.papaya_seq.specs.MadeAlone.{IsResizedAlone}
@@ -41,7 +41,7 @@ loop-ask-init g c =
     × (c.self.inside.mode ≡ m.mode) × (c.self.inside.initial ≡ m.initial)) c.self.view_is (
       resizing_begun g.K.PartialEq.eq g.K.Hash.hash_input g.S.BuildHasher.build_hasher g.S.Hasher.Hasher.write g.S.Hasher.Hasher.finish g.met.K.Eq.laws
           g.met.K.Hash.respects_eq view c.args.resize c.self.invariant c.requires c.new-resizer.result c.copies_from-number.result
-          c.new-resizer.ensures.value c.new-resizer.ensures.standing,
+          c.new-resizer.ensures.value c.new-resizer.ensures.valid,
       refl,
       refl,
     )
@@ -65,7 +65,7 @@ went g c =
     (resizing_more g.K.PartialEq.eq g.K.Hash.hash_input g.S.BuildHasher.build_hasher g.S.Hasher.Hasher.write g.S.Hasher.Hasher.finish g.met.K.Eq.laws
     g.met.K.Hash.respects_eq c.args.self.now c.args.resize (lawful g n) (fits g n) c.loop-ask.self-inside.store c.loop-ask.resizer c.in-Some.ask
     c.perform_copy-answer.result c.perform_copy-answer.new.self (sym c.ask.ensures ∙ c.in-Some.is) c.perform_copy-answer.ensures c.loop-ask.invariant.0
-    (subst IsStandingResizer (sym (answered g c)) c.answer.ensures.standing))
+    (subst IsValidResizer (sym (answered g c)) c.answer.ensures.valid))
 
 pub copy_for_resizer-requires-clause-sized : goal.copy_for_resizer-requires-clause-sized
 copy_for_resizer-requires-clause-sized g c =

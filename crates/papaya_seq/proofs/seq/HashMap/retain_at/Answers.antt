@@ -16,7 +16,7 @@ use Rattle.papaya_seq.proofs.RetainLaw.{live_logged, root_word, buried_at, burie
 use Rattle.papaya_seq.proofs.Exchanging.{exchange_done}
 use Rattle.papaya_seq.proofs.RetainSteps.{IsScanned, scanned_more, shown_answers}
 use Rattle.papaya_seq.proofs.seq.HashMap.retain_at.Goals as goal
-use Rattle.papaya_seq.proofs.seq.HashMap.retain_at.Goals.{After-add_to_shard, After-show}
+use Rattle.papaya_seq.proofs.seq.HashMap.retain_at.Goals.{After-add_to_shard, After-call_closure}
 use Rattle.papaya_seq.proofs.seq.HashMap.retain_at.Given.{Over}
 
 module _ (g : Over) where
@@ -31,39 +31,39 @@ module _ (g : Over) where
       g.met.K.Eq.laws g.met.K.Hash.respects_eq s.store.hasher
 
   -- the map as its fields are
-  abbrev view : After-show g → Map
+  abbrev view : After-call_closure g → Map
   view c = record { store = c.self.inside.store; mode = c.self.inside.mode; initial = c.self.inside.initial }
 
-  root : (c : After-show g) → c.args.table ≡ c.self.inside.store.words.root
+  root : (c : After-call_closure g) → c.args.table ≡ c.self.inside.store.words.root
   root c = c.requires.root ∙ ap (λ (y : Map). y.store.words.root) (sym c.self.view_is)
 
-  last : (c : After-show g) → next_of c.self.inside.store ≡ 0
+  last : (c : After-call_closure g) → next_of c.self.inside.store ≡ 0
   last c = ap (λ (y : Map). next_of y.store) c.self.view_is ∙ c.requires.last
 
-  within : (c : After-show g) → c.args.slot < slots_of c.self.inside.store
+  within : (c : After-call_closure g) → c.args.slot < slots_of c.self.inside.store
   within c = subst (λ (y : Map). c.args.slot < slots_of y.store) (sym c.self.view_is) c.requires.within
 
   -- the word that was read is the slot's, and has a pair
-  word_is : (c : After-show g) → c.word.result ≡ root_word c.self.inside.store c.args.slot
+  word_is : (c : After-call_closure g) → c.word.result ≡ root_word c.self.inside.store c.args.slot
   word_is c = c.word.ensures ∙ ap (λ t. word_at c.self.inside.store.words (Slot t c.args.slot)) (root c)
 
-  live : (c : After-show g) → kind_of (root_word c.self.inside.store c.args.slot) ≡ Live
+  live : (c : After-call_closure g) → kind_of (root_word c.self.inside.store c.args.slot) ≡ Live
   live c = let is : c.kind.result ≡ Live = search rules in sym (c.kind.ensures ∙ ap kind_of (word_is c)) ∙ is
 
-  logged : (c : After-show g) → (p : Stored g.row.K.Denot g.row.V.Denot)
+  logged : (c : After-call_closure g) → (p : Stored g.row.K.Denot g.row.V.Denot)
       × (pair_of c.self.inside.store (number_of (root_word c.self.inside.store c.args.slot)) ≡ Some p)
   logged c = live_logged g.K.PartialEq.eq (key_hash c.self.inside.store.hasher) (view c) c.self.invariant (keys (view c)) c.args.slot (within c) (live c)
 
   -- which the closure was shown
-  said : (c : After-show g) → (agrees : Bool) × Answers g.F.FnMut c.args.agrees.now (logged c).0 agrees c.show.new.agrees × (c.show.result ≡ Yes agrees)
-  said c = shown_answers g.F.FnMut c.args.agrees.now c.show.new.agrees (logged c).0 (pair_of c.self.inside.store c.pair.result) c.show.result
-      (ap (pair_of c.self.inside.store) (c.pair.ensures ∙ ap number_of (word_is c)) ∙ (logged c).1) c.show.ensures.shown
+  said : (c : After-call_closure g) → (agrees : Bool) × Answers g.F.FnMut c.args.agrees.now (logged c).0 agrees c.call_closure.new.agrees × (c.call_closure.result ≡ Yes agrees)
+  said c = shown_answers g.F.FnMut c.args.agrees.now c.call_closure.new.agrees (logged c).0 (pair_of c.self.inside.store c.pair.result) c.call_closure.result
+      (ap (pair_of c.self.inside.store) (c.pair.ensures ∙ ap number_of (word_is c)) ∙ (logged c).1) c.call_closure.ensures.shown
 
   -- it was deleted
   buried : (c : After-add_to_shard g) → c.add_to_shard.new.self ≡ buried_at c.self.inside.store c.args.slot
   buried c =
       let s = c.self.inside.store in
-      let shown = (goal.at.After-add_to_shard g c).After-show in
+      let shown = (goal.at.After-add_to_shard g c).After-call_closure in
       let grave : c.buried-grave.result.0 ≡ buried_word (number_of (root_word s c.args.slot)) = c.buried-grave.ensures
       ∙ ap buried_word (c.pair-2.ensures ∙ ap number_of (word_is shown)) in
       let made : c.exchange.new.self ≡ record s { words = put s.words (Slot c.args.table c.args.slot) c.buried-grave.result.0 } = exchange_done s
@@ -90,21 +90,21 @@ module _ (g : Over) where
       (subst (λ n. slot < n) retaining.long within) lawful (keys here) (record here { store = store }) after refl refl is)
 
 -- a closure that did not disagree agreed
-agreed : (g : Over) (c : After-show g) (b : Bool) → Answers g.F.FnMut c.args.agrees.now (logged g c).0 b c.show.new.agrees → c.show.result ≡ Yes b
-    → (c.show.result ≡ Yes false → ⊥)
-    → (agrees : Bool) × Answers g.F.FnMut c.args.agrees.now (logged g c).0 agrees c.show.new.agrees
+agreed : (g : Over) (c : After-call_closure g) (b : Bool) → Answers g.F.FnMut c.args.agrees.now (logged g c).0 b c.call_closure.new.agrees → c.call_closure.result ≡ Yes b
+    → (c.call_closure.result ≡ Yes false → ⊥)
+    → (agrees : Bool) × Answers g.F.FnMut c.args.agrees.now (logged g c).0 agrees c.call_closure.new.agrees
     × (c.self.inside.store ≡ cond agrees c.self.inside.store (buried_at c.self.inside.store c.args.slot))
 agreed g c true answers is not = (true, answers, refl)
 agreed g c false answers is not = absurd (not is)
 
 pub returns-in_default-clause-scanned : goal.returns-in_default-clause-scanned
 returns-in_default-clause-scanned g c s f retaining =
-    let at = (goal.at.returns-in_default-clause-scanned g c).After-show in
-    let not : c.show.result ≡ Yes false → ⊥ = λ no. search rules in
+    let at = (goal.at.returns-in_default-clause-scanned g c).After-call_closure in
+    let not : c.call_closure.result ≡ Yes false → ⊥ = λ no. search rules in
     let found = agreed g at (said g at).0 (said g at).1 (said g at).2 not in
     let before = subst (λ (y : Map g). IsRetaining g.F.FnMut s f c.args.slot y c.args.agrees.now) (sym c.self.view_is) retaining in
-    subst (λ (y : Map g). IsRetaining g.F.FnMut s f (c.args.slot + 1) y c.show.new.agrees) c.self.view_is
-    (scanned g (view g at) c.self.invariant c.args.slot (within g at) c.args.agrees.now c.show.new.agrees c.self.inside.store
+    subst (λ (y : Map g). IsRetaining g.F.FnMut s f (c.args.slot + 1) y c.call_closure.new.agrees) c.self.view_is
+    (scanned g (view g at) c.self.invariant c.args.slot (within g at) c.args.agrees.now c.call_closure.new.agrees c.self.inside.store
     (inr ((logged g at).0, live g at, (logged g at).1, found.0, found.1, found.2)) s f before)
 
 pub returns-then-ne-clause-scanned : goal.returns-then-ne-clause-scanned
@@ -119,7 +119,7 @@ returns-then-ne-clause-scanned g c s f retaining =
 
 pub invariant_of-self : goal.invariant_of-self
 invariant_of-self g c =
-    let at = (goal.at.invariant_of-self g c).After-show in
+    let at = (goal.at.invariant_of-self g c).After-call_closure in
     subst (λ (y : StoreState g.row.K.Denot g.row.V.Denot g.row.S.Denot).
     IsLawfulMap g.K.PartialEq.eq (key_hash g y.hasher) y c.self.inside.mode c.self.inside.initial) (sym (buried g c))
     (buried_lawful g.K.PartialEq.eq (key_hash g c.self.inside.store.hasher) (view g at) c.self.invariant (keys g (view g at)) c.args.slot
@@ -127,20 +127,20 @@ invariant_of-self g c =
 
 pub returns-clause-scanned : goal.returns-clause-scanned
 returns-clause-scanned g c s f retaining =
-    let at = (goal.at.returns-clause-scanned g c).After-show in
-    let no : c.show.result ≡ Yes false = search rules in
+    let at = (goal.at.returns-clause-scanned g c).After-call_closure in
+    let no : c.call_closure.result ≡ Yes false = search rules in
     let answer : (said g at).0 ≡ false = let both : Yes (said g at).0 ≡ Yes false = sym (said g at).2 ∙ no in cc in
     let before = subst (λ (y : Map g). IsRetaining g.F.FnMut s f c.args.slot y c.args.agrees.now) (sym c.self.view_is) retaining in
-    scanned g (view g at) c.self.invariant c.args.slot (within g at) c.args.agrees.now c.show.new.agrees c.add_to_shard.new.self
+    scanned g (view g at) c.self.invariant c.args.slot (within g at) c.args.agrees.now c.call_closure.new.agrees c.add_to_shard.new.self
     (inr (
       (logged g at).0,
       live g at,
       (logged g at).1,
       false,
-      subst (λ b. Answers g.F.FnMut c.args.agrees.now (logged g at).0 b c.show.new.agrees)
+      subst (λ b. Answers g.F.FnMut c.args.agrees.now (logged g at).0 b c.call_closure.new.agrees)
           answer (said g at).1,
       buried g c,
     )) s f before
 
-pub show-requires : goal.show-requires
-show-requires g c k v = (c.requires.callable.at ((k, (v, tt)) ∷ [])).0
+pub call_closure-requires : goal.call_closure-requires
+call_closure-requires g c k v = (c.requires.callable.at ((k, (v, tt)) ∷ [])).0

@@ -20,8 +20,8 @@ returns-in_err-pair g c =
     c.compute_by-shown.ensures.alone c.in_err-pair.field-0.0 c.in_err-pair.was in
     rw (p.1, p.2) ((refl, λ _. tt, (r.0, made)), record { stores = tt; stored = tt; occupied = tt; err = r.1 })
 
-pub logged-requires-in-Aborted-Some : goal.logged-requires-in-Aborted-Some
-logged-requires-in-Aborted-Some g c =
+pub stored_value-requires-in-Aborted-Some : goal.stored_value-requires-in-Aborted-Some
+stored_value-requires-in-Aborted-Some g c =
     let f = tried_found g.K.PartialEq.eq g.met.K.Eq.laws c.args.key c.args.self.now c.compute_by-shown.new.self c.compute_by-shown.result.1
     (goal.F-post g c.args.f) c.in-Aborted-Some.field-0-0 c.in-Aborted-Some.pair c.compute_by-shown.result.0
     (c.in_ok-pair.was ∙ ap Ok c.in-Aborted-Some.is-0) c.in-Aborted-Some.is-1 c.compute_by-shown.ensures.shown c.compute_by-shown.ensures.computes
@@ -31,8 +31,8 @@ logged-requires-in-Aborted-Some g c =
 pub returns-in-Inserted-default : goal.returns-in-Inserted-default
 returns-in-Inserted-default g c =
     let r = tried_stored g.K.PartialEq.eq g.met.K.Eq.laws c.args.key c.args.self.now c.compute_by-shown.new.self c.compute_by-shown.result.1
-    (goal.F-post g c.args.f) c.in-Inserted-default.pair c.logged.result.now (c.in_ok-pair.was ∙ ap Ok c.in-Inserted-default.is-0)
-    c.compute_by-shown.ensures.computes c.logged.ensures (λ o says. says.1) in
+    (goal.F-post g c.args.f) c.in-Inserted-default.pair c.stored_value.result.now (c.in_ok-pair.was ∙ ap Ok c.in-Inserted-default.is-0)
+    c.compute_by-shown.ensures.computes c.stored_value.ensures (λ o says. says.1) in
     let made = alone_done g.K.PartialEq.eq (hash g) c.args.self.now c.compute_by-shown.new.self (Compute c.args.key tt) c.compute_by-shown.result.1
     c.compute_by-shown.ensures.alone _ in
     ((refl, λ _. tt, (r.0, made)), record { stores = tt; stored = r.1; occupied = tt; err = tt })
@@ -44,7 +44,7 @@ returns-in-Aborted-Some g c =
     (c.in_ok-pair.was ∙ ap Ok c.in-Aborted-Some.is-0) c.in-Aborted-Some.is-1 c.compute_by-shown.ensures.shown c.compute_by-shown.ensures.computes
     (λ o says. says.1) in
     let r = tried_there g.K.PartialEq.eq c.args.key c.args.self.now c.compute_by-shown.new.self c.in-Aborted-Some.pair
-    c.logged-in-Aborted-Some.result.now f c.logged-in-Aborted-Some.ensures in
+    c.stored_value-in-Aborted-Some.result.now f c.stored_value-in-Aborted-Some.ensures in
     let made = alone_done g.K.PartialEq.eq (hash g) c.args.self.now c.compute_by-shown.new.self (Compute c.args.key tt) c.compute_by-shown.result.1
     c.compute_by-shown.ensures.alone _ in
     ((refl, λ _. tt, (r.0, made)), record { stores = tt; stored = tt; occupied = r.1; err = tt })

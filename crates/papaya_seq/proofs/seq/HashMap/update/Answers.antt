@@ -12,8 +12,8 @@ use Rattle.papaya_seq.proofs.seq.HashMap.update.Given.{Over}
 abbrev hash : (g : Over) → g.row.S.Denot → g.row.K.Denot → ℕ
 hash g = hash_of g.K.Hash.hash_input g.S.BuildHasher.build_hasher g.S.Hasher.Hasher.write g.S.Hasher.Hasher.finish
 
-pub logged-requires : goal.logged-requires
-logged-requires g c =
+pub stored_value-requires : goal.stored_value-requires
+stored_value-requires g c =
     (updated_logged g.K.PartialEq.eq g.met.K.Eq.laws c.args.key c.args.self.now c.compute_by-computed.new.self c.compute_by-computed.result.1
     c.in-Updated.old c.in-Updated.new (c.in_ok-new.was ∙ ap Ok c.in-Updated.is) c.compute_by-computed.ensures.computes).1
 
@@ -29,8 +29,8 @@ returns-in_err-new g c =
 pub returns-in-Updated : goal.returns-in-Updated
 returns-in-Updated g c =
     let r = update_stored g.K.PartialEq.eq g.met.K.Eq.laws c.args.key c.args.self.now c.compute_by-computed.new.self c.compute_by-computed.result.1
-    (FnReturnsAt g.F.Fn c.args.f) c.in-Updated.old c.in-Updated.new c.logged.result.now (c.in_ok-new.was ∙ ap Ok c.in-Updated.is)
-    c.compute_by-computed.ensures.computes c.logged.ensures (λ q o says. says.1) in
+    (FnReturnsAt g.F.Fn c.args.f) c.in-Updated.old c.in-Updated.new c.stored_value.result.now (c.in_ok-new.was ∙ ap Ok c.in-Updated.is)
+    c.compute_by-computed.ensures.computes c.stored_value.ensures (λ q o says. says.1) in
     let made = alone_done g.K.PartialEq.eq (hash g) c.args.self.now c.compute_by-computed.new.self (Compute c.args.key tt) c.compute_by-computed.result.1
     c.compute_by-computed.ensures.alone _ in
     ((refl, λ _. tt, (r.0, made)), record { updates = tt; new = r.1; err = tt })

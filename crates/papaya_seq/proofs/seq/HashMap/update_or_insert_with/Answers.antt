@@ -25,8 +25,8 @@ returns-in_err-pair g c =
 pub returns-in-Inserted : goal.returns-in-Inserted
 returns-in-Inserted g c =
     let r = upsert_inserted g.K.PartialEq.eq g.met.K.Eq.laws c.args.key c.args.self.now c.compute_by-computed.new.self c.compute_by-computed.result.1
-    (FnReturnsAt g.U.Fn c.args.update) (goal.F-post g c.args.f) c.in-Inserted.pair c.logged.result.now (c.in_ok-pair.was ∙ ap Ok c.in-Inserted.is)
-    c.compute_by-computed.ensures.computes c.logged.ensures (λ o says. says.1) in
+    (FnReturnsAt g.U.Fn c.args.update) (goal.F-post g c.args.f) c.in-Inserted.pair c.stored_value.result.now (c.in_ok-pair.was ∙ ap Ok c.in-Inserted.is)
+    c.compute_by-computed.ensures.computes c.stored_value.ensures (λ o says. says.1) in
     let made = alone_done g.K.PartialEq.eq (hash g) c.args.self.now c.compute_by-computed.new.self (Compute c.args.key tt) c.compute_by-computed.result.1
     c.compute_by-computed.ensures.alone _ in
     ((refl, λ _. tt, (r.0, made)), record { stores = tt; value = r.1; err = tt })
@@ -34,8 +34,8 @@ returns-in-Inserted g c =
 pub returns-in-Updated : goal.returns-in-Updated
 returns-in-Updated g c =
     let r = upsert_updated g.K.PartialEq.eq g.met.K.Eq.laws c.args.key c.args.self.now c.compute_by-computed.new.self c.compute_by-computed.result.1
-    (FnReturnsAt g.U.Fn c.args.update) (goal.F-post g c.args.f) c.in-Updated.old c.in-Updated.new c.logged-in-Updated.result.now
-    (c.in_ok-pair.was ∙ ap Ok c.in-Updated.is) c.compute_by-computed.ensures.computes c.logged-in-Updated.ensures (λ q o says. says.1) in
+    (FnReturnsAt g.U.Fn c.args.update) (goal.F-post g c.args.f) c.in-Updated.old c.in-Updated.new c.stored_value-in-Updated.result.now
+    (c.in_ok-pair.was ∙ ap Ok c.in-Updated.is) c.compute_by-computed.ensures.computes c.stored_value-in-Updated.ensures (λ q o says. says.1) in
     let made = alone_done g.K.PartialEq.eq (hash g) c.args.self.now c.compute_by-computed.new.self (Compute c.args.key tt) c.compute_by-computed.result.1
     c.compute_by-computed.ensures.alone _ in
     ((refl, λ _. tt, (r.0, made)), record { stores = tt; value = r.1; err = tt })

@@ -24,9 +24,9 @@ use Rattle.papaya_map.proofs.Telling.{held_good, one_ref, unit_laws}
 use Rattle.papaya_map.proofs.ToldWalks.{walk_rrr}
 use Rattle.papaya_map.proofs.Handed.{meets, Answer, six_facts, handed_3, past_first}
 use Rattle.papaya_set.specs.contracts.set.HashSet as Owner
-use Rattle.papaya_set.specs.contracts.set.HashSet.clear_told as callee
-use Rattle.papaya_set.specs.contracts.set.HashSet.clear_told.Key.{name as #callee}
-use Rattle.papaya_set.proofs.set.HashSet.clear_told.Met.{met}
+use Rattle.papaya_set.specs.contracts.set.HashSet.clear_observed as callee
+use Rattle.papaya_set.specs.contracts.set.HashSet.clear_observed.Key.{name as #callee}
+use Rattle.papaya_set.proofs.set.HashSet.clear_observed.Met.{met}
 use Rattle.papaya_set.specs.contracts.set.HashSet.clear.{ended, clauses}
 use Rattle.papaya_set.specs.contracts.set.HashSet.clear.Key.{name as #self}
 use Rattle.papaya_set.proofs.set.HashSet.clear.Statement.{statement}
@@ -61,7 +61,7 @@ clear_spec 𝓤 𝓛 𝓜 𝓡 wired K S S-Hasher R G LK LS LH LR LG K-Hash K-Ha
     (λ κs x f. refl, (λ κs x f. refl, (λ κs x f. refl, tt))) (#self inst) (#callee inst) (inst_fn inst code.function)
     (code.unfolded 𝓤 𝓛.H 𝓜 𝓡 wired (K, (S, (S-Hasher, (R, (G, tt))))) K-Hash-dict K-Eq-dict K-PartialEq-dict S-BuildHasher-dict S-Hasher-Hasher-dict
     S-Hasher-Destruct-dict R-Wait-dict G-Guard-dict)
-    (met 𝓤 𝓛 𝓜 𝓡 (code.calls-papaya_set::set::HashSet::clear_told 𝓡.env wired) K S S-Hasher R G LK LS LH LR LG K-Hash K-Hash-dict K-Eq K-Eq-dict
+    (met 𝓤 𝓛 𝓜 𝓡 (code.calls-papaya_set::set::HashSet::clear_observed 𝓡.env wired) K S S-Hasher R G LK LS LH LR LG K-Hash K-Hash-dict K-Eq K-Eq-dict
     K-PartialEq K-PartialEq-dict S-BuildHasher S-BuildHasher-dict S-Hasher-Hasher S-Hasher-Hasher-dict S-Hasher-Destruct-dict R-Wait R-Wait-dict
     G-Guard G-Guard-dict m1 m2 m3 m4 m5 m6 m7 m8)
     (λ y are. walk_rrr 𝓤 𝓛 𝓜 𝓡 (one_ref (named 0) y.0.0.0

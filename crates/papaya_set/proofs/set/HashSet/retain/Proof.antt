@@ -26,9 +26,9 @@ use Rattle.papaya_map.proofs.Telling.{held_good, one_of, one_ref, unit_laws}
 use Rattle.papaya_map.proofs.ToldWalks.{walk_rror}
 use Rattle.papaya_map.proofs.Handed.{meets, Answer, six_facts, handed_3, past_first}
 use Rattle.papaya_set.specs.contracts.set.HashSet as Owner
-use Rattle.papaya_set.specs.contracts.set.HashSet.retain_told as callee
-use Rattle.papaya_set.specs.contracts.set.HashSet.retain_told.Key.{name as #callee}
-use Rattle.papaya_set.proofs.set.HashSet.retain_told.Met.{met}
+use Rattle.papaya_set.specs.contracts.set.HashSet.retain_observed as callee
+use Rattle.papaya_set.specs.contracts.set.HashSet.retain_observed.Key.{name as #callee}
+use Rattle.papaya_set.proofs.set.HashSet.retain_observed.Met.{met}
 use Rattle.papaya_set.specs.contracts.set.HashSet.retain.{ended, clauses}
 use Rattle.papaya_set.specs.contracts.set.HashSet.retain.Key.{name as #self}
 use Rattle.papaya_set.proofs.set.HashSet.retain.Statement.{statement}
@@ -70,7 +70,7 @@ retain_spec 𝓤 𝓛 𝓜 𝓡 wired K S S-Hasher R F G LK LS LH LR LF LG K-Has
     (λ κs x f. refl, (λ κs x f. refl, (λ κs x f. refl, (λ κs x f. refl, tt)))) (#self inst) (#callee inst) (inst_fn inst code.function)
     (code.unfolded 𝓤 𝓛.H 𝓜 𝓡 wired (K, (S, (S-Hasher, (R, (F, (G, tt)))))) K-Hash-dict K-Eq-dict K-PartialEq-dict S-BuildHasher-dict
     S-Hasher-Hasher-dict S-Hasher-Destruct-dict R-Wait-dict F-FnMut-dict F-FnOnce-dict G-Guard-dict F-Destruct-dict)
-    (met 𝓤 𝓛 𝓜 𝓡 (code.calls-papaya_set::set::HashSet::retain_told 𝓡.env wired) K S S-Hasher R F G LK LS LH LR LF LG K-Hash K-Hash-dict K-Eq K-Eq-dict
+    (met 𝓤 𝓛 𝓜 𝓡 (code.calls-papaya_set::set::HashSet::retain_observed 𝓡.env wired) K S S-Hasher R F G LK LS LH LR LF LG K-Hash K-Hash-dict K-Eq K-Eq-dict
     K-PartialEq K-PartialEq-dict S-BuildHasher S-BuildHasher-dict S-Hasher-Hasher S-Hasher-Hasher-dict S-Hasher-Destruct-dict R-Wait R-Wait-dict
     F-FnMut F-FnMut-dict F-FnOnce-dict G-Guard G-Guard-dict F-Destruct-dict m1 m2 m3 m4 m5 m6 m7 m8 m9 m10 m11)
     (λ y are. walk_rror 𝓤 𝓛 𝓜 𝓡 (one_ref (named 0) y.0.0.0

@@ -20,9 +20,9 @@ use Rattle.papaya_map.proofs.Telling.{held_good, one_ref, ref_laws, ref_row}
 use Rattle.papaya_map.proofs.ToldWalks.{walk_rr}
 use Rattle.papaya_map.proofs.Handed.{meets, Answer, four_facts, handed_1, past_first}
 use Rattle.papaya_set.specs.contracts.set.HashSetRef as Owner
-use Rattle.papaya_set.specs.contracts.set.HashSetRef.get_told as callee
-use Rattle.papaya_set.specs.contracts.set.HashSetRef.get_told.Key.{name as #callee}
-use Rattle.papaya_set.proofs.set.HashSetRef.get_told.Met.{met}
+use Rattle.papaya_set.specs.contracts.set.HashSetRef.get_observed as callee
+use Rattle.papaya_set.specs.contracts.set.HashSetRef.get_observed.Key.{name as #callee}
+use Rattle.papaya_set.proofs.set.HashSetRef.get_observed.Met.{met}
 use Rattle.papaya_set.specs.contracts.set.HashSetRef.get.{ended, clauses}
 use Rattle.papaya_set.specs.contracts.set.HashSetRef.get.Key.{name as #self}
 use Rattle.papaya_set.proofs.set.HashSetRef.get.Statement.{statement}
@@ -58,7 +58,7 @@ get_spec 𝓤 𝓛 𝓜 𝓡 wired K S S-Hasher Q LK LS LH LQ K-Hash K-Hash-dict
     (λ κs x f. refl, (λ κs x f. refl, tt)) (#self inst) (#callee inst) (inst_fn inst code.function)
     (code.unfolded 𝓤 𝓛.H 𝓜 𝓡 wired (K, (S, (S-Hasher, (Q, tt)))) K-Hash-dict K-Eq-dict K-PartialEq-dict S-BuildHasher-dict S-Hasher-Hasher-dict
     S-Hasher-Destruct-dict Q-Equivalent-dict Q-Hash-dict Q-Eq-dict Q-PartialEq-dict)
-    (met 𝓤 𝓛 𝓜 𝓡 (code.calls-papaya_set::set::HashSetRef::get_told 𝓡.env wired) K S S-Hasher Q LK LS LH LQ K-Hash K-Hash-dict K-Eq K-Eq-dict
+    (met 𝓤 𝓛 𝓜 𝓡 (code.calls-papaya_set::set::HashSetRef::get_observed 𝓡.env wired) K S S-Hasher Q LK LS LH LQ K-Hash K-Hash-dict K-Eq K-Eq-dict
     K-PartialEq K-PartialEq-dict S-BuildHasher S-BuildHasher-dict S-Hasher-Hasher S-Hasher-Hasher-dict S-Hasher-Destruct-dict Q-Equivalent
     Q-Equivalent-dict Q-Hash Q-Hash-dict Q-Eq Q-Eq-dict Q-PartialEq Q-PartialEq-dict m1 m2 m3 m4 m5 m6 m7 m8 m9 m10)
     (λ y are. walk_rr 𝓤 𝓛 𝓜 𝓡 (one_ref (named 0) y.0.0.0

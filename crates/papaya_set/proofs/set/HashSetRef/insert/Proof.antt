@@ -24,9 +24,9 @@ use Rattle.papaya_map.proofs.Telling.{bool_laws, held_good, one_of, one_ref}
 use Rattle.papaya_map.proofs.ToldWalks.{walk_rro}
 use Rattle.papaya_map.proofs.Handed.{meets, Answer, five_facts, handed_2, past_first}
 use Rattle.papaya_set.specs.contracts.set.HashSetRef as Owner
-use Rattle.papaya_set.specs.contracts.set.HashSetRef.insert_told as callee
-use Rattle.papaya_set.specs.contracts.set.HashSetRef.insert_told.Key.{name as #callee}
-use Rattle.papaya_set.proofs.set.HashSetRef.insert_told.Met.{met}
+use Rattle.papaya_set.specs.contracts.set.HashSetRef.insert_observed as callee
+use Rattle.papaya_set.specs.contracts.set.HashSetRef.insert_observed.Key.{name as #callee}
+use Rattle.papaya_set.proofs.set.HashSetRef.insert_observed.Met.{met}
 use Rattle.papaya_set.specs.contracts.set.HashSetRef.insert.{ended, clauses}
 use Rattle.papaya_set.specs.contracts.set.HashSetRef.insert.Key.{name as #self}
 use Rattle.papaya_set.proofs.set.HashSetRef.insert.Statement.{statement}
@@ -59,7 +59,7 @@ insert_spec 𝓤 𝓛 𝓜 𝓡 wired K S S-Hasher R LK LS LH LR K-Hash K-Hash-d
     (λ κs x f. refl, (λ κs x f. refl, (λ κs x f. refl, tt))) (#self inst) (#callee inst) (inst_fn inst code.function)
     (code.unfolded 𝓤 𝓛.H 𝓜 𝓡 wired (K, (S, (S-Hasher, (R, tt)))) K-Hash-dict K-Eq-dict K-PartialEq-dict S-BuildHasher-dict S-Hasher-Hasher-dict
     K-Destruct-dict S-Hasher-Destruct-dict R-Wait-dict)
-    (met 𝓤 𝓛 𝓜 𝓡 (code.calls-papaya_set::set::HashSetRef::insert_told 𝓡.env wired) K S S-Hasher R LK LS LH LR K-Hash K-Hash-dict K-Eq K-Eq-dict
+    (met 𝓤 𝓛 𝓜 𝓡 (code.calls-papaya_set::set::HashSetRef::insert_observed 𝓡.env wired) K S S-Hasher R LK LS LH LR K-Hash K-Hash-dict K-Eq K-Eq-dict
     K-PartialEq K-PartialEq-dict S-BuildHasher S-BuildHasher-dict S-Hasher-Hasher S-Hasher-Hasher-dict K-Destruct-dict S-Hasher-Destruct-dict R-Wait
     R-Wait-dict m1 m2 m3 m4 m5 m6 m7 m8)
     (λ y are. walk_rro 𝓤 𝓛 𝓜 𝓡 (one_ref (named 0) y.0.0.0

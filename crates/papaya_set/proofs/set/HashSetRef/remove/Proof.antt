@@ -24,9 +24,9 @@ use Rattle.papaya_map.proofs.Telling.{bool_laws, held_good, one_ref}
 use Rattle.papaya_map.proofs.ToldWalks.{walk_rrr}
 use Rattle.papaya_map.proofs.Handed.{meets, Answer, five_facts, handed_2, past_first}
 use Rattle.papaya_set.specs.contracts.set.HashSetRef as Owner
-use Rattle.papaya_set.specs.contracts.set.HashSetRef.remove_told as callee
-use Rattle.papaya_set.specs.contracts.set.HashSetRef.remove_told.Key.{name as #callee}
-use Rattle.papaya_set.proofs.set.HashSetRef.remove_told.Met.{met}
+use Rattle.papaya_set.specs.contracts.set.HashSetRef.remove_observed as callee
+use Rattle.papaya_set.specs.contracts.set.HashSetRef.remove_observed.Key.{name as #callee}
+use Rattle.papaya_set.proofs.set.HashSetRef.remove_observed.Met.{met}
 use Rattle.papaya_set.specs.contracts.set.HashSetRef.remove.{ended, clauses}
 use Rattle.papaya_set.specs.contracts.set.HashSetRef.remove.Key.{name as #self}
 use Rattle.papaya_set.proofs.set.HashSetRef.remove.Statement.{statement}
@@ -65,7 +65,7 @@ remove_spec 𝓤 𝓛 𝓜 𝓡 wired K S S-Hasher R Q LK LS LH LR LQ K-Hash K-H
     (λ κs x f. refl, (λ κs x f. refl, (λ κs x f. refl, tt))) (#self inst) (#callee inst) (inst_fn inst code.function)
     (code.unfolded 𝓤 𝓛.H 𝓜 𝓡 wired (K, (S, (S-Hasher, (R, (Q, tt))))) K-Hash-dict K-Eq-dict K-PartialEq-dict S-BuildHasher-dict S-Hasher-Hasher-dict
     S-Hasher-Destruct-dict R-Wait-dict Q-Equivalent-dict Q-Hash-dict Q-Eq-dict Q-PartialEq-dict)
-    (met 𝓤 𝓛 𝓜 𝓡 (code.calls-papaya_set::set::HashSetRef::remove_told 𝓡.env wired) K S S-Hasher R Q LK LS LH LR LQ K-Hash K-Hash-dict K-Eq K-Eq-dict
+    (met 𝓤 𝓛 𝓜 𝓡 (code.calls-papaya_set::set::HashSetRef::remove_observed 𝓡.env wired) K S S-Hasher R Q LK LS LH LR LQ K-Hash K-Hash-dict K-Eq K-Eq-dict
     K-PartialEq K-PartialEq-dict S-BuildHasher S-BuildHasher-dict S-Hasher-Hasher S-Hasher-Hasher-dict S-Hasher-Destruct-dict R-Wait R-Wait-dict
     Q-Equivalent Q-Equivalent-dict Q-Hash Q-Hash-dict Q-Eq Q-Eq-dict Q-PartialEq Q-PartialEq-dict m1 m2 m3 m4 m5 m6 m7 m8 m9 m10 m11)
     (λ y are. walk_rrr 𝓤 𝓛 𝓜 𝓡 (one_ref (named 0) y.0.0.0
