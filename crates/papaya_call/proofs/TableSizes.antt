@@ -29,7 +29,7 @@ one_is m p one (suc k, e) below =
     let some : 2 ^ 0 ≤ 2 ^ k = pow_mono {i = 0} (omega arith) in
     absurd (omega (arith, e, double, some, below, one))
 
--- so a table for so many pairs has the entries that it is to have
+-- so the least table for `pairs` pairs has `entries_of pairs` entries
 pub entries_are : (pairs p : ℕ) → pairs * 8 < 2 ^ 64 → IsEntriesFor pairs p → entries_of pairs ≡ p
 entries_are pairs p few (power, above, below) =
     ⊎_elim
@@ -77,7 +77,7 @@ too_many pairs many =
     (2 * 2 ^ log_upto 63 (pairs * 8 / 6 - 1)) (lt-leb (pairs * 8 / 6) 1 (omega (arith, many))) in
     no_room pairs (omega (arith, is, up))
 
--- a table for so many pairs would be too long
+-- a table for `pairs` pairs would be too long
 pub too_long : (pairs entries : ℕ) → pairs * 8 < 2 ^ 64 → IsEntriesFor pairs entries → 2 ^ 32 < entries → room_of pairs ≡ None
 too_long pairs entries few is long = no_room pairs (subst (λ e. 2 ^ 32 < e) (sym (entries_are pairs entries few is)) long)
 

@@ -1,4 +1,4 @@
--- The state of a machine within the copy of the root after an answer: each one goes on as the
+-- The state of a machine within the copy of the root after an answer: each one continues as the
 -- machine within it does.
 use Rattle.std.proofs.Common.{◌≡◌, ℕ, refl}
 use Rattle.papaya_words.specs.declared.resize_mode.ResizeMode.{ResizeMode}
@@ -35,7 +35,7 @@ use Rattle.papaya_call.specs.declared.chain.ask.Answer.{Answer}
 use Rattle.papaya_call.specs.declared.chain.ask.Answer.TheVariants as answers
 use Rattle.papaya_call.specs.ChainMachine.{copying_after, link_after}
 
--- a carry, after an answer
+-- the move of a pair, after an answer
 abbrev pub carry_called : Carry → ResizeMode → Call_answer → Carried
 carry_called carry mode (Word_read word) = carry_specs.at_word carry mode word
 carry_called carry mode Exchanged = carry_specs.at_exchanged carry
@@ -86,7 +86,7 @@ step_after step mode initial number (answers.Call answer) = step_called step mod
 step_after step mode initial number (answers.Hash hash) = stepped.On (step_specs.at_hash step hash)
 step_after step mode initial number (answers.Count count) = step_specs.at_count step mode count initial
 
--- what leads the machine within leads the one around it
+-- an outer machine continues as the machine within it does
 module _ (mode : ResizeMode) (initial : ℕ) where
   pub carry_links : (hash : ℕ) (link : Link) (answer : Answer)
       → carry_after (carries.Linking hash link) mode initial answer ≡ carried_on hash (link_after link mode initial answer)

@@ -61,12 +61,12 @@ aims_one (aims.Settle slot) n n' a b = sym a ∙ b
 aims_one aims.Chunk n n' a b = absurd a
 aims_one (aims.All met) n n' a b = absurd a
 
--- what is known of a call that copies a chunk: for which table it does, or that it copies all
+-- the facts about a call that copies: it copies a chunk for a table, or it copies all
 abbrev pub IsFor : Machine → Aim → Type 0
 IsFor m aim = (IsIncremental m.call.mode × ((n : ℕ) × AimsAt aim n × ((t : ℕ) × (left_by m.call.state ≡ Some t) × (t < n))))
     ⊎ ((m.call.mode ≡ Blocking) × ((met : ℕ) × (aim ≡ aims.All met)))
 
--- what is known of the words where a copy stands
+-- the facts about the words in each state of a copy
 abbrev pub IsKnown : ResizeMode → (At → ℕ) → Copying → Type 0
 IsKnown how words (copyings.Stepping aim steps.AtRoot) = 0 < words words_at.Root
 IsKnown how words (copyings.Stepping aim (steps.Promoting from to)) = (n : ℕ) → AimsAt aim n → to ≤ n
@@ -82,7 +82,7 @@ module _ (words words' : At → ℕ) (bare : IsBare words) (bare' : IsBare words
   abbrev pub IsBehind : (At → ℕ) → Type 0
   IsBehind now = (t : ℕ) → IsIncremental mode → left_by m.call.state ≡ Some t → now words_at.Root ≤ t
 
-  -- where a chunk goes on, and by how much less is left
+  -- a chunk continues, and less is left
   led_lowers : (aim : Aim) (step : Step) → IsBehind words' → (end : Stepped) → Continues end → IsSpent before later
       ⊎ ((later ≡ before) × (left_of_copied (leads aim mode end) < left_of_step step)) → IsCopiedRead mode words' (leads aim mode end)
       → Lowers words words' before later m (rank 1 0 (left_of_step step)) (after_copied m (leads aim mode end))
@@ -160,14 +160,15 @@ module _ (words words' : At → ℕ) (bare : IsBare words) (bare' : IsBare words
       (loned_lowers inc slot settle (omega (arith, same, least)) end
       (subst (λ y. IsSpent before later ⊎ ((later ≡ before) × (left_of_copied y < left_of_settle settle))) led f) (subst (IsCopiedRead mode words') led e.1))
 
-  -- a chunk is over, without blocking: the call goes on in the next table, or copies its slot first
+  -- a chunk is over, without blocking: the call continues in the next table, or copies its slot
+  -- first
   over_current : IsIncremental mode → (aim : Aim) (n : ℕ) → AimsAt aim n → words' words_at.Root ≤ n → IsCallRead words' (after_copied m (over aim))
   over_current inc (aims.Search t) n is least = enters_current words' m inc t (omega (arith, is, least))
   over_current inc (aims.Settle slot) n is least = (any_alive mode words' mode slot.to inc, omega (arith, is, least))
   over_current inc aims.Chunk n is least = absurd is
   over_current inc (aims.All met) n is least = absurd is
 
-  -- either way what was read stands there when a chunk is over
+  -- either way the words that were read are unchanged when a chunk is over
   overs_current : (aim : Aim) → IsFor m aim → ((n : ℕ) → AimsAt aim n → words' words_at.Root ≤ n) → IsCallRead words' (after_copied m (over aim))
   overs_current aim (inl (inc, (n, is, t))) least = over_current inc aim n is (least n is)
   overs_current aim (inr (blocks, (met, is))) least = subst (λ a. IsCallRead words' (after_copied m (over a))) (sym is)
@@ -179,7 +180,7 @@ module _ (words words' : At → ℕ) (bare : IsBare words) (bare' : IsBare words
       omega (arith, l, same, up, q)
   aim_least aim (inr (blocks, (met, e))) left same n is = absurd (subst (λ a. AimsAt a n) e is)
 
-  -- the chunk was copied, and its word says so
+  -- the chunk was copied, and its word was set to state that
   advancing_lowers : (aim : Aim) (cursor : Cursor) (answer : Answer) → IsBehind words
       → IsCopyingRead mode words (copyings.Stepping aim (steps.Advancing cursor)) → IsCopyPrompt words (step_ask (steps.Advancing cursor)) answer words'
       → SpendsCopy (step_ask (steps.Advancing cursor)) answer before later
@@ -288,7 +289,7 @@ module _ (words words' : At → ℕ) (bare : IsBare words) (bare' : IsBare words
       (λ none. let z : root ≡ 0 = eqb-true root 0 none in absurd (omega (arith, z, some)))
       (λ _. (inr (kept, omega arith), ((aim_read words' m inc aim, is), left))))
 
-  -- and for all of the root, if it is the one that was met
+  -- and for all of the root, if it is the root that was met
   met_lowers : mode ≡ Blocking → (met root : ℕ) → words' words_at.Root ≡ root → IsSame words words' → words words_at.Root ≡ root → later ≡ before → (b : Bool)
       → Lowers words words' before later m (cond b (rank 1 0 (2 * 2 ^ 102)) (rank 3 0 0))
       (after_copied m (cond b (copied.On (copyings.Stepping (aims.All root) (steps.Aiming root root))) (copied.Root root)))

@@ -49,13 +49,13 @@ link_most (links.Making behind len limit chunks) = omega arith
 link_most (links.Linking behind table chunks) = omega arith
 
 module _ (words words' : At → ℕ) (before later : Budget) (m : Machine) where
-  -- the budget is spent, or less is left; and what was read stands there still
+  -- the budget is spent, or less is left; and the words that were read are unchanged
   abbrev pub Lowers : ℕ → Machine → Type 0
   Lowers most m' = (IsSpent before later ⊎ ((later ≡ before) × (rank_of (words' words_at.Root) m' < most))) × IsCallRead words' m'
 
   module _ (inc : IsIncremental m.call.mode) (link : Link) (left : (t : ℕ) → left_by m.call.state ≡ Some t → words' words_at.Root ≤ t)
       (behind : left_by m.call.state ≡ Some (follows link)) where
-    -- where the making of a table led
+    -- the state after the making of a table
     linked_lowers : (end : Linked) → IsSpent before later ⊎ ((later ≡ before) × (left_of_linked end < left_of_link link)) → IsLinkedRead words' end
         → ((table : ℕ) → end ≡ linked.Table table → follows link < table) → Lowers (rank 1 0 (left_of_link link)) (after_linked m end)
     linked_lowers (linked.On link') nears read
@@ -132,12 +132,12 @@ step_puts (steps.Settling chunk settle) h e = settle_puts settle (slot_of chunk)
 step_puts (steps.Advancing cursor) h e = h
 step_puts (steps.Promoting from to) h e = h
 
--- the table behind has a next one, where none is made
+-- the table behind has a next one, if none is made
 abbrev pub HasNext : ResizeMode → (At → ℕ) → Step → Type 0
 HasNext (Incremental chunk) words (steps.Aiming from behind) = 0 < words (words_at.Next behind)
 HasNext _ words _ = Unit {0}
 
--- each answer leads on, until it is over
+-- after each answer the making of a table continues, until it is over
 linked_goes : (from : ℕ) (end : Linked) → Continues (linked_to from end)
 linked_goes from (linked.On link) = tt
 linked_goes from (linked.Table table) = tt
@@ -194,7 +194,7 @@ aimed_goes Blocking words from behind some =
     cond_both (words (words_at.Next behind) == 0) (stepped.On (steps.Linking from (links.Sizing behind from (not (behind == from)))))
     (stepped.On (steps.Judging from (words (words_at.Next behind)))) Continues (λ _. tt) (λ _. tt)
 
--- so a chunk goes on until it is over
+-- so a chunk continues until it is over
 pub step_goes : (mode : ResizeMode) (initial number : ℕ) (words words' : At → ℕ) (step : Step) (answer : Answer) → IsMidway step
     → HasNext mode words step → IsCopyPrompt words (step_ask step) answer words' → Continues (step_after step mode initial number answer)
 step_goes mode initial number words words' steps.AtRoot answer h next told = absurd h

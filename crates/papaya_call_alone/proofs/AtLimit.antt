@@ -62,7 +62,7 @@ use Rattle.papaya_call_law.proofs.Makings.{IsMakeAsk, make_asks, pair_holds, pai
 use Rattle.papaya_call_law.proofs.Names.{call_asks}
 use Rattle.papaya_call_alone.specs.Limits.{HasNumber, IsPartAsk, IsMakingPart, IsNumberTaken, IsPairMade, IsTakeAsk}
 
--- the number of a call that makes a pair in this stage
+-- the state of the number for a call that makes a pair, in this state
 abbrev NumberIs : Number → Made → State → Type 0
 NumberIs number made (Writing write) = (serves made write ≡ None) × (made.number ≡ number)
 NumberIs number made (Pairing purpose) = made.number ≡ number
@@ -73,7 +73,7 @@ number_of number made (Writing write) h = h.1
 number_of number made (Pairing purpose) h = h
 number_of number made stage h = absurd h
 
--- by what it asks
+-- the same, by the call's ask
 abbrev NumberFor : Call_ask → Made → State → Type 0
 NumberFor (Load Made_word) made stage = NumberIs Wanted made stage
 NumberFor (Exchange Made_word old new) made stage = NumberIs (Free old) made stage × (new ≡ old + 1)
@@ -83,7 +83,7 @@ NumberFor MakePair made stage = NumberIs Taken made stage
 NumberFor (MakePairOf n) made stage = NumberIs Taken made stage
 NumberFor ask made stage = Unit {0}
 
--- where it has a number it asks that something is logged
+-- if it has a number, it asks to store something in the arena
 module _ (Holds : Call_ask → Type 0) (key : Holds MakeKey) (value : Holds MakeValue) (pair : Holds MakePair) (pair_of : (n : ℕ) → Holds (MakePairOf n)) where
   make_holds : (made : Made) (old : ℕ) → Holds (make_ask made old)
   make_holds made old =
@@ -114,7 +114,7 @@ stage_for made hash (Searching (Comparing at word)) = tt
 stage_for made hash stage = tt
 
 module _ (made : Made) (most count : ℕ) (limit : made.limit ≡ Some most) (wants : made.number ≡ Wanted) where
-  -- what it is told of the numbers
+  -- the answers about the numbers
   told_wanted : told made count ≡ told_limit made (Some most) count
   told_wanted = ap (λ number. told_as made number count) wants ∙ ap (λ l. told_limit made l count) limit
 
@@ -125,11 +125,11 @@ module _ (made : Made) (most count : ℕ) (limit : made.limit ≡ Some most) (wa
   told_free free = told_wanted ∙ cond-true (nat_lt count most) (Some (record made { number = Free count })) None (lt-ltb count most free)
 
 module _ (call : Call_machine) where
-  -- the ask after this answer, in a stage of the call
+  -- the ask after this answer, in a state of the call
   abbrev next_ask : State → Call_answer → Call_ask
   next_ask stage told = call_machine.ask_of (call_machine.after (record call { state = stage }) told)
 
-  -- how many numbers were taken leads it on
+  -- the answer with the number of pairs made determines the next state
   module _ (count : ℕ) (next : Option Made) (is : told call.made count ≡ next) where
     told_asks : (stage : State) → NumberIs Wanted call.made stage
         → next_ask stage (Word_read count) ≡ asks (number_told next call.made) call.hash (numbered next stage)
@@ -139,14 +139,14 @@ module _ (call : Call_machine) where
     told_asks (Pairing purpose) h = ap (λ t. asks (number_told t call.made) call.hash (numbered t (Pairing purpose))) is
     told_asks stage h = absurd h
 
-  -- the number that is free is taken next
+  -- it takes the free number next
   free_asks : (count : ℕ) (stage : State) → NumberIs Wanted call.made stage
       → asks (record call.made { number = Free count }) call.hash stage ≡ Exchange Made_word count (count + 1)
   free_asks count (Writing write) h = ap (λ o. served_ask o write (record call.made { number = Free count })) h.0
   free_asks count (Pairing purpose) h = refl
   free_asks count stage h = absurd h
 
-  -- and then something is logged
+  -- and then it stores something in the arena
   taken_asks : (old : ℕ) (stage : State) → NumberIs (Free old) call.made stage → IsPartAsk (next_ask stage Exchanged)
   taken_asks old (Writing write) h =
       let next : Made = record call.made { number = Taken } in
@@ -168,21 +168,21 @@ module _ (call : Call_machine) where
   takes_kind old stage h = absurd h
 
 module _ (m : Machine) (ask : Call_ask) (asking : ask_of m ≡ asked.Call ask) where
-  -- it asks for itself
+  -- the machine is in phase `Calling`
   calls : m.phase ≡ Calling
   calls = (call_asks m ask asking).0
 
   number_is : NumberFor ask m.call.made m.call.state
   number_is = subst (λ a. NumberFor a m.call.made m.call.state) (call_asks m ask asking).1 (stage_for m.call.made m.call.hash m.call.state)
 
-  -- where the call itself goes on
+  -- if the call itself continues
   stepped_asks : (told : Call_answer) → called m told ≡ stepped m told → ask_of (after m (answers.Call told)) ≡ asked.Call (next_ask m.call m.call.state told)
   stepped_asks told is =
       ap (λ phase. ask_of (after_in m (answers.Call told) phase)) calls
       ∙ ap ask_of is
       ∙ ap (asks_in (call_machine.after m.call told)) calls
 
--- a call that makes a pair goes on by itself
+-- a call that makes a pair continues in phase `Calling`
 pairing_steps : (m : Machine) (number : Number) (count : ℕ) (stage : State) → NumberIs number m.call.made stage
     → told_next m stage count ≡ stepped m (Word_read count)
 pairing_steps m number count (Writing write) h = refl
@@ -190,7 +190,7 @@ pairing_steps m number count (Pairing purpose) h = refl
 pairing_steps m number count stage h = absurd h
 
 module _ (m : Machine) (most count : ℕ) (limit : m.call.made.limit ≡ Some most) (asking : ask_of m ≡ asked.Call (Load Made_word)) where
-  -- it is told how many numbers were taken
+  -- it asks how many numbers were taken
   wants : NumberIs Wanted m.call.made m.call.state
   wants = number_is m (Load Made_word) asking
 
@@ -199,7 +199,7 @@ module _ (m : Machine) (most count : ℕ) (limit : m.call.made.limit ≡ Some mo
   word_asks next is = stepped_asks m (Load Made_word) asking (Word_read count) (pairing_steps m Wanted count m.call.state wants)
       ∙ ap asked.Call (told_asks m.call count next is m.call.state wants)
 
-  -- at the limit it ends refused
+  -- at the limit it fails with `Refused::Limit`
   pub limit_full : most ≤ count → ask_of (after m (answers.Call (Word_read count))) ≡ asked.Call (Ask_done (Reply_refused Limit))
   limit_full full = word_asks None (told_full m.call.made most count limit (number_of Wanted m.call.made m.call.state wants) full)
 
@@ -222,11 +222,11 @@ module _ (m : Machine) (old new : ℕ) (asking : ask_of m ≡ asked.Call (Exchan
     ap (kind_in m.call) (calls m (Exchange Made_word old new) asking) ∙ takes_kind m.call old m.call.state takes.0,
   )
 
-  -- and it goes on
+  -- and it continues
   pub limit_goes_on : IsMakingPart (ask_of (after m (answers.Call Exchanged)))
   limit_goes_on = subst IsMakingPart (sym (stepped_asks m (Exchange Made_word old new) asking Exchanged refl)) (taken_asks m.call old m.call.state takes.0)
 
--- what is logged has a number
+-- a part of a pair that is stored in the arena has a number
 log_number : (ask : Call_ask) (made : Made) (stage : State) → IsPartAsk ask → NumberFor ask made stage → made.number ≡ Taken
 log_number MakeKey made stage logs h = number_of Taken made stage h
 log_number MakeValue made stage logs h = number_of Taken made stage h
@@ -243,7 +243,7 @@ limit_logs m logs = in_phase m.phase logs
     in_phase (Copying_root copying) h = absurd h
 
 module _ (made : Made) (most : ℕ) (limit : made.limit ≡ Some most) where
-  -- no number comes of what is told of them
+  -- the answer with how many numbers were taken gives no number
   limit_number : (count : ℕ) (l : Option ℕ) → l ≡ Some most → (number_told (told_limit made l count) made).number ≡ Taken → made.number ≡ Taken
   limit_number count None e h = absurd cc
   limit_number count (Some n) e h = cond_both (nat_lt count n) (Some (record made { number = Free count })) None
@@ -261,7 +261,7 @@ module _ (made : Made) (most : ℕ) (limit : made.limit ≡ Some most) where
   take_number old (Free count) is h = inl tt
   take_number old Taken is h = inr is
 
-  -- and a pair that is logged needs one more
+  -- and each pair that is stored in the arena needs one more
   log_keeps : (old : ℕ) (number : Number) → made.number ≡ number → (made_to_pair (grown_as number made old)).number ≡ Taken → made.number ≡ Taken
   log_keeps old Wanted is h = h
   log_keeps old (Free count) is h = h
@@ -281,7 +281,7 @@ written_number write n (On made) = refl
 written_number write n (Pair made) = cond_both (write.old == 0) (record made { own = Some n }) (record made { of = Some (made_of write n) })
     (λ (y : Made). y.number ≡ made.number) (λ _. refl) (λ _. refl)
 
--- and so does what a closure answered
+-- and so does a closure's result
 answered_number : (kind : OpKind) (made : Made) → (answered kind made).number ≡ made.number
 answered_number op_kinds.Insert made = refl
 answered_number op_kinds.Remove made = refl
@@ -292,7 +292,7 @@ decided_number Compute kind made = answered_number kind made
 decided_number task kind made = refl
 
 module _ (call : Call_machine) (most : ℕ) (limit : call.made.limit ≡ Some most) where
-  -- a number was taken, or there was one, and no pair was logged
+  -- a number was taken, or there was one, and no pair was stored in the arena
   abbrev Numbered : Call_ask → Call_answer → Type 0
   Numbered ask told = IsNumberTaken (asked.Call ask) (answers.Call told)
       ⊎ ((call.made.number ≡ Taken) × (IsPairMade (asked.Call ask) (answers.Call told) → ⊥))
@@ -337,7 +337,7 @@ module _ (call : Call_machine) (most : ℕ) (limit : call.made.limit ≡ Some mo
   made_number n (Searching (Comparing at word)) h = (h, λ pair. pair)
   made_number n stage h = (h, λ pair. pair)
 
-  -- by each answer
+  -- for each answer
   answer_number : (told : Call_answer) → (call_machine.after call told).made.number ≡ Taken → Numbered (call_machine.ask_of call) told
   answer_number (Word_read count) h = inr (word_number count call.state h, λ pair. pair)
   answer_number Exchanged h = exchanges (exchanged_number call.state h)
@@ -354,7 +354,7 @@ module _ (call : Call_machine) (most : ℕ) (limit : call.made.limit ≡ Some mo
   answer_number (Was_refused refused) h = inr (h, λ pair. pair)
 
 module _ (m : Machine) where
-  -- a call that goes on behind its table, or copies, has made as much as before
+  -- a call that continues behind its table, or copies, has made as much as before
   goes_made : (helped : Bool) (aim : Aim) (next : ℕ) → (goes_on m helped aim next).call.made ≡ m.call.made
   goes_made false aim next = refl
   goes_made true (aims.Search t) next = refl
@@ -414,7 +414,7 @@ module _ (m : Machine) where
     called_number Ok_done h = answer_number m.call most limit Ok_done h
     called_number (Was_refused refused) h = answer_number m.call most limit (Was_refused refused) h
 
-    -- of the machine
+    -- for the whole machine
     phase_number : (answer : Answer) (phase : Phase) → HasNumber (after_in m answer phase) → IsNumberTaken (asks_in m.call phase) answer
         ⊎ (HasNumber m × (IsPairMade (asks_in m.call phase) answer → ⊥))
     phase_number (answers.Call told) Calling h = called_number told h

@@ -1,4 +1,4 @@
--- A call that asks for itself, with no other caller beside it, comes nearer its end.
+-- A call in phase `Calling`, with no other caller beside it, comes nearer its end.
 use Rattle.std.proofs.Common.{◌≡◌, ◌⊎◌, inl, inr, ⊎_elim, ℕ, ◌+◌, ◌^◌, ◌<◌, ◌≤◌, ◌==◌, Bool, Option, Some, cond, refl, sym, ◌∙◌, subst, arith}
 use Rattle.std.proofs.lemmas.Bool.{cond_both}
 use Rattle.papaya_call.specs.declared.ask.At.{At}
@@ -54,7 +54,7 @@ module _ (words words' : At → ℕ) (bare : IsBare words) (before later : Budge
   abbrev in_stage : Stage → Machine
   in_stage stage = record { call = record call { state = stage }; number = start; helped = helped; phase = Calling }
 
-  -- the budget is spent, or less is left; and what was read stands there still
+  -- the budget is spent, or less is left; and the words that were read are unchanged
   abbrev pub Lowered : Stage → Machine → Type 0
   Lowered stage m' = (IsSpent before later ⊎ ((later ≡ before) × (rank_of (words' words_at.Root) m' < rank_in call.made stage))) × IsCallRead words' m'
 
@@ -71,7 +71,7 @@ module _ (words words' : At → ℕ) (bare : IsBare words) (before later : Budge
       (number : IsNumberAsked words (asks call.made call.hash stage)) (told : Answer)
       (prompt : IsPrompt call.task words (asks call.made call.hash stage) told words')
       (spends : SpendsCall (kind_asked call.made stage) (asks call.made call.hash stage) told before later) where
-    -- the call goes on for itself
+    -- the call continues in phase `Calling`
     steps_on : Lowered stage (stepped (in_stage stage) told)
     steps_on =
         let m : Call_machine = record call { state = stage } in
@@ -91,12 +91,12 @@ module _ (words words' : At → ℕ) (bare : IsBare words) (before later : Budge
           ),
         )
 
-    -- what the next table's number is
+    -- the number of the next table
     next_number : (t word : ℕ) → word ≡ words (words_at.Next t) → (words (words_at.Next t) ≡ 0)
         ⊎ ((t < words (words_at.Next t)) × (words (words_at.Next t) ≤ 2 ^ 32)) → (word ≡ 0) ⊎ ((t < word) × (word ≤ 2 ^ 32))
     next_number t word is h = subst (λ n. (n ≡ 0) ⊎ ((t < n) × (n ≤ 2 ^ 32))) (sym is) h
 
-    -- there is none, or the call goes on to it
+    -- there is no next table, or the call continues in it
     either : IsIncremental call.mode → (t : ℕ) → left_by stage ≡ Some t → words' words_at.Root ≤ t
         → rank 2 (further t) (2 ^ 68 + 3) ≤ rank_in call.made stage → later ≡ before → (word : ℕ) → (word ≡ 0) ⊎ ((t < word) × (word ≤ 2 ^ 32))
         → Lowered stage (stepped (in_stage stage) (Word_read word))
@@ -144,7 +144,7 @@ module _ (words words' : At → ℕ) (bare : IsBare words) (before later : Budge
       (inr (spends, f.0), f.1)
   called_lowers stage read ahead number (Word_read word) prompt spends = steps_on stage read ahead number (Word_read word) prompt spends
 
-  -- of the call
+  -- for the whole call
   pub call_lowers : IsRead words call.state → IsAheadIn call.mode words call.state → IsNumberAsked words (asks call.made call.hash call.state)
       → (told : Answer) → IsPrompt call.task words (asks call.made call.hash call.state) told words'
       → SpendsCall (kind_asked call.made call.state) (asks call.made call.hash call.state) told before later

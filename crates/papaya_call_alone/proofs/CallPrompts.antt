@@ -1,4 +1,4 @@
--- An answer to a call that is true of the law's words is what the words answer.
+-- An answer to a call that is true of the law's words is the one that the words determine.
 use Rattle.std.proofs.Common.{◌≡◌, ⊎_elim, ℕ, ◌==◌, ◌&&◌, Bool, true, false, Option, Some, None, List, [], ◌++◌, cond, refl, sym, ap, ◌∙◌, subst, eqb-true}
 use Rattle.papaya_words.specs.Word.{live_word, pair_of}
 use Rattle.papaya_call.specs.declared.ask.Ask.{Ask}
@@ -40,12 +40,12 @@ use Rattle.papaya_call_alone.proofs.CallRanks.{IsNumberAsked}
 use Rattle.papaya_call_alone.proofs.CopyPrompts.{by_each, number_there}
 
 module _ {K P : Type 0} (g : Setting K P) (c : Coding K P) (s : State P) (k : K) (loaded : LoadedPairs P) where
-  -- two words of the law that stand for one number, in one slot
+  -- two words of the law with the same number, put in the same slot
   put_alike : (v w old : Word P) (b : Bool) → code g c v ≡ code g c w → code g c (cond b v old) ≡ code g c (cond b w old)
   put_alike v w old true e = e
   put_alike v w old false e = refl
 
-  -- pairs that the call made are named by one word
+  -- pairs that the call made are represented by one word
   own_alike : (new : ℕ) (p q : P) → IsOwnWord c loaded new p → IsOwnWord c loaded new q → code g c (Live p) ≡ code g c (Live q)
   own_alike new p q a b =
       let number : c.number p ≡ c.number q = a.named ∙ sym b.named in
@@ -60,7 +60,7 @@ module _ {K P : Type 0} (g : Setting K P) (c : Coding K P) (s : State P) (k : K)
   slots_alike t x v w e words_at.Made = refl
   slots_alike t x v w e (words_at.Slot u y) = put_alike v w (s.slot u y) ((u == t) && (y == x)) e
 
-  -- exchanges of which one is asked leave the same words
+  -- two exchanges that satisfy the same ask leave the same words
   asked_alike : (kind : Option StepKind) (at : At) (new : ℕ) (e e' : Exchange P) → IsAsked g c k kind at new s loaded e
       → IsAsked g c k kind at new s loaded e' → (a : At) → word_of g c (after s e) a ≡ word_of g c (after s e') a
   asked_alike (Some kinds.Open) words_at.Root new e e' h i a = ap (λ y. word_of g c (after s y) a) (h ∙ sym i)
@@ -80,16 +80,16 @@ module _ {K P : Type 0} (g : Setting K P) (c : Coding K P) (hashed : IsHashed g 
   abbrev now : State P
   now = run (begun ++ since) start
 
-  -- the state keeps the map
+  -- the state preserves the map
   keeps : IsKeeping g now (map_left g (begun ++ since))
   keeps = keeping g hashed.lawful (begun ++ since) may
 
   module _ (bounded : IsBounded g now) (m : Machine) (loaded : LoadedPairs P) (r : Relies g c begun since k m loaded) where
-    -- where nothing was exchanged
+    -- if nothing was exchanged
     same_none : (es : List (Exchange P)) → es ≡ [] → IsSame (word_of g c now) (word_of g c (run es now))
     same_none es none at = ap (λ l. word_of g c (run l now) at) none
 
-    -- a pair whose key is compared is the one last told of
+    -- a pair whose key is compared is the one last passed to the machine
     compared_in : (made : Made) (stage : Stage) → ReliesStage g c begun since k loaded m.task stage → (n : ℕ) → asks made m.hash stage ≡ SameKey n
         → (p : P) × (loaded.last ≡ Some p) × (c.number p ≡ n)
     compared_in made AtRoot x n e = absurd cc
@@ -137,11 +137,11 @@ module _ {K P : Type 0} (g : Setting K P) (c : Coding K P) (hashed : IsHashed g 
     number_in (AddToShard by) named = tt
     number_in (Ask_done reply) named = tt
 
-    -- what a call asks to load is a number
+    -- the word that a call asks to load holds a number
     pub asked_number : IsNumberAsked (word_of g c now) (ask_of m)
     asked_number = number_in (ask_of m) (ask_named g c hashed begun since may k loaded m.task m.hash m.made m.state r.stage)
 
-    -- a told answer is prompt
+    -- an answer is prompt
     prompt_of : (ask : Ask) → ask_of m ≡ ask → (answer : Answer) (es : List (Exchange P)) (loaded' : LoadedPairs P) → IsServed m.task ask answer
         → IsTrueOf g c k now (kind_of_ask m) loaded ask answer es loaded' → IsPrompt m.task (word_of g c now) ask answer (word_of g c (run es now))
     prompt_of (Load at) is answer es loaded' served told = (told.0, same_none es told.1)
@@ -172,7 +172,7 @@ module _ {K P : Type 0} (g : Setting K P) (c : Coding K P) (hashed : IsHashed g 
     prompt_of (AddToShard by) is answer es loaded' served told = (told.0, same_none es told.1.0)
     prompt_of (Ask_done reply) is answer es loaded' served told = absurd served
 
-    -- of the call
+    -- for the whole call
     pub call_prompt : (answer : Answer) (es : List (Exchange P)) (loaded' : LoadedPairs P) → IsServed m.task (ask_of m) answer
         → IsTrueOf g c k now (kind_of_ask m) loaded (ask_of m) answer es loaded' → IsPrompt m.task (word_of g c now) (ask_of m) answer (word_of g c (run es now))
     call_prompt answer es loaded' served told = prompt_of (ask_of m) refl answer es loaded' served told

@@ -1,4 +1,4 @@
--- How much is left to a call, in a table that it has come to, after each answer.
+-- How much is left to a call, in a table that it has reached, after each answer.
 use Rattle.std.proofs.Common.{◌≡◌, ◌⊎◌, inl, inr, ⊎_elim, ℕ, ◌+◌, ◌*◌, ◌-◌, ◌^◌, ◌<◌, ◌≤◌, ◌==◌}
 use Rattle.std.proofs.Common.{nat_lt, ltb-true, Bool, true, false, Option, Some, None, refl, sym}
 use Rattle.std.proofs.Common.{ap, ◌∙◌, subst, arith}
@@ -63,14 +63,14 @@ use Rattle.papaya_call_alone.specs.Rank.{hops_of, left_of_search, rank, rank_in,
 use Rattle.papaya_call_alone.proofs.Calm.{pairing_nearer, writing_nearer}
 use Rattle.papaya_call.specs.Write.{claimed_by, served_ask, serves}
 
--- what a search saw, with as much as may come of it
+-- the outcome of a probe, with an upper bound of the steps that follow it
 abbrev rank_of_seen : ProbeStep → ℕ
 rank_of_seen (seen.On search) = rank 2 (further (table_of search)) (left_of_search search)
 rank_of_seen (seen.Empty at) = rank 2 (further at.table) (2 ^ 68 + 16)
 rank_of_seen (seen.Here at word) = rank 2 (further at.table) (2 ^ 68 + 16)
 rank_of_seen (seen.Over t) = rank 2 (further t) (2 ^ 68 + 16)
 
--- the table of a search, and of what it saw
+-- the table of a search, by the outcome of its probe
 abbrev seen_in : ProbeStep → ℕ
 seen_in (seen.On search) = table_of search
 seen_in (seen.Empty at) = at.table
@@ -81,7 +81,7 @@ seen_in (seen.Over t) = t
 abbrev SeesIn : ℕ → ℕ → ProbeStep → Type 0
 SeesIn most t s = (rank_of_seen s ≤ most) × (seen_in s ≡ t)
 
--- a search goes on one place nearer its limit
+-- a search that continues is one place nearer its limit
 go_on_sees : (at : Place) → SeesIn (rank 2 (further at.table) (2 ^ 68 + 3 * (at.limit - at.probe.len) + 16)) at.table (go_on at)
 go_on_sees at =
     cond_both (nat_lt at.probe.len at.limit) (seen.On (Looking (next_place at))) (seen.Over at.table)
@@ -89,7 +89,7 @@ go_on_sees at =
     (λ more. let l : at.probe.len < at.limit = ltb-true at.probe.len at.limit more in (omega arith, refl))
     (λ _. (omega arith, refl))
 
--- a hint spares the word, or the word is loaded next
+-- a hint makes the load of the word unnecessary, or the word is loaded next
 hinted_sees : (at : Place) (hash hint : ℕ) → SeesIn (rank 2 (further at.table) (2 ^ 68 + 3 * (at.limit - at.probe.len) + 18)) at.table (hinted at hash hint)
 hinted_sees at hash hint =
     cond_both (may_hold hint hash) (seen.On (Reading at)) (go_on at)
@@ -97,7 +97,7 @@ hinted_sees at hash hint =
     (λ _. (omega arith, refl))
     (λ _. let f = go_on_sees at in let l = f.0 in (omega (arith, l), f.1))
 
--- what the word at a place tells
+-- the outcome by the word at a place
 look_sees : (kind : Kind) (at : Place) (word : ℕ)
     → SeesIn (rank 2 (further at.table) (2 ^ 68 + 3 * (at.limit - at.probe.len) + 17)) at.table (look_at kind at word)
 look_sees word_kinds.Empty at word = (omega arith, refl)
@@ -116,7 +116,7 @@ match_sees word_kinds.Copied at word = (omega arith, refl)
 match_sees word_kinds.Buried at word = (omega arith, refl)
 match_sees word_kinds.Closed at word = (omega arith, refl)
 
--- and one that was compared
+-- and so does one that was compared
 compared_sees : (at : Place) (word : ℕ) (same : Bool)
     → SeesIn (rank 2 (further at.table) (2 ^ 68 + 3 * (at.limit - at.probe.len) + 16)) at.table (search_compared (Comparing at word) same)
 compared_sees at word true = let f = match_sees (kind_of word) at word in let l = f.0 in (omega (arith, l), f.1)
@@ -146,7 +146,7 @@ write_most made write = by_served (serves made write)
     by_served None = omega (arith, pair_most made write.old)
     by_served (Some n) = omega arith
 
--- what is asked for a load is a number
+-- the result of the load that is asked for is a number
 abbrev pub IsNumberAsked : (At → ℕ) → Ask → Type 0
 IsNumberAsked words (Load at) = IsNumber words at
 IsNumberAsked words _ = Unit {0}
@@ -161,7 +161,7 @@ module _ (made : Made) (how : ResizeMode) (words : At → ℕ) where
   abbrev pub Leads : ℕ → State → Type 0
   Leads most s = (rank_in made s ≤ most) × IsAheadIn how words s
 
-  -- the same, of more
+  -- the same, for a greater bound
   more : (a b : ℕ) (s : State) → a ≤ b → Leads a s → Leads b s
   more a b s le f = let l = f.0 in (omega (arith, le, l), f.1)
 
@@ -183,7 +183,7 @@ module _ (made : Made) (how : ResizeMode) (words : At → ℕ) where
   removes_leads word_kinds.Buried at word h = (omega arith, h)
   removes_leads word_kinds.Closed at word h = (omega arith, h)
 
-  -- what is remembered of a pair is done, or its closure is shown it
+  -- the remembered result for a pair is executed, or the closure is called with the pair
   recalls_leads : (choice : Option Choice) (at : Place) (word n : ℕ) → Leads (rank 2 0 0) (recalls choice at word n)
   recalls_leads None at word n = (omega arith, tt)
   recalls_leads (Some (choices.Replace old new)) at word n =
@@ -197,7 +197,7 @@ module _ (made : Made) (how : ResizeMode) (words : At → ℕ) where
       let removal : Removal = record { place = at; word = word } in
       cond_both (old == n) (Burying removal) (Showing removal) (Leads (rank 2 0 0)) (λ _. (omega arith, tt)) (λ _. (omega arith, tt))
 
-  -- or shown to a closure
+  -- or a closure is called with it
   computes_leads : (kind : Kind) (held : Remembered) (at : Place) (word : ℕ) → IsAhead how words at.table
       → Leads (rank 2 (further at.table) (2 ^ 68 + 3)) (computes kind held at word)
   computes_leads word_kinds.Empty held at word h = (omega arith, h)
@@ -208,7 +208,7 @@ module _ (made : Made) (how : ResizeMode) (words : At → ℕ) where
   computes_leads word_kinds.Buried held at word h = (omega arith, h)
   computes_leads word_kinds.Closed held at word h = (omega arith, h)
 
-  -- a pair that was made goes where its key is absent
+  -- a pair that was made is put where its key is absent
   fills_leads : (gap : Gap) (n : ℕ) → IsGapAhead how words gap → Leads (rank 2 (hops_of gap) (2 ^ 68 + 3)) (fills gap n)
   fills_leads gaps.NoRoot n h = (omega arith, tt)
   fills_leads (gaps.At at) n h = (omega arith, tt)
@@ -234,7 +234,7 @@ module _ (made : Made) (words : At → ℕ) where
       (absent_leads made Blocking words task fill (gaps.After t) h)
 
 module _ (made : Made) (how : ResizeMode) (words : At → ℕ) where
-  -- where a search leads, no more is left than it saw
+  -- the state after a search has no more left than the search
   goes_leads : (task : Task) (held : Remembered) (s : ProbeStep) → IsAhead how words (seen_in s) → Leads made how words (rank_of_seen s) (goes_as task how held s)
   goes_leads task held (seen.On search) h = (omega arith, h)
   goes_leads Get held (seen.Here at word) h = (omega arith, tt)
@@ -256,7 +256,7 @@ module _ (made : Made) (how : ResizeMode) (words : At → ℕ) where
   goes_leads RemoveIf held (seen.Over t) h = passes_leads made words how RemoveIf held.fill t h
   goes_leads Compute held (seen.Over t) h = passes_leads made words how Compute held.fill t h
 
-  -- the root is where a call begins
+  -- a call begins at the root
   at_root_ahead : (how : ResizeMode) (t : ℕ) → words Root ≡ t → IsAhead how words t
   at_root_ahead (Incremental chunk) t is = omega (arith, is)
   at_root_ahead Blocking t is = is
@@ -274,7 +274,7 @@ module _ (made : Made) (how : ResizeMode) (words : At → ℕ) where
       (λ _. more made how words (rank 2 (2 ^ 32) (2 ^ 68 + 10)) _ (lacks fill gaps.NoRoot) (omega arith)
       (lacks_leads made how words fill gaps.NoRoot tt)) (λ _. (omega arith, at_root_ahead how word is))
 
-  -- the closure of a removal answered
+  -- the closure of a removal returned
   agreed_leads : (removal : Removal) (agrees : Bool) → Leads made how words (rank 1 0 8) (agreed removal agrees)
   agreed_leads removal true = (omega arith, tt)
   agreed_leads removal false = (omega arith, tt)
@@ -284,7 +284,7 @@ module _ (made : Made) (how : ResizeMode) (words : At → ℕ) where
   written_leads write n = cond_both (write.old == 0) (Counting (claimed_by write n)) (Ended (Replaced (pair_of write.old) n))
       (Leads made how words (rank 1 0 0)) (λ _. (omega arith, tt)) (λ _. (omega arith, tt))
 
-  -- what its closure answered leads on
+  -- the closure of a compute returned
   offered_leads : (gap : Gap) (kind : OpKind) → IsGapAhead how words gap
       → Leads (answered kind made) how words (rank 2 (hops_of gap) (2 ^ 68 + 9)) (offered gap kind)
   offered_leads gap op_kinds.Insert h = (omega (arith, pair_most (answered op_kinds.Insert made) 0), h)
@@ -302,7 +302,7 @@ some_less made (purposes.Fill gap) = omega arith
 some_less made (purposes.Replace write) = omega arith
 some_less made (purposes.Again write) = omega arith
 
--- the pair that a compute made leads on
+-- the pair that a compute made is used
 provides_leads : (made' made : Made) (how : ResizeMode) (words : At → ℕ) (purpose : Purpose) (n : ℕ) → IsPurposeAhead how words purpose
     → (rank_in made' (provides purpose n) < rank_to_serve made purpose) × IsAheadIn how words (provides purpose n)
 provides_leads made' made how words (purposes.Fill gap) n h = let f = fills_leads made' how words gap n h in let l = f.0 in (omega (arith, l), f.1)
@@ -316,7 +316,7 @@ module _ (words words' : At → ℕ) (m : Machine) where
       let m' : Machine = after (record m { made = made; state = s }) answer in
       (IsOpening s ⊎ (rank_in m'.made m'.state < rank_in made s)) × IsAheadIn m.mode words' m'.state
 
-  -- the root stays, and so does what is ahead of it
+  -- the root stays, and so does each table ahead of it
   pub still_ahead : (how : ResizeMode) (t : ℕ) → words' Root ≡ words Root → IsAhead how words t → IsAhead how words' t
   still_ahead (Incremental chunk) t same h = omega (arith, same, h)
   still_ahead Blocking t same h = same ∙ h
@@ -331,7 +331,7 @@ module _ (words words' : At → ℕ) (m : Machine) where
   still_purpose (purposes.Replace write) same h = tt
   still_purpose (purposes.Again write) same h = tt
 
-  -- what was to be made was made, or refused
+  -- the part that was to be made was made, or making it failed
   making_ends : (made : Made) (s : State) (answer : Answer) → IsMaking answer → ((n : ℕ) → Ends made s (Made_number n))
       → ((refused : Refused) → Ends made s (Was_refused refused)) → Ends made s answer
   making_ends made s answer told by_made by_refused =
@@ -340,13 +340,13 @@ module _ (words words' : At → ℕ) (m : Machine) where
       (λ (h : (refused : Refused) × (answer ≡ Was_refused refused)). subst (Ends made s) (sym h.1) (by_refused h.0))
       told
 
-  -- a search learns the size of its table
+  -- a search receives the size of its table
   size_ends : (made : Made) (t : ℕ) (answer : Answer) → (slots : ℕ) × (limit : ℕ) × IsSize slots limit × (answer ≡ Size slots limit)
       → IsAhead m.mode words' t → Ends made (Searching (Sizing t)) answer
   size_ends made t answer (slots, limit, size, e) h = let few : limit < 2 ^ 32 = size.few in
       subst (Ends made (Searching (Sizing t))) (sym e) (inr (omega arith), h)
 
-  -- where fewer steps are left to a call that makes a pair, less is left by its rank
+  -- if a call that makes a pair has fewer steps left, its rank is lower
   abbrev Follows : Made → State → State → Type 0
   Follows made s next = (made' : Made) → left_in made' next < left_in made s → (rank_in made' next < rank_in made s) × IsAheadIn m.mode words' next
 
@@ -409,7 +409,7 @@ module _ (words words' : At → ℕ) (m : Machine) where
       stays_less made' (purposes.Replace write) less = omega (arith, less)
       stays_less made' (purposes.Again write) less = omega (arith, less)
 
-  -- a closure was shown a pair
+  -- a closure was called with a pair
   showing_ends : (made : Made) (removal : Removal) (answer : Answer) → IsClosureAnswer m.task answer → Ends made (Showing removal) answer
   showing_ends made removal answer told =
       by_saying (λ task said. let m' : Machine = after (record m { task = task; made = made; state = Showing removal }) said in
@@ -496,7 +496,7 @@ module _ (words words' : At → ℕ) (m : Machine) where
   ends_in made (Growing need) answer known read h number told = subst (Ends made (Growing need)) (sym told.0) (inr (omega arith), tt)
   ends_in made (Ended reply) answer known read h number told = absurd told
 
-  -- of the machine
+  -- for the whole machine
   pub call_ends : (answer : Answer) → IsNumberRead words m.made.number → IsRead words m.state → IsAheadIn m.mode words m.state
       → IsNumberAsked words (ask_of m) → IsPrompt m.task words (ask_of m) answer words' → Ends m.made m.state answer
   call_ends answer known read h number told = ends_in m.made m.state answer known read h number told

@@ -65,7 +65,7 @@ module _ (words words' : At → ℕ) where
   calm_put : (at : At) (new : ℕ) → IsShown at → IsPut words at new words' → IsPut (calm words) at new (calm words')
   calm_put at new h put = record { here = shown words' at h ∙ put.here; others = calm_others at put.others }
 
-  -- what is answered is prompt for those words too
+  -- an answer is prompt for those words too
   module _ (task : Task) (answer : Answer) where
     abbrev IsCalm : Ask → Type 0
     IsCalm ask = IsPrompt task words ask answer words' → IsPrompt task (calm words) ask answer (calm words')
@@ -91,7 +91,7 @@ module _ (words words' : At → ℕ) where
     abbrev Nears : State → Type 0
     Nears state = let m' : Machine = after (record m { made = made; state = state }) answer in left m' < left_in made state
 
-    -- what was read stands there
+    -- the words that were read are unchanged
     number_calm : (number : Number) → IsNumberRead words number → IsNumberRead (calm words) number
     number_calm Wanted read = read
     number_calm (Free count) read = read

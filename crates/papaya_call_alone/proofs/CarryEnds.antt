@@ -1,4 +1,4 @@
--- How much is left to the carry of a pair after each answer.
+-- How much is left to the move of a pair after each answer.
 use Rattle.std.proofs.Common.{◌≡◌, ◌⊎◌, inl, inr, ℕ, ◌+◌, ◌*◌, ◌-◌, ◌^◌, ◌<◌, ◌≤◌, ◌==◌, nat_lt}
 use Rattle.std.proofs.Common.{ltb-true, Bool, true, false, refl, sym, ap, ◌∙◌, subst, arith}
 use Rattle.std.proofs.Common.{eqb-true}
@@ -67,13 +67,13 @@ carry_puts (carries.Linking hash link) word other h e = link_puts link other (no
 carry_puts (carries.Aborting table) word other h e = subst IsOfRoot e h
 
 module _ (mode : ResizeMode) (words words' : At → ℕ) (slot : SlotToCopy) (word : ℕ) where
-  -- the marked word stands in its slot still, and its target was not given up
+  -- the slot still holds the marked word, and its target was not given up
   pub still_alive : (how : ResizeMode) → IsAlive how words slot.to → words' (words_at.Aborted slot.to) ≡ words (words_at.Aborted slot.to)
       → IsAlive how words' slot.to
   still_alive (Incremental chunk) alive same = tt
   still_alive Blocking alive same = same ∙ alive
 
-  -- where neither was exchanged
+  -- if neither was exchanged
   still : IsCarrying mode words slot word → words' (words_at.Aborted slot.to) ≡ words (words_at.Aborted slot.to)
       → word_in mode words' slot ≡ word_in mode words slot → IsCarrying mode words' slot word
   still h same there = record { alive = still_alive mode h.alive same; stands = there ∙ h.stands; marked = h.marked }
@@ -82,7 +82,7 @@ module _ (mode : ResizeMode) (words words' : At → ℕ) (slot : SlotToCopy) (wo
   same_still h same = still h (same (words_at.Aborted slot.to)) (same (words_at.Slot slot.from slot.index))
 
 module _ (mode : ResizeMode) (words : At → ℕ) (bare : IsBare words) (slot : SlotToCopy) (word : ℕ) (h : IsCarrying mode words slot word) where
-  -- no more is left than this, and what was read stands there
+  -- no more is left than this, and the words that were read are unchanged
   abbrev Within : ℕ → Carried → Type 0
   Within most end = (left_of_carried end ≤ most) × IsCarriedRead mode words slot word end
 
@@ -101,7 +101,7 @@ module _ (mode : ResizeMode) (words : At → ℕ) (bare : IsBare words) (slot : 
       (λ more. let l : at.probe.len < at.limit = ltb-true at.probe.len at.limit more in (omega arith, (h, here)))
       (λ over. let f = filled mode hash at.table here h.alive in let l = f.0 in (omega (arith, l), (h, f.1)))
 
-  -- a hint spares the word, or the word is loaded next
+  -- a hint makes the load of the word unnecessary, or the word is loaded next
   hinted_within : (hash : ℕ) (at : Place) (hint : ℕ) → IsAtTarget mode slot at.table
       → Within (further at.table * 2 ^ 34 + 3 * (at.limit - at.probe.len) + 8) (hinted hash at mode hint)
   hinted_within hash at hint here =
@@ -110,7 +110,7 @@ module _ (mode : ResizeMode) (words : At → ℕ) (bare : IsBare words) (slot : 
       (λ same. (omega arith, (h, here)))
       (λ other. let f = goes_within hash at here in let l = f.0 in (omega (arith, l), f.1))
 
-  -- what the word at a place tells
+  -- the outcome by the word at a place
   look_within : (kind : Kind) (hash : ℕ) (at : Place) (found : ℕ) → words (words_at.Slot at.table at.probe.i) ≡ found
       → (kind ≡ word_kinds.Empty → found ≡ 0) → IsAtTarget mode slot at.table
       → Within (further at.table * 2 ^ 34 + 3 * (at.limit - at.probe.len) + 7) (look_at kind hash at mode found)
@@ -132,7 +132,7 @@ module _ (mode : ResizeMode) (words : At → ℕ) (bare : IsBare words) (slot : 
   any_target (Incremental chunk) t inc = tt
   any_target Blocking t inc = absurd inc
 
-  -- the making of a table leads on
+  -- the move continues after the making of a table
   linked_within : (hash : ℕ) (l : Linked) → IsIncremental mode → IsLinkedRead words l → Within (left_of_linked l) (carried_on hash l)
   linked_within hash (linked.On link) inc read = (omega arith, (h, (inc, read)))
   linked_within hash (linked.Table table) inc read = (omega arith, (h, any_target mode table inc))

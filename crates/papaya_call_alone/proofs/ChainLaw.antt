@@ -47,7 +47,7 @@ use Rattle.papaya_call_alone.proofs.CopyPrompts.{words_bare}
 use Rattle.papaya_call_alone.proofs.MachineLaw.{aside_counts, phase_falls}
 use Rattle.papaya_call_alone.proofs.Measures.{measure_less, rank_small}
 
--- each answer spends of some budget
+-- the budgets from which the answers spend
 abbrev a_table : Budget
 a_table = record { tables = 1; exchanges = 0 }
 
@@ -72,7 +72,7 @@ some_copy (copy_asks.MakeTable slots limit chunks) (answers.Call (Made_number n)
 some_copy (copy_asks.Exchange at old new) (answers.Call Exchanged) = (an_exchange, nothing_left, (refl, omega arith))
 some_copy ask answer = (nothing_left, nothing_left, refl)
 
--- of some budget each answer spends
+-- each answer spends from some budget
 pub some_budget : (kind : Option StepKind) (ask : Ask) (answer : Answer) → (before : Budget) × (later : Budget) × Spends kind ask answer before later
 some_budget kind (asks.Call ask) (answers.Call told) = some_call kind ask told
 some_budget kind (asks.Call ask) (answers.Hash hash) = (nothing_left, nothing_left, refl)
@@ -100,7 +100,7 @@ module _ {K P : Type 0} (g : Setting K P) (c : Coding K P) (hashed : IsHashed g 
   abbrev words' : At → ℕ
   words' = word_of g c (run es (run (begun ++ since) start))
 
-  -- the budget is spent, or less is left; and what was read stands there still
+  -- the budget is spent, or less is left; and the words that were read are unchanged
   falls : (before later : Budget) → Spends (kind_of_ask m) (ask_of m) answer before later
       → (IsSpent before later ⊎ ((later ≡ before)
       × (rank_of (run (begun ++ (since ++ es)) start).root (after m answer) < rank_of (run (begun ++ since) start).root m)))
@@ -111,7 +111,7 @@ module _ {K P : Type 0} (g : Setting K P) (c : Coding K P) (hashed : IsHashed g 
       (phase_falls g c hashed begun since may k bounded loaded m.number m.helped m.call r.call r.cut answer es loaded' before later m.phase made
       r.phase current.number current.read told served spends)
 
-  -- a call that is set aside knows as much of the numbers as before
+  -- a call that is set aside has read as much of the numbers as before
   aside_number : (t : ℕ) → left_by m.call.state ≡ Some t → (call : Call_machine) → (after m answer).call ≡ call → call.made ≡ m.call.made
       → IsNumberRead words' (after m answer).call.made.number
   aside_number t left call is same =
@@ -125,7 +125,7 @@ module _ {K P : Type 0} (g : Setting K P) (c : Coding K P) (hashed : IsHashed g 
       by_number (Free count) counts read = counts ∙ read
       by_number Taken counts read = tt
 
-  -- and so does one that goes on by itself
+  -- and so has a call that continues in phase `Calling`
   own_number : (own : IsOwnStep m answer) → IsNumberRead words' (after m answer).call.made.number
   own_number own =
       let (call', tells) = own_told g c k (run (begun ++ since) start) m loaded answer es loaded' order told own in
@@ -155,7 +155,7 @@ module _ {K P : Type 0} (g : Setting K P) (c : Coding K P) (hashed : IsHashed g 
       measure_less before later (rank_of (run (begun ++ since) start).root m) (rank_of (run (begun ++ (since ++ es)) start).root (after m answer)) few
       (omega (arith, small)) (falls before later spends).0
 
-  -- what was read stands there still
+  -- the words that were read are unchanged
   pub call_current : IsCurrent (word_of g c (run (begun ++ (since ++ es)) start)) (after m answer)
   call_current =
       let (before, later, spends) = some_budget (kind_of_ask m) (ask_of m) answer in

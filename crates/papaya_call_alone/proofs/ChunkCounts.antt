@@ -54,7 +54,7 @@ use Rattle.papaya_call_alone.proofs.CopyLaw.{prompt}
 use Rattle.papaya_call_alone.proofs.SettleEnds.{settle_puts}
 use Rattle.papaya_call_alone.proofs.Telling.{stays_at}
 
--- without blocking copies go from a root behind it at once
+-- without blocking, the table behind a copy's target is the root
 behind_root : {K P : Type 0} (g : Setting K P) (c : Coding K P) (s : State P) (last kept : Option P) (slots t behind : ℕ)
     → IsModeOf (Incremental slots) g.blocking → ReliesStep g c s last kept (steps.Aiming t behind) → behind ≡ t
 behind_root g c s last kept slots t behind moded r = ⊎_elim (λ (e : behind ≡ t). e) (λ h. let b = h.0 in absurd (cc (b, moded))) r.given_up
@@ -83,7 +83,7 @@ due_most words to zero = omega arith
 due_most words to (suc n) = let h = due_most words to n in
     cond_both (words (words_at.Done to n) == 0) (due_of words to n + 1) (due_of words to n) (λ y. y ≤ suc n) (λ _. omega (arith, h)) (λ _. omega (arith, h))
 
--- where a chunk's word is 0, some are
+-- if a chunk's word is 0, some are due
 due_some : (words : At → ℕ) (to at : ℕ) → words (words_at.Done to at) ≡ 0 → (chunks : ℕ) → at < chunks → 0 < due_of words to chunks
 due_some words to at none zero lt = absurd (omega (arith, lt))
 due_some words to at none (suc n) lt =
@@ -107,7 +107,7 @@ module _ (words words' : At → ℕ) (to : ℕ) (still : (chunk : ℕ) → words
   due_falls (suc n) = due_step (words (words_at.Done to n) == 0) (words' (words_at.Done to n) == 0) (due_of words to n) (due_of words' to n)
       (zero_before n) (due_falls n)
 
-  -- and fewer, where a word is 0 no more
+  -- and fewer, if a word is no longer 0
   pub due_less : (at : ℕ) → words (words_at.Done to at) ≡ 0 → words' (words_at.Done to at) ≡ 1 → (chunks : ℕ) → at < chunks
       → due_of words' to chunks < due_of words to chunks
   due_less at none one zero lt = absurd (omega (arith, lt))
@@ -130,13 +130,13 @@ module _ {K P : Type 0} (g : Setting K P) (c : Coding K P) (s : State P) (last k
   abbrev chunks : ℕ
   chunks = chunks_of (g.size from) slots
 
-  -- where a step leads, the resize being one that is pending
+  -- the state after a step, during a pending resize
   abbrev WillBe : Stepped → Type 0
   WillBe end = WillCopyIn words' from to chunks due (copied Chunk began (leads aims.Chunk (Incremental slots) end))
 
   module _ (d : IsDue words from to chunks due) (rises : from < to) (next : words' (words_at.Next from) ≡ to)
       (still : (chunk : ℕ) → words' (words_at.Done to chunk) ≡ 0 → words (words_at.Done to chunk) ≡ 0) where
-    -- it is pending still while the root is in its place
+    -- the resize is still pending while the root is in its place
     still_due : words' words_at.Root ≡ words words_at.Root → IsDue words' from to chunks due
     still_due root = record {
       pending = record { root = root ∙ d.pending.root; next = next; some = d.pending.some; more = d.pending.more };
@@ -148,7 +148,7 @@ module _ {K P : Type 0} (g : Setting K P) (c : Coding K P) (s : State P) (last k
     still_fewer true less = let f = due_falls words words' to still chunks in omega (arith, less, f)
     still_fewer false h = tt
 
-    -- the chunk at which a cursor stands is one of the table's
+    -- the chunk that a cursor is at is one of the table's
     at_counted : (cursor : Cursor) → IsCursor g c s cursor → words words_at.Root ≡ cursor.from → cursor.at < chunks
     at_counted cursor r root =
         let is : g.chunk_of cursor.begun ≡ cursor.at = r.cut cursor.begun ∙ ap (chunk_of cursor.slots) r.begun ∙ chunk_first cursor.slots r.some cursor.at in
@@ -206,7 +206,7 @@ module _ {K P : Type 0} (g : Setting K P) (c : Coding K P) (s : State P) (last k
         (λ f. inr (fewer_left cursor lt (is ∙ eqb-true done 0 (not-false (done == 0) e)) root cursor.copied f fewer))
         (λ _. (still_due root, goes)))
 
-    -- the copy of a slot leads on in the chunk
+    -- the copy of a slot continues in the chunk
     settled_leads : (chunk : Slots) → chunk.cursor.to ≡ to → words' words_at.Root ≡ words words_at.Root → (end : Settled) → WillBe (settled_to chunk end)
     settled_leads chunk goes root (settled.On settle) = (still_due root, goes)
     settled_leads chunk goes root settled.Settled =
@@ -297,7 +297,7 @@ chunks_rounded len slots full some =
     let same : len - 1 + slots ≡ len + (slots - 1) = omega (arith, full, some) in
     ap (λ n. (len - 1) / n + 1) most ∙ sym (add-div_right (len - 1) some) ∙ ap (λ n. n / slots) same
 
--- so many copies leave so many chunks fewer
+-- after `copies` copies at least that many chunks fewer are left
 left_falls : (left : ℕ → ℕ) (copies : ℕ) → AllFallShort left copies → left copies + copies ≤ left 0
 left_falls left zero all = omega arith
 left_falls left (suc n) all =
@@ -315,7 +315,7 @@ copies_fewer left (suc n) some all =
     let same : left (n + 1) ≡ left (suc n) = ap left (omega arith) in
     omega (arith, low, last, same)
 
--- also where the words tell which chunks are left
+-- also if the words determine which chunks are left
 pub copies_leave : (words : ℕ → At → ℕ) (from to chunks copies : ℕ) → 0 < chunks → AllLeaveRoot words from to chunks copies → copies < chunks
 copies_leave words from to chunks zero some all = some
 copies_leave words from to chunks (suc n) some all =

@@ -32,7 +32,7 @@ use Rattle.papaya_call_alone.proofs.StepEnds.{step_ends}
 use Rattle.papaya_call_alone.proofs.Telling.{Nears, nearer}
 
 module _ (mode : ResizeMode) (words : At → ℕ) where
-  -- no more is left than this, and what was read stands there
+  -- no more is left than this, and the words that were read are unchanged
   abbrev Within : ℕ → Copied → Type 0
   Within most end = (left_of_copied end ≤ most) × IsCopiedRead mode words end
 
@@ -80,7 +80,7 @@ module _ (mode : ResizeMode) (words : At → ℕ) where
       (λ e. (omega arith, (tt, is)))
       (λ e. (omega arith, tt))
 
-  -- the root is told
+  -- the number of the root was read
   root_within : (how : ResizeMode) (aim : Aim) (root : ℕ) → IsAimRead mode words aim → words words_at.Root ≡ root
       → Within (2 ^ 102 + 6 + 2 * 2 ^ 32) (at_root aim how root)
   root_within how (aims.Search table) root read is = one_within (aims.Search table) root read is (last_within (aims.Search table) root read)
@@ -91,7 +91,7 @@ module _ (mode : ResizeMode) (words : At → ℕ) where
       (λ e. (omega arith, tt))
       (λ e. all_within how met root is)
 
-  -- the copy of a chunk leads on
+  -- the copy of a chunk continues
   leads_within : (aim : Aim) (end : Stepped) → IsAimRead mode words aim → IsSteppedRead mode words end → Within (left_of_stepped end) (leads aim mode end)
   leads_within aim (stepped.On step) read there = (omega arith, (read, there))
   leads_within aim (stepped.Root root) read there = root_within mode aim root read there

@@ -26,7 +26,7 @@ module _ {K P : Type 0} (g : Setting K P) (c : Coding K P) (hashed : IsHashed g 
     (r : ReliesCopying g c s loaded.call.last loaded.kept copying) (made : HasWords g (link_in_copying copying))
     (read : IsCopyingRead mode (word_of g c s) copying) (answer : Answer) (es : List (Exchange P)) (loaded' : LoadedPairs P)
     (told : IsTrueOfCopy g c s (copying_kind copying) (copying_follows copying) loaded (copying_ask copying) answer es loaded') where
-  -- what is told of the words is what they answer
+  -- an answer about the words is the one that they determine
   pub prompt : IsCopyPrompt (word_of g c s) (copying_ask copying) answer (word_of g c (run es s))
   prompt =
       told_prompt g c hashed s m keeps bounded loaded (copying_kind copying) (copying_follows copying) (copying_ask copying)
@@ -40,6 +40,6 @@ module _ {K P : Type 0} (g : Setting K P) (c : Coding K P) (hashed : IsHashed g 
       copy_spends (word_of g c s) (word_of g c (run es s)) before later (copying_ask copying) answer prompt spends _ _
       (copying_ends mode initial number (word_of g c s) (word_of g c (run es s)) (words_bare g c (run es s)) copying answer read prompt).0
 
-  -- what was read stands there still
+  -- the words that were read are unchanged
   pub copy_current : IsCopiedRead mode (word_of g c (run es s)) (copying_after copying mode initial number answer)
   copy_current = (copying_ends mode initial number (word_of g c s) (word_of g c (run es s)) (words_bare g c (run es s)) copying answer read prompt).1

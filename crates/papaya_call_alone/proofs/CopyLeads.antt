@@ -1,5 +1,5 @@
--- The states of a copy of all: it goes on copying all, until its root is no longer the root, or has
--- no next table.
+-- The states of a copy of all: it continues to copy all, until its root is no longer the root, or
+-- has no next table.
 use Rattle.std.proofs.Common.{◌≡◌, cond, ℕ, ◌<◌, ◌==◌, ◌||◌, nat_lt, not, Bool, true, false, refl, sym, ap, ◌∙◌, subst, arith, eq-eqb, eqb-true}
 use Rattle.std.proofs.lemmas.Bool.{cond_both}
 use Rattle.papaya_words.specs.declared.resize_mode.ResizeMode.{ResizeMode}
@@ -37,7 +37,7 @@ use Rattle.papaya_call_alone.specs.Prompt.{IsCopyPrompt}
 use Rattle.papaya_call_alone.proofs.Afters.{copying_steps, settle_after, step_after, step_links, step_settles}
 use Rattle.papaya_call_alone.proofs.StepEnds.{step_ends}
 
--- without blocking copies go from a root behind it at once
+-- without blocking, the table behind a copy's target is the root
 abbrev pub IsLinedStep : ResizeMode → Step → Type 0
 IsLinedStep mode (steps.Aiming from behind) = IsIncremental mode → behind ≡ from
 IsLinedStep mode _ = Unit {0}
@@ -46,7 +46,7 @@ abbrev pub IsLined : ResizeMode → Copying → Type 0
 IsLined mode (copyings.Stepping aim step) = IsLinedStep mode step
 IsLined mode (copyings.Lone slot settle) = Unit {0}
 
--- the one or the other
+-- the sides of a disjunction that is false, and of one that is true
 pub or_false : (a b : Bool) → (a || b) ≡ false → b ≡ true → ⊥
 or_false true b e is = absurd cc
 or_false false b e is = cc (e, is)
@@ -91,7 +91,7 @@ module _ (words : At → ℕ) where
       (λ _. tt) (λ _. tt))
 
   module _ (mode : ResizeMode) (from : ℕ) (some : 0 < from) where
-    -- it copies all still, or its root is the root no more, or has no next table
+    -- it still copies all, or its root is no longer the root, or has no next table
     abbrev pub LeadsAll : Copied → Type 0
     LeadsAll (copied.On copying) = aim_of copying ≡ aims.All from
     LeadsAll (copied.Refused refused) = Unit {0}
@@ -145,7 +145,7 @@ module _ (mode : ResizeMode) (initial number : ℕ) (words words' : At → ℕ) 
       let done : (answer ≡ answers.Call Exchanged) × IsPut words words_at.Root to words' = exchange_done _ _ (words words_at.Root) from read told in
       subst (StepLast (steps.Promoting from to)) (sym done.0) tt
 
-  -- of a copy of all
+  -- for a copy of all
   pub copy_leads : (from : ℕ) (some : 0 < from) (copying : Copying) (answer : Answer) → aim_of copying ≡ aims.All from → IsLined mode copying
       → IsCopyingRead mode words copying → IsCopyPrompt words (copying_ask copying) answer words'
       → LeadsAll words' mode from some (copying_after copying mode initial number answer)

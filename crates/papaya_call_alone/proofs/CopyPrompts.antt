@@ -1,4 +1,4 @@
--- An answer to a copier that is true of the law's words is what the words answer.
+-- An answer to a copier that is true of the law's words is the one that the words determine.
 use Rattle.std.proofs.Common.{◌≡◌, inl, inr, ⊎_elim, ℕ, ◌<◌, ◌==◌, Bool, true, false, Option, List, [], refl, sym, ap, ◌∙◌, subst, arith, eqb-true}
 use Rattle.std.specs.Prelude.{MatchBool}
 use Rattle.papaya_words.specs.declared.refused.Refused.{Refused}
@@ -52,7 +52,7 @@ module _ {K P : Type 0} (g : Setting K P) (c : Coding K P) (hashed : IsHashed g 
   abbrev words : At → ℕ
   words = word_of g c s
 
-  -- where nothing was exchanged
+  -- if nothing was exchanged
   same_none : (es : List (Exchange P)) → es ≡ [] → IsSame words (word_of g c (run es s))
   same_none es none at = ap (λ l. word_of g c (run l s) at) none
 
@@ -71,12 +71,12 @@ module _ {K P : Type 0} (g : Setting K P) (c : Coding K P) (hashed : IsHashed g 
   number_there words_at.Made there = absurd there
 
   module _ (kind_asked : Option StepKind) (behind : ℕ) where
-    -- an exchange of it whose old word stands there is one of the law
+    -- an exchange of a word whose expected value is there is one of the law
     abbrev pub MayAsk : CopyAsk → Type 0
     MayAsk q = (at : At) (old new : ℕ) → q ≡ Ask_exchange at old new → word_of g c s at ≡ old → (e : Exchange P)
         × IsCopyAsked c kind_asked at new s loaded.kept e × Allows g s e × IsWritten g c s at new (after s e)
 
-    -- a told answer is prompt
+    -- an answer is prompt
     pub told_prompt : (q : CopyAsk) → AreThere g c s loaded.call.last loaded.kept q → MayAsk q
         → (answer : Answer) (es : List (Exchange P)) (loaded' : LoadedPairs P) → IsTrueOfCopy g c s kind_asked behind loaded q answer es loaded'
         → IsCopyPrompt words q answer (word_of g c (run es s))

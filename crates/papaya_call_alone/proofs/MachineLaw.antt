@@ -60,7 +60,7 @@ use Rattle.papaya_call_alone.proofs.Onwards.{AimsAt, aims_at}
 use Rattle.papaya_call_alone.proofs.Telling.{IsPutAt, stays_at}
 
 module _ {K P : Type 0} (g : Setting K P) (s : State P) (sound : IsSound g s) where
-  -- where a table is on the chain there is a root
+  -- if a table is on the chain there is a root
   pub root_on : (t : ℕ) → IsOn s.first s.next t → IsOn s.first s.next s.root
   root_on t (some, (k, is)) =
       ⊎_elim
@@ -114,7 +114,7 @@ module _ {K P : Type 0} (g : Setting K P) (c : Coding K P) (hashed : IsHashed g 
   abbrev words' : At → ℕ
   words' = word_of g c (run es now)
 
-  -- the state keeps the map
+  -- the state preserves the map
   keeps : IsKeeping g now (map_left g (begun ++ since))
   keeps = keeping g hashed.lawful (begun ++ since) may
 
@@ -126,15 +126,15 @@ module _ {K P : Type 0} (g : Setting K P) (c : Coding K P) (hashed : IsHashed g 
   abbrev at_phase : Phase → Machine
   at_phase phase = record { call = call; number = number; helped = helped; phase = phase }
 
-  -- the budget is spent, or less is left; and what was read stands there still
+  -- the budget is spent, or less is left; and the words that were read are unchanged
   abbrev pub Falls : Phase → Type 0
   Falls phase = Lowers words words' before later (at_phase phase) (rank_of_phase now.root call phase) (after (at_phase phase) answer)
 
-  -- a table that a call was set aside in is on the chain
+  -- the table in which a call was set aside is on the chain
   left_on : (t : ℕ) → left_by call.state ≡ Some t → IsOn now.first now.next t
   left_on t e = come_on g c hashed begun since may k t (left_come g c hashed begun since may k loaded.call call.task call.state r.stage t e)
 
-  -- it asks for itself
+  -- the machine is in phase `Calling`
   calling_falls : IsNumberRead words call.made.number → IsPhaseRead call.mode words call.state Calling
       → IsTrueOf g c k now (kind_of_ask (at_phase Calling)) (follows_of (at_phase Calling)) loaded (ask_of (at_phase Calling)) answer es loaded'
       → IsServedAsk call.task (ask_of (at_phase Calling)) answer
@@ -154,13 +154,13 @@ module _ {K P : Type 0} (g : Setting K P) (c : Coding K P) (hashed : IsHashed g 
   takes_none (Exchange at old new) there is = subst (IsThere g c now loaded.call.last loaded.kept) (sym is) there
   takes_none ask there is = is
 
-  -- its next table is made
+  -- it makes the next table
   module _ (link : Link) (made : HasWords g (Some link)) (at : IsLinking g c begun since k (at_phase (Linking link)) link)
       (told : IsTrueOfCopy g c now (link_kind link) (follows link) loaded (link_ask link) answer es loaded') where
     link_named : AreThere g c now loaded.call.last loaded.kept (link_ask link)
     link_named = link_there g c hashed now (map_left g (begun ++ since)) keeps loaded.call.last loaded.kept link at.relies
 
-    -- what is told of the words is what they answer
+    -- an answer about the words is the one that they determine
     link_prompt : IsCopyPrompt words (link_ask link) answer words'
     link_prompt = told_prompt g c hashed now (map_left g (begun ++ since)) keeps bounded loaded (link_kind link) (follows link) (link_ask link) link_named
         (link_may g c hashed now (map_left g (begun ++ since)) keeps loaded.call.last loaded.kept link at.relies made) answer es loaded' told
@@ -185,13 +185,13 @@ module _ {K P : Type 0} (g : Setting K P) (c : Coding K P) (hashed : IsHashed g 
         (λ (h : (0 < follows link) × (follows link < (run (begun ++ (since ++ es)) start).next (follows link))). let up = h.1 in omega (arith, up, next))
         (later_sound.rises (follows link)))
 
-  -- the root is copied
+  -- it copies the root
   module _ (copying : Copying) (relies : ReliesCopying g c now loaded.call.last loaded.kept copying) (made : HasWords g (link_in_copying copying))
       (told : IsTrueOfCopy g c now (copying_kind copying) (copying_follows copying) loaded (copying_ask copying) answer es loaded') where
     copy_named : AreThere g c now loaded.call.last loaded.kept (copying_ask copying)
     copy_named = copying_there g c hashed now (map_left g (begun ++ since)) keeps loaded.call.last loaded.kept copying relies
 
-    -- what is told of the words is what they answer
+    -- an answer about the words is the one that they determine
     copy_prompt : IsCopyPrompt words (copying_ask copying) answer words'
     copy_prompt =
         told_prompt g c hashed now (map_left g (begun ++ since)) keeps bounded loaded (copying_kind copying) (copying_follows copying)
@@ -202,7 +202,7 @@ module _ {K P : Type 0} (g : Setting K P) (c : Coding K P) (hashed : IsHashed g 
     copy_counts : words' words_at.Made ≡ words words_at.Made
     copy_counts = stays_at words words' answer (copying_ask copying) copy_prompt words_at.Made (takes_none (copying_ask copying) copy_named)
 
-    -- what is known of the words then
+    -- a fact about the words after that
     copying_falls : IsFor (at_phase (Copying_root copying)) (aim_of copying) → IsPhaseRead call.mode words call.state (Copying_root copying)
         → IsKnown call.mode words copying → SpendsCopy (copying_ask copying) answer before later → Falls (Copying_root copying)
     copying_falls which read known spends = copying_lowers words words' (words_bare g c now) (words_bare g c (run es now)) before later
@@ -216,7 +216,7 @@ module _ {K P : Type 0} (g : Setting K P) (c : Coding K P) (hashed : IsHashed g 
       (λ (b : g.blocking ≡ true). absurd (cc (b, inc)))
       target.mode
 
-  -- without blocking the root has a next table, no later than the one where the call goes on
+  -- without blocking the root has a next table, no later than the one where the call continues
   known_helping : (how : ResizeMode) → IsIncremental how → g.blocking ≡ false → (copying : Copying)
       → ReliesCopying g c now loaded.call.last loaded.kept copying → IsCopyingRead how words copying → IsAsideAhead how words call.state copying
       → (t : ℕ) → left_by call.state ≡ Some t → 0 < now.next t → AimsAt (aim_of copying) (now.next t)
@@ -283,7 +283,7 @@ module _ {K P : Type 0} (g : Setting K P) (c : Coding K P) (hashed : IsHashed g 
   phase_falls (Linking link) made at known read told served spends = linking_falls link made at told read spends
   phase_falls (Copying_root copying) made at known read told served spends = helping_falls copying made at read told spends
 
-  -- where the call is set aside, as many numbers are taken as before
+  -- if the call is set aside, as many numbers are taken as before
   pub aside_counts : (t : ℕ) → left_by call.state ≡ Some t → (phase : Phase) → HasWords g (link_in phase)
       → ReliesPhase g c begun since k (at_phase phase) loaded phase
       → IsTrueOf g c k now (kind_of_ask (at_phase phase)) (follows_of (at_phase phase)) loaded (ask_of (at_phase phase)) answer es loaded'

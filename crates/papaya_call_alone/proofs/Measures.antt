@@ -140,7 +140,7 @@ phase_small root m (Copying_root (copyings.Stepping aim (steps.Advancing cursor)
 phase_small root m (Copying_root (copyings.Stepping aim (steps.Promoting from to))) h h' = omega arith
 phase_small root m (Copying_root (copyings.Lone slot settle)) h h' = let s = settle_small settle h' in omega (arith, s)
 
--- a machine that stands within its tables has a small rank
+-- a valid machine has a small rank
 pub rank_small : (root : ℕ) (m : Machine) → IsValid m → rank_of root m < 2 ^ 190
 rank_small root m h = phase_small root m m.phase h.call.state h.phase
 

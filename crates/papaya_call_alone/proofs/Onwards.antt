@@ -1,4 +1,4 @@
--- How a call that was set aside goes on, with no other caller beside it.
+-- How a call that was set aside continues, with no other caller beside it.
 use Rattle.std.proofs.Common.{◌≡◌, ◌⊎◌, ⊎_elim, ℕ, ◌+◌, ◌*◌, ◌^◌, ◌<◌, ◌≤◌, ◌==◌, ◌||◌, Bool, true}
 use Rattle.std.proofs.Common.{false, Some, refl, sym, ap, ◌∙◌, subst, arith, eq-eqb, eqb-true}
 use Rattle.std.proofs.lemmas.Bool.{cond_both}
@@ -26,13 +26,13 @@ use Rattle.papaya_call_alone.specs.Rank.{rank, rank_at_root, rank_of}
 use Rattle.papaya_call_alone.proofs.CallRanks.{root_leads}
 use Rattle.papaya_call_alone.proofs.CopyEnds.{any_alive}
 
--- a call copies for the table where it goes on
+-- a call copies for the table where it continues
 abbrev pub AimsAt : Aim → ℕ → Type 0
 AimsAt (aims.Search t) n = t ≡ n
 AimsAt (aims.Settle slot) n = slot.to ≡ n
 AimsAt _ n = ⊥
 
--- what it copies for is the next table
+-- it copies for the next table
 pub aims_at : (state : State) (n : ℕ) → AimsAt (aim_for state n) n
 aims_at (Growing (Room t)) n = refl
 aims_at (Growing (Pair_at t x)) n = refl
@@ -54,14 +54,14 @@ module _ (words : At → ℕ) where
     pub enters_current : (n : ℕ) → words words_at.Root ≤ n → IsCallRead words (enters m n)
     enters_current n h = (tt, ahead_of m.call.mode n inc h)
 
-    -- what it copies for is of the mode
+    -- its aim is one of the mode
     pub aim_read : (aim : Aim) → IsAimRead m.call.mode words aim
     aim_read (aims.Search t) = tt
     aim_read (aims.Settle slot) = inc
     aim_read aims.Chunk = tt
     aim_read (aims.All met) = tt
 
-    -- it copies a chunk, or its slot, or goes on
+    -- it copies a chunk, or its slot, or continues
     goes_current : (helped : Bool) (aim : Aim) (n : ℕ) → AimsAt aim n → words words_at.Root ≤ n
         → ((t : ℕ) → left_by m.call.state ≡ Some t → words words_at.Root ≤ t) → IsCallRead words (goes_on m helped aim n)
     goes_current false aim n is h left = ((aim_read aim, tt), λ t how e. left t e)
@@ -70,7 +70,7 @@ module _ (words : At → ℕ) where
     goes_current true aims.Chunk n is h left = absurd is
     goes_current true (aims.All met) n is h left = absurd is
 
-    -- so it goes on
+    -- so it continues
     pub onward_current : (n : ℕ) → words words_at.Root ≤ n → ((t : ℕ) → left_by m.call.state ≡ Some t → words words_at.Root ≤ t) → IsCallRead words (onward m n)
     onward_current n h left = goes_current m.helped (aim_for m.call.state n) n (aims_at m.call.state n) h left
 
@@ -90,7 +90,7 @@ module _ (words : At → ℕ) where
     pub onward_rank : (n t : ℕ) → t < n → n ≤ 2 ^ 32 → rank_of (words words_at.Root) (onward m n) < rank 2 (further t) (2 ^ 68 + 3)
     onward_rank n t up most = goes_rank m.helped (aim_for m.call.state n) n t (aims_at m.call.state n) up most
 
-    -- a call that begins anew is at the root
+    -- a call that starts again is at the root
     pub anew_current : IsRead words (restarted m (words words_at.Root)).call.state → IsCallRead words (restarted m (words words_at.Root))
     anew_current read = (read, (root_leads m.call.made m.call.mode words m.call.task m.call.remembered.fill (words words_at.Root) refl).1)
 
@@ -99,7 +99,7 @@ module _ (words : At → ℕ) where
     anew_rank = let f = root_leads m.call.made m.call.mode words m.call.task m.call.remembered.fill (words words_at.Root) refl in let l = f.0 in
         omega (arith, l)
 
--- the next table is there: a call goes on to it, or copies first
+-- the next table is there: a call continues in it, or copies first
 pub goes_on_lowers : (words : At → ℕ) (m : Machine) → IsIncremental m.call.mode → (n t : ℕ) → words words_at.Root ≤ t
     → ((u : ℕ) → left_by m.call.state ≡ Some u → words words_at.Root ≤ u) → (n == 0) ≡ false → (n ≡ 0) ⊎ ((t < n) × (n ≤ 2 ^ 32))
     → (rank_of (words words_at.Root) (onward m n) < rank 2 (further t) (2 ^ 68 + 3)) × IsCallRead words (onward m n)
@@ -109,12 +109,12 @@ goes_on_lowers words m inc n t least left some number =
     (λ (up : (t < n) × (n ≤ 2 ^ 32)). let a = up.0 in (onward_rank words m n t up.0 up.1, onward_current words m inc n (omega (arith, a, least)) left))
     number
 
--- of two tests one that holds
+-- two tests, of which the second holds
 or_right : (a b : Bool) → b ≡ true → (a || b) ≡ true
 or_right true b e = refl
 or_right false b e = e
 
--- a copy of all of the root goes on
+-- a copy of all of the root continues
 pub all_rank : (root met : ℕ) → root ≡ met → rank_at_root root (aims.All met) < rank 2 0 0
 all_rank root met is =
     cond_both (met == 0 || met == root) (rank 1 0 (2 * 2 ^ 102)) (rank 3 0 0) (λ r. r < rank 2 0 0)
@@ -122,7 +122,8 @@ all_rank root met is =
     (λ e. absurd (let y : (met == 0 || met == root) ≡ true = or_right (met == 0) (met == root) (eq-eqb met root (sym is)) in cc (y, e)))
 
 module _ (words : At → ℕ) (m : Machine) where
-  -- the next table was looked up by a call that needs it: less is left, and what was read stands there
+  -- a call that needs the next table looked it up: less is left, and the words that were read are
+  -- unchanged
   pub grows_lowers : (how : ResizeMode) → m.call.mode ≡ how → (need : Need) (n : ℕ) → left_by m.call.state ≡ Some (needed need)
       → IsAhead how words (needed need) → words (words_at.Next (needed need)) ≡ n → (n ≡ 0) ⊎ ((needed need < n) × (n ≤ 2 ^ 32))
       → (rank_of (words words_at.Root) (grows_as m how need n) < rank 2 (further (needed need)) (2 ^ 68 + 3)) × IsCallRead words (grows_as m how need n)

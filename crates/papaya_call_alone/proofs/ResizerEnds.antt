@@ -1,4 +1,4 @@
--- When a call that resizes the map has ended, what it is for is done.
+-- When a call that resizes the map has ended, its purpose is fulfilled.
 use Rattle.std.proofs.Common.{◌≡◌, inl, inr, ⊎_elim, ℕ, ◌+◌, ◌<◌, ◌≤◌, ◌^◌, ◌==◌, nat_le, max, Bool}
 use Rattle.std.proofs.Common.{true, false, cond, Option, None, Some, List, [], ◌∷◌, refl, sym, ap}
 use Rattle.std.proofs.Common.{◌∙◌, subst, arith, eqb-true, leb-true}
@@ -44,7 +44,7 @@ use Rattle.papaya_call_alone.specs.Resizers.{HasResized, HasRoom, IsStageRead, I
 abbrev IsDone : Stage → Type 0
 IsDone stage = reply_in stage ≡ Some Reply_done
 
--- it does not where a table was made, or copied for all
+-- it does not when it makes a table, or copies more than a chunk
 makes_open : (room : Option TableSize) → IsDone (makes room) → ⊥
 makes_open None done = absurd cc
 makes_open (Some room) done = absurd cc
@@ -67,7 +67,7 @@ copied_open (Reserve more) other from (copied_to.Root table) done = absurd cc
 copied_open (Reserve more) other from copied_to.Chunk done = absurd cc
 copied_open (Reserve more) other from (copied_to.Refused refused) done = absurd cc
 
--- the size of a room is as many entries as are wanted, or more
+-- the size of a room is as many entries as are requested, or more
 room_long : (pairs : ℕ) (room : TableSize) → room_of pairs ≡ Some room → entries_of pairs ≤ room.len
 room_long pairs room is = by_length (nat_le (entries_of pairs) (2 ^ 32)) is
   where
@@ -85,12 +85,12 @@ module _ {K P : Type 0} (g : Setting K P) (c : Coding K P) (s : State P) (loaded
   abbrev later : At → ℕ
   later = word_of g c (run es s)
 
-  -- it is done, by what the answer is
+  -- it is done, by the kind of answer
   by_answer : (resize : Resize) (stage : Stage) (answer' : Answer) → answer ≡ answer' → IsDone (after_in resize mode initial number answer stage)
       → IsDone (after_in resize mode initial number answer' stage)
   by_answer resize stage answer' is done = subst (λ a. IsDone (after_in resize mode initial number a stage)) is done
 
-  -- where nothing was exchanged the words are the same
+  -- if nothing was exchanged the words are the same
   same_word : es ≡ [] → (at : At) → later at ≡ words at
   same_word none at = ap (λ l. word_of g c (run l s) at) none
 
@@ -190,7 +190,7 @@ module _ {K P : Type 0} (g : Setting K P) (c : Coding K P) (s : State P) (loaded
     reserve_ends Done r read told done = let asked = told.1 in absurd cc
     reserve_ends (Ended_refused refused) r read told done = let asked = told.1 in absurd cc
 
-  -- what was wanted is done
+  -- the request is fulfilled
   pub stage_ends : (resize : Resize) (stage : Stage) → ReliesStage g c s loaded stage → IsStageRead mode words resize stage
       → IsTrueOfStage g c s stage loaded answer es loaded' → IsDone (after_in resize mode initial number answer stage) → HasResized later g.size answer resize
   stage_ends Chunk stage r read told done = tt

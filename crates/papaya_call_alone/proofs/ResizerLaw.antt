@@ -70,7 +70,7 @@ use Rattle.papaya_call_alone.proofs.LinkEnds.{link_ends, link_puts}
 use Rattle.papaya_call_alone.proofs.Measures.{copying_small}
 use Rattle.papaya_call_alone.proofs.Telling.{IsSpending, spent_by, stays_at}
 
--- what is left to a copy of all that began at this root
+-- an upper bound of the steps of a copy of all that began at this root
 cond_less : (same : Bool) (a b : ℕ) → a < b → cond same a (a + 2 ^ 121) < cond same b (b + 2 ^ 121)
 cond_less true a b less = less
 cond_less false a b less = omega (arith, less)
@@ -109,7 +109,7 @@ stage_small root Done h = omega arith
 stage_small root (Ended_refused refused) h = omega arith
 
 module _ (root : ℕ) where
-  -- less is left where the root led
+  -- less is left after the root was read
   makes_less : (room : Option TableSize) → left_of_stage root (makes room) < 2 ^ 120 + 6
   makes_less None = omega arith
   makes_less (Some room) = omega arith
@@ -120,7 +120,7 @@ module _ (root : ℕ) where
   root_less at (Reserve more) = cond_both (at == 0) (makes (room_of more)) (Sizing at) (λ y. left_of_stage root y < 2 ^ 120 + 6)
       (λ _. makes_less (room_of more)) (λ _. omega arith)
 
-  -- and a count
+  -- and after a count
   judges_less : (at len : ℕ) (room : Option TableSize) → left_of_stage root (judges at len room) < 2 ^ 120 + 4
   judges_less at len None = omega arith
   judges_less at len (Some room) = cond_both (nat_le room.len len) Done (Looking at len (Some room)) (λ y. left_of_stage root y < 2 ^ 120 + 4)
@@ -131,7 +131,7 @@ module _ (root : ℕ) where
   count_less at len count CopyAll = omega arith
   count_less at len count (Reserve more) = judges_less at len (room_of (count + more))
 
-  -- and the next table
+  -- and after the next table was read
   last_less : (mode : ResizeMode) (at len : ℕ) (room : Option TableSize) → left_of_stage root (at_last mode at len room) < 2 ^ 120 + 3
   last_less mode at len None = omega arith
   last_less mode at len (Some room) = omega arith
@@ -142,13 +142,13 @@ module _ (root : ℕ) where
       (λ _. last_less mode at len room)
       (λ _. let s = from_same at root (2 * 2 ^ 102) same in omega (arith, s))
 
-  -- and the making of a table
+  -- and after the making of a table
   linked_less : (at left : ℕ) → left ≤ 5 → (end : Linked) → left_of_linked end < left → left_of_stage root (linked at end) < left
   linked_less at left few (linked_to.On link) less = less
   linked_less at left few (linked_to.Table table) less = absurd (omega (arith, few, less))
   linked_less at left few (linked_to.Refused refused) less = less
 
-  -- a copy may be over where it was one of a chunk, or where the root is another one
+  -- a copy may be over if it was one of a chunk, or if the root is another one
   abbrev MayBeOver : Resize → (from : ℕ) → Type 0
   MayBeOver resize from = (resize ≡ Chunk) ⊎ ((from ≡ 0 → ⊥) × (root ≡ from → ⊥))
 
@@ -164,7 +164,7 @@ module _ (root : ℕ) where
   MayEnd resize from (copied_to.Refused refused) = Unit {0}
   MayEnd resize from _ = MayBeOver resize from
 
-  -- and the copy
+  -- and after the copy
   copied_less : (resize : Resize) (from left : ℕ) (end : Copied) → left_of_copied end < left → MayEnd resize from end
       → left_of_stage root (copied resize from end) < left_of_from from root left
   copied_less resize from left (copied_to.On copying) less may = from_less from root (left_of_copying copying) left less
@@ -181,7 +181,7 @@ module _ (root : ℕ) where
   chunk_ends resize from copied_to.Chunk is = inl is
   chunk_ends resize from (copied_to.Refused refused) is = tt
 
-  -- and one of all, where its root is the root no more
+  -- and one of all, if its root is no longer the root
   all_ends : (words : At → ℕ) (mode : ResizeMode) (resize : Resize) (from : ℕ) (some : 0 < from) → words words_at.Root ≡ root
       → 0 < words (words_at.Next from) → (end : Copied) → LeadsAll words mode from some end → MayEnd resize from end
   all_ends words mode resize from some is next (copied_to.On copying) leads = tt
@@ -200,7 +200,7 @@ module _ (mode : ResizeMode) (words : At → ℕ) where
   begun_read CopyAll = tt
   begun_read (Reserve more) = tt
 
-  -- what was read stands there where the root led
+  -- the words that were read are unchanged after the root was read
   makes_read : (room : Option TableSize) → words words_at.Root ≡ 0 → (more : ℕ) → IsStageRead mode words (Reserve more) (makes room)
   makes_read None none more = tt
   makes_read (Some room) none more = none
@@ -215,7 +215,7 @@ module _ (mode : ResizeMode) (words : At → ℕ) where
       (λ none. makes_read (room_of more) (is ∙ eqb-true root 0 none) more)
       (λ some. ((is, more_than_none root some), tt))
 
-  -- and a count
+  -- and after a count
   judges_read : (root len : ℕ) → IsRoot words root → (room : Option TableSize) (more : ℕ) → IsStageRead mode words (Reserve more) (judges root len room)
   judges_read root len is None more = tt
   judges_read root len is (Some room) more = cond_both (nat_le room.len len) Done (Looking root len (Some room))
@@ -226,7 +226,7 @@ module _ (mode : ResizeMode) (words : At → ℕ) where
   count_read root len count is CopyAll = tt
   count_read root len count is (Reserve more) = judges_read root len is (room_of (count + more)) more
 
-  -- and the next table
+  -- and after the next table was read
   copies_read : (root : ℕ) → 0 < root → 0 < words (words_at.Next root) → (resize : Resize) → IsStageRead mode words resize (copies root)
   copies_read root some more resize = ((tt, tt), inr (record { some = some; aim = refl; next = more }))
 
@@ -242,7 +242,7 @@ module _ (mode : ResizeMode) (words : At → ℕ) where
       (λ none. last_read root len is (stands ∙ eqb-true next 0 none) resize room)
       (λ some. copies_read root is.1 (subst (λ n. 0 < n) (sym stands) (more_than_none next some)) resize)
 
-  -- and a copy
+  -- and after a copy
   over_read : (resize : Resize) → IsStageRead mode words resize (over resize)
   over_read Chunk = tt
   over_read CopyAll = tt
@@ -256,7 +256,7 @@ module _ (mode : ResizeMode) (words : At → ℕ) where
   copied_read resize from copied_to.Chunk read begun = over_read resize
   copied_read resize from (copied_to.Refused refused) read begun = tt
 
-  -- a copy of all goes on so
+  -- a copy of all continues as one
   still_all : (from : ℕ) (some : 0 < from) → 0 < words (words_at.Next from) → (resize : Resize) (end : Copied) → LeadsAll words mode from some end
       → (copying : Root_copying) → end ≡ copied_to.On copying → IsBegunFrom words resize from copying
   still_all from some more resize end leads copying is =
@@ -264,7 +264,7 @@ module _ (mode : ResizeMode) (words : At → ℕ) where
       inr (record { some = some; aim = aim; next = more })
 
 module _ {K P : Type 0} (g : Setting K P) (c : Coding K P) (s : State P) (kind : Option StepKind) (behind : ℕ) (loaded : LoadedPairs P) where
-  -- nothing was exchanged where nothing was spent
+  -- nothing was exchanged if nothing was spent
   told_none : (ask : CopyAsk) (answer : Answer) (es : List (Exchange P)) (loaded' : LoadedPairs P)
       → IsTrueOfCopy g c s kind behind loaded ask answer es loaded' → (IsSpending answer → ⊥) → es ≡ []
   told_none (Load at) answer es loaded' told spends = told.1
@@ -294,11 +294,11 @@ module _ {K P : Type 0} (g : Setting K P) (c : Coding K P) (hashed : IsHashed g 
   abbrev words_after : List (Exchange P) → At → ℕ
   words_after es = word_of g c (run es s)
 
-  -- where a stage goes, after this answer
+  -- the next state of the resizer, after this answer
   abbrev goes : Answer → Stage → Stage
   goes = after_in resize mode initial number
 
-  -- copies go from a root behind it at once
+  -- without blocking, the table behind a copy's target is the root
   aimed_lined : (from behind : ℕ) → IsAimed g c s from behind → (how : ResizeMode) → IsModeOf how g.blocking → IsIncremental how → behind ≡ from
   aimed_lined from behind r (Incremental chunk) is inc = ⊎_elim (λ (e : behind ≡ from). e) (λ h. let b = h.0 in absurd (cc (b, is))) r.given_up
   aimed_lined from behind r Blocking is inc = absurd inc
@@ -315,7 +315,7 @@ module _ {K P : Type 0} (g : Setting K P) (c : Coding K P) (hashed : IsHashed g 
   lined last kept (copyings.Stepping aim (steps.Promoting from to)) r = tt
   lined last kept (copyings.Lone slot settle) r = tt
 
-  -- what the words answer to the making of a table
+  -- the words determine the answer to the making of a table
   link_prompt : (link : Link) → ReliesStage g c s loaded (Linking link) → HasWords g (Some link)
       → (answer : Answer) (es : List (Exchange P)) (loaded' : LoadedPairs P)
       → IsTrueOfCopy g c s (link_kind link) (follows link) loaded (link_ask link) answer es loaded' → IsCopyPrompt words (link_ask link) answer (words_after es)
@@ -329,7 +329,7 @@ module _ {K P : Type 0} (g : Setting K P) (c : Coding K P) (hashed : IsHashed g 
     abbrev HasNeared : Stage → Answer → List (Exchange P) → Type 0
     HasNeared stage answer es = IsSpent before later ⊎ ((later ≡ before) × (left_of_stage (run es s).root (goes answer stage) < left_of_stage s.root stage))
 
-    -- where nothing was exchanged
+    -- if nothing was exchanged
     quiet_near : (stage : Stage) (answer answer' : Answer) (es : List (Exchange P)) → answer ≡ answer' → es ≡ [] → later ≡ before
         → left_of_stage s.root (goes answer' stage) < left_of_stage s.root stage → HasNeared stage answer es
     quiet_near stage answer answer' es a none same less =
@@ -339,7 +339,7 @@ module _ {K P : Type 0} (g : Setting K P) (c : Coding K P) (hashed : IsHashed g 
               (subst (λ y. left_of_stage s.root (goes y stage) < left_of_stage s.root stage) (sym a) less),
         )
 
-    -- what is spent, by what was asked and answered
+    -- whether it spends, by the ask and the answer
     spends_as : (ask ask' : CopyAsk) (answer answer' : Answer) → ask ≡ ask' → answer ≡ answer' → SpendsCopy ask answer before later
         → SpendsCopy ask' answer' before later
     spends_as ask ask' answer answer' q a spends = subst (λ y. SpendsCopy ask' y before later) a (subst (λ y. SpendsCopy y answer before later) q spends)
@@ -429,7 +429,7 @@ module _ {K P : Type 0} (g : Setting K P) (c : Coding K P) (hashed : IsHashed g 
     stage_nears Done r made read answer es loaded' told ask asks spends = absurd cc
     stage_nears (Ended_refused refused) r made read answer es loaded' told ask asks spends = absurd cc
 
-  -- what was read stands there still
+  -- the words that were read are unchanged
   abbrev IsStill : Stage → Answer → List (Exchange P) → Type 0
   IsStill stage answer es = IsStageRead mode (words_after es) resize (goes answer stage)
 

@@ -54,7 +54,7 @@ use Rattle.papaya_call_law.proofs.ScanOutcomes.{asked}
 use Rattle.papaya_call_alone.specs.Scanners.{IsScanRead, IsSpotRead, SpendsScan, left_of_scan, left_of_spot}
 use Rattle.papaya_call_alone.proofs.ScanLefts.{IsLastFound, again_less, copied_less, copied_read, first_less, here_less, next_less, root_less}
 
--- what is asked for the copy of all is asked by a copier
+-- an ask for the copy of all is an ask of a copier
 copy_asked : (o : Option CopyAsk) (ask : ScanAsk) → copy_asks o ≡ Some ask → (a : CopyAsk) × (o ≡ Some a) × (ask ≡ Copy a)
 copy_asked None ask e = absurd cc
 copy_asked (Some a) ask e = let is : Copy a ≡ ask = cc e in (a, refl, sym is)
@@ -69,7 +69,7 @@ copy_goes_on words root from copying copied_to.Chunk = tt
 copy_goes_on words root from copying (copied_to.Refused refused) = tt
 
 module _ (mode : ResizeMode) (words : At → ℕ) where
-  -- less is left in a state than here, and what was read stands there
+  -- less is left in a state than here, and the words that were read are unchanged
   abbrev Leads : (left : ℕ) → ScannerState → Type 0
   Leads left state = IsScanRead mode words state × (left_of_scan words state < left)
 
@@ -85,7 +85,7 @@ module _ (mode : ResizeMode) (words : At → ℕ) where
   shown_leads spot word read stands true = next_leads spot 3 (omega arith) read
   shown_leads spot word read stands false = ((read, stands), here_less words spot 2 3 (omega arith))
 
-  -- whatever word stands in the slot
+  -- for each word that may be in the slot
   module _ {P : Type 0} (spot : Spot) (word : ℕ) (read : IsSpotRead words spot) (stands : words (words_at.Slot spot.table spot.slot) ≡ word) where
     met : (w : Word P) → (shut w ≡ true → 0 < words (words_at.Next spot.table)) → (scan : Scan)
         → Leads (left_of_spot words spot 4) (meets scan spot word (kind w))
@@ -122,20 +122,20 @@ module _ {K P : Type 0} (g : Setting K P) (c : Coding K P) (hashed : IsHashed g 
   abbrev words_after : At → ℕ
   words_after = word_of g c (run (since ++ es) s)
 
-  -- where a state goes, after an answer
+  -- the next state, after an answer
   abbrev Goes : Answer → ScannerState → ScannerState
   Goes = after_in scanner.scan scanner.mode scanner.initial scanner.number
 
   keeps_now : IsKeeping g now (map_of g m since)
   keeps_now = keeps_since g c hashed s m keeps since may
 
-  -- a state is nearer the end after the answer, and what it read stands there
+  -- a state is nearer the end after the answer, and the words that it read are unchanged
   pub record IsNearer (state : ScannerState) : Type 0 where
     pub read : IsScanRead scanner.mode words_after (Goes answer state)
     pub less : (ask : ScanAsk) → asks_in state ≡ Some ask → (before later : Budget) → SpendsScan ask answer before later
         → IsSpent before later ⊎ ((later ≡ before) × (left_of_scan words_after (Goes answer state) < left_of_scan words state))
 
-  -- where nothing was exchanged
+  -- if nothing was exchanged
   quiet : (state : ScannerState) (answer' : Answer) → answer ≡ answer' → es ≡ [] → (ask' : ScanAsk) → asks_in state ≡ Some ask'
       → ((before later : Budget) → SpendsScan ask' answer' before later → later ≡ before)
       → Leads scanner.mode words (left_of_scan words state) (Goes answer' state) → IsNearer state
@@ -151,7 +151,7 @@ module _ {K P : Type 0} (g : Setting K P) (c : Coding K P) (hashed : IsHashed g 
             inr (keeps_it before later (subst (λ a. SpendsScan ask' a before later) is (subst (λ q. SpendsScan q answer before later) one spends)), to.1);
       }
 
-  -- the words that stand in a slot of the root
+  -- the words that may be in a slot of the root
   word_leads : (spot : Spot) → IsSpotRead words spot
       → Leads scanner.mode words (left_of_spot words spot 4)
       (meets scanner.scan spot (code g c (now.slot spot.table spot.slot)) (kind_of (code g c (now.slot spot.table spot.slot))))
@@ -220,7 +220,7 @@ module _ {K P : Type 0} (g : Setting K P) (c : Coding K P) (hashed : IsHashed g 
             (subst (λ q. SpendsScan q answer before later) one spends));
       }
 
-  -- the pair that stands in the slot is deleted
+  -- the pair in the slot is deleted
   bury_nearer : (spot : Spot) (word : ℕ) → IsSpotRead words spot → IsBuried g c now since spot loaded answer es loaded' → IsNearer (Burying spot word)
   bury_nearer spot word read t =
       let e : Exchange P = Bury spot.table spot.slot t.pair in

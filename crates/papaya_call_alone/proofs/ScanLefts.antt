@@ -38,7 +38,7 @@ stage_little root stages.Done h = omega arith
 stage_little root (stages.Refused refused) h = omega arith
 
 module _ (words : At → ℕ) where
-  -- what is left in a table, by its next one
+  -- the steps left in a table, by its next one
   table_less : (t a b : ℕ) → a < b → left_in_table words t a < left_in_table words t b
   table_less t a b less = by_next (words (words_at.Next t) == 0)
     where
@@ -61,14 +61,14 @@ module _ (words : At → ℕ) where
   table_further t a more = cond_both (words (words_at.Next t) == 0) a (a + 2 ^ 131) (λ y. y ≡ a + 2 ^ 131)
       (λ none. absurd (let e = eqb-true (words (words_at.Next t)) 0 none in omega (arith, e, more))) (λ _. refl)
 
-  -- less is left where a slot is looked at
+  -- less is left when the scan looks at a slot
   looks_less : (spot : Spot) (left : ℕ) → 0 < left → left_of_slot spot 4 < left → left_of_scan words (looks spot) < left_in_table words spot.table left
   looks_less spot left some less =
       cond_both (nat_lt spot.slot spot.len) (Looking spot) Done (λ y. left_of_scan words y < left_in_table words spot.table left)
       (λ _. table_less spot.table (left_of_slot spot 4) left less)
       (λ _. let l = table_least spot.table left in omega (arith, some, l))
 
-  -- and in the next slot
+  -- and when it looks at the next one
   pub next_less : (spot : Spot) (here : ℕ) → 0 < here → left_of_scan words (next spot) < left_of_spot words spot here
   next_less spot here some =
       cond_both (nat_lt (spot.slot + 1) spot.len) (Looking (record spot { slot = spot.slot + 1 })) Done
@@ -83,15 +83,15 @@ module _ (words : At → ℕ) where
   pub here_less : (spot : Spot) (a b : ℕ) → a < b → left_of_spot words spot a < left_of_spot words spot b
   here_less spot a b less = table_less spot.table (left_of_slot spot a) (left_of_slot spot b) (omega (arith, less))
 
-  -- where a table with a next one sends the scan to copy all
+  -- when a table with a next one makes the scan copy all
   pub again_less : (spot : Spot) (here : ℕ) → 0 < words (words_at.Next spot.table) → left_of_scan words (Copying stages.AtRoot) < left_of_spot words spot here
   again_less spot here more = let e = table_further spot.table (left_of_slot spot here) more in omega (arith, e)
 
-  -- where the size of a table is known
+  -- when the size of a table is known
   pub first_less : (spot : Spot) → spot.len ≤ 2 ^ 32 → left_of_scan words (looks spot) < left_of_scan words (Sizing spot.table)
   first_less spot most = looks_less spot (2 ^ 40) (omega arith) (omega (arith, most))
 
-  -- where the root is scanned
+  -- when the root is scanned
   pub root_less : (root : ℕ) → left_of_scan words (at_root root) < left_of_scan words AtRoot
   root_less root =
       cond_both (root == 0) Done (Sizing root) (λ y. left_of_scan words y < left_of_scan words AtRoot) (λ _. omega arith)
@@ -113,7 +113,7 @@ module _ (words : At → ℕ) where
   scan_small mode Done h read = omega arith
   scan_small mode (Refused refused) h read = omega arith
 
-  -- the copy of all ends at a root without a next table, or where there is none
+  -- the copy of all ends at a root without a next table, or if there is no root
   abbrev pub IsLastFound : (from to : Stage) → Type 0
   IsLastFound from stages.Done = (found_by from ≡ 0)
       ⊎ (IsRoot words (found_by from) × (words (words_at.Next (found_by from)) ≡ 0))
@@ -125,7 +125,7 @@ module _ (words : At → ℕ) where
       cond_both (from == 0) Done (Sizing from) (λ y. left_of_scan words y < left + 2 ^ 130) (λ _. omega arith)
       (λ _. let l = table_last from (2 ^ 40) none in omega (arith, l))
 
-  -- less is left where the copy of all leads
+  -- less is left after the copy of all
   pub copied_less : (from to : Stage) (left : ℕ) → IsLastFound from to → left_of_stage (words words_at.Root) to < left
       → left_of_scan words (copied from to) < left + 2 ^ 130
   copied_less from stages.Done left last less = found_less (found_by from) left last
@@ -139,7 +139,7 @@ module _ (words : At → ℕ) where
   copied_less from (stages.Linking link) left last less = omega (arith, less)
   copied_less from (stages.Copying root copying) left last less = omega (arith, less)
 
-  -- and what was read stands there
+  -- and the words that were read are unchanged
   found_read : (mode : ResizeMode) (from : ℕ) → (from ≡ 0) ⊎ (IsRoot words from × (words (words_at.Next from) ≡ 0)) → IsScanRead mode words (at_root from)
   found_read mode from (inl none) = subst (λ f. IsScanRead mode words (at_root f)) (sym none) tt
   found_read mode from (inr (root, none)) = cond_both (from == 0) Done (Sizing from) (IsScanRead mode words) (λ _. tt) (λ _. root)

@@ -30,12 +30,13 @@ marked_kind : (word : ℕ) → kind_of (marked_as word) ≡ word_kinds.Marked
 marked_kind word = ap kind_of_code (let e : filled_word 2 (pair_of word) % 1024 ≡ 2 = omega arith in e)
 
 module _ (mode : ResizeMode) (words : At → ℕ) (slot : SlotToCopy) where
-  -- a pair is carried to the target first
+  -- a pair is moved to the target first
   to_target : (how : ResizeMode) → IsAtTarget how slot slot.to
   to_target (Incremental chunk) = tt
   to_target Blocking = refl
 
-  -- what the word of the slot tells: no more is left than this, and what was read stands there
+  -- the outcome by the word of the slot: no more is left than this, and the words that were read
+  -- are unchanged
   settle_look_within : (kind : Kind) (word : ℕ) → IsAlive mode words slot.to → word_in mode words slot ≡ word → (kind ≡ word_kinds.Empty → word ≡ 0)
       → kind_of word ≡ kind
       → (left_of_settled (look_at kind slot word) ≤ 2 ^ 66 + 2 ^ 34 + 4) × IsSettledRead mode words slot (look_at kind slot word)
@@ -46,13 +47,13 @@ module _ (mode : ResizeMode) (words : At → ℕ) (slot : SlotToCopy) where
   settle_look_within word_kinds.Buried word alive stands none is = (omega arith, alive)
   settle_look_within word_kinds.Closed word alive stands none is = (omega arith, alive)
 
-  -- the pair came to a table
+  -- the pair was moved to a table
   finishes_within : (how : ResizeMode) (word : ℕ) → IsCarrying mode words slot word → (left_of_settled (settled_by word how carried.Carried) ≤ 1)
       × IsSettledRead mode words slot (settled_by word how carried.Carried)
   finishes_within (Incremental chunk) word h = (omega arith, (h.alive, h.stands))
   finishes_within Blocking word h = (omega arith, h.alive)
 
-  -- the carry leads on
+  -- the move continues
   carried_within : (word : ℕ) (end : Carried) → IsCarriedRead mode words slot word end
       → (left_of_settled (settled_by word mode end) ≤ left_of_carried end + 1) × IsSettledRead mode words slot (settled_by word mode end)
   carried_within word (carried.On carry) read = (omega arith, read)

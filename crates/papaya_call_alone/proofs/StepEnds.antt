@@ -53,7 +53,7 @@ end_most cursor =
     (λ less. let l : cursor.slots < cursor.len - cursor.begun = ltb-true cursor.slots (cursor.len - cursor.begun) less in omega (arith, l))
     (λ more. omega arith)
 
--- fewer words are left where the cursor goes on
+-- fewer words are left when the cursor continues
 next_fewer : (wrapped : Bool) (start at len begun slots : ℕ) → 0 < slots → (nat_lt slots (len - begun) && not (wrapped && nat_le start (at + 1))) ≡ true
     → cond wrapped (start - (at + 1)) (len - (begun + slots) + start + 1) < cond wrapped (start - at) (len - begun + start + 1)
 next_fewer true start at len begun slots some e =
@@ -68,11 +68,11 @@ first_fewer : (cursor : Cursor) → cursor.wrapped ≡ false → words_left (fir
 first_fewer cursor is = subst (λ w. cursor.start - 0 < cond w (cursor.start - cursor.at) (cursor.len - cursor.begun + cursor.start + 1)) (sym is) (omega arith)
 
 module _ (mode : ResizeMode) (words : At → ℕ) where
-  -- no more is left than this, and what was read stands there
+  -- no more is left than this, and the words that were read are unchanged
   abbrev Within : ℕ → Stepped → Type 0
   Within most end = (left_of_stepped end ≤ most) × IsSteppedRead mode words end
 
-  -- the making of a table leads on
+  -- the chunk continues after the making of a table
   linked_within : (from : ℕ) (l : Linked) → words words_at.Root ≡ from → IsLinkedRead words l → Within (left_of_linked l) (linked_to from l)
   linked_within from (linked.On link) root read = (omega arith, (root, read))
   linked_within from (linked.Table table) root read = (omega arith, root)
@@ -111,7 +111,7 @@ module _ (mode : ResizeMode) (words : At → ℕ) where
       (λ some. (omega arith, root))
 
   module _ (cursor : Cursor) (read : IsCursorRead mode words cursor) where
-    -- less is left, and what was read stands there
+    -- less is left, and the words that were read are unchanged
     abbrev Goes : Step → Type 0
     Goes step = (left_of_step step < left_of_step (steps.AtChunk cursor)) × IsStepRead mode words step
 
@@ -158,7 +158,7 @@ module _ (mode : ResizeMode) (words : At → ℕ) where
       let most = size.most in
       (omega (arith, within, low, most), record { some = chunk_some mode; root = root; alive = alive })
 
-  -- the copy of a slot leads on
+  -- the chunk continues after the copy of a slot
   settled_within : (chunk : Chunk) (end : Settled) → IsDueRead mode words chunk.cursor → IsSettledRead mode words (slot_of chunk) end
       → Within ((chunk.end - chunk.at - 1) * 2 ^ 68 + left_of_settled end + 2) (settled_to chunk end)
   settled_within chunk (settled.On settle) due read = (omega arith, (due, read))
@@ -184,7 +184,7 @@ module _ (mode : ResizeMode) (initial number : ℕ) (words words' : At → ℕ) 
   alive_after : (from to : ℕ) → IsAlive mode words to → words' (words_at.Aborted to) ≡ words (words_at.Aborted to) → IsAlive mode words' to
   alive_after from to alive same = still_alive mode words words' (record { from = from; index = 0; to = to }) 0 mode alive same
 
-  -- a cursor has read what stands there still
+  -- the words that a cursor has read are unchanged
   pub same_cursor : (cursor : Cursor) → IsCursorRead mode words cursor → IsSame words words' → IsCursorRead mode words' cursor
   same_cursor cursor read same = record {
     some = read.some;

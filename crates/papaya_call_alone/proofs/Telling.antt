@@ -1,4 +1,4 @@
--- What an answer to a copier is, and which words it leaves unchanged.
+-- The kinds of answers to a copier, and the words that each answer leaves unchanged.
 use Rattle.std.proofs.Common.{◌≡◌, ◌⊎◌, inl, inr, ⊎_elim, ℕ, ◌<◌, ◌==◌, sym, subst}
 use Rattle.papaya_words.specs.declared.refused.Refused.{Refused}
 use Rattle.papaya_call.specs.declared.ask.At.{At}
@@ -22,7 +22,7 @@ IsSpending _ = ⊥
 abbrev pub Nears : Answer → (later before : ℕ) → Type 0
 Nears answer later before = IsSpending answer ⊎ (later < before)
 
--- less is left by what is told of the later
+-- less is left, by a comparison of the remaining steps
 pub nearer : (answer : Answer) (a b a' b' : ℕ) → Nears answer a b → (a < b → a' < b') → Nears answer a' b'
 nearer answer a b a' b' (inl spends) f = inl spends
 nearer answer a b a' b' (inr less) f = inr (f less)
@@ -48,7 +48,7 @@ module _ (words words' : At → ℕ) (answer : Answer) where
   stays_at Count told other else = told.1 other
   stays_at (MakeTable slots limit chunks) told other else = told.1 other
 
--- what was to be made was made or refused
+-- the part that was to be made was made, or making it failed
 pub by_making : (Q : Answer → Type 0) (answer : Answer) → IsMaking answer → ((n : ℕ) → Q (answers.Call (Made_number n)))
     → ((refused : Refused) → Q (answers.Call (Was_refused refused))) → Q answer
 by_making Q answer told by_made by_refused =
@@ -62,7 +62,7 @@ module _ (words words' : At → ℕ) (before later : Budget) where
   abbrev pub Spent : CopyAsk → Answer → Type 0
   Spent ask answer = SpendsCopy ask answer before later → IsSpent before later ⊎ ((later ≡ before) × (IsSpending answer → ⊥))
 
-  -- by what is asked
+  -- by each ask
   pub spent_by : (ask : CopyAsk) (answer : Answer) → IsCopyPrompt words ask answer words' → Spent ask answer
   spent_by (Load at) answer told = subst (Spent (Load at)) (sym told.0.0) (λ same. inr (same, λ h. h))
   spent_by (Exchange at old new) answer told =

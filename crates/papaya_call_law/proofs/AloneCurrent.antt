@@ -102,7 +102,7 @@ module _ (words words' : At → ℕ) (bare : IsBare words) where
       (cases_eq t u)
 
 module _ (words : At → ℕ) where
-  -- what a search saw stands there
+  -- the outcome of a probe agrees with the words
   abbrev IsSeenThere : ProbeStep → Type 0
   IsSeenThere (seen.On search) = IsRead words (Searching search)
   IsSeenThere (seen.Empty at) = word_of_place words at ≡ 0
@@ -151,7 +151,7 @@ module _ (words : At → ℕ) where
   removes_read word_kinds.Buried at word read = tt
   removes_read word_kinds.Closed at word read = tt
 
-  -- what is remembered of a pair is of the word that names it here
+  -- the remembered choice about a pair fits the word that names it here
   recalls_read : (choice : Option Choice) (at : Place) (word n : ℕ) → word_of_place words at ≡ word → IsRead words (recalls choice at word n)
   recalls_read None at word n read = read
   recalls_read (Some (choices.Replace old new)) at word n read =
@@ -172,7 +172,7 @@ module _ (words : At → ℕ) where
   computes_read word_kinds.Buried held at word read = tt
   computes_read word_kinds.Closed held at word read = tt
 
-  -- a pair that was made goes where its key is absent still
+  -- a pair that was made is put where its key is still absent
   fills_read : (gap : Gap) (n : ℕ) → IsGapRead words gap → IsRead words (fills gap n)
   fills_read gaps.NoRoot n read = read
   fills_read (gaps.At at) n read = read
@@ -192,7 +192,7 @@ module _ (words : At → ℕ) where
   passes_read task (Incremental chunk) fill t = tt
   passes_read task Blocking fill t = absent_read task fill (gaps.After t) tt
 
-  -- where a search leads, what it saw stands there still
+  -- the state after a search: the words of its outcome are unchanged
   goes_read : (task : Task) (mode : ResizeMode) (held : Remembered) (s : ProbeStep) → IsSeenThere s → IsRead words (goes_as task mode held s)
   goes_read task mode held (seen.On search) there = there
   goes_read Get mode held (seen.Here at word) there = tt
@@ -228,7 +228,7 @@ module _ (words : At → ℕ) where
   written_read : (write : Write) (n : ℕ) → IsRead words (written write n)
   written_read write n = cond_both (write.old == 0) (Counting (claimed_by write n)) (Ended (Replaced (pair_of write.old) n)) (IsRead words) (λ _. tt) (λ _. tt)
 
-  -- what the closure of a compute answered is of what it was shown
+  -- the result of a compute's closure is about the words that it was called with
   offered_read : (gap : Gap) (kind : OpKind) → IsGapRead words gap → IsRead words (offered gap kind)
   offered_read gap op_kinds.Insert read = read
   offered_read gap op_kinds.Remove read = tt
@@ -245,7 +245,7 @@ module _ (words : At → ℕ) where
   provides_read (purposes.Again write) n read = read
 
 module _ (words words' : At → ℕ) (m : Machine) (bare : IsBare words) where
-  -- after this answer what the machine has read stands there still
+  -- after this answer the words that the machine has read are unchanged
   abbrev Stable : Made → State → Answer → Type 0
   Stable made s answer = IsCurrent words' (after (record m { made = made; state = s }) answer)
 
@@ -255,7 +255,7 @@ module _ (words words' : At → ℕ) (m : Machine) (bare : IsBare words) where
   number_there (Free count) same read = same ∙ read
   number_there Taken same read = read
 
-  -- where no word is changed
+  -- if no word is changed
   quiet : (made : Made) (s : State) (answer told : Answer) → answer ≡ told → IsSame words words'
       → IsNumberRead words' (after (record m { made = made; state = s }) told).made.number
       → IsRead words' (after (record m { made = made; state = s }) told).state → Stable made s answer
@@ -265,7 +265,7 @@ module _ (words words' : At → ℕ) (m : Machine) (bare : IsBare words) where
   there : (at : Place) (word : ℕ) → IsSame words words' → word_of_place words at ≡ word → word_of_place words' at ≡ word
   there at word same read = same (Slot at.table at.probe.i) ∙ read
 
-  -- and a gap and a purpose, where no word was changed
+  -- and a gap and a purpose, if no word was changed
   gap_there : (gap : Gap) → IsSame words words' → IsGapRead words gap → IsGapRead words' gap
   gap_there gaps.NoRoot same read = same Root ∙ read
   gap_there (gaps.At at) same read = there at 0 same read
@@ -277,7 +277,7 @@ module _ (words words' : At → ℕ) (m : Machine) (bare : IsBare words) where
   purpose_there (purposes.Again write) same read = there write.place write.old same read
 
   module _ (made : Made) (number : IsNumberRead words made.number) where
-    -- what the machine knows of the numbers
+    -- the number that the machine has read is unchanged
     known : IsSame words words' → IsNumberRead words' made.number
     known same = number_there made.number (same Made_word) number
 
@@ -312,7 +312,7 @@ module _ (words words' : At → ℕ) (m : Machine) (bare : IsBare words) where
         (slot_put (written put.write put.pair) put.write.place (live_word put.pair) (new_filled put.pair) done.1 made refl
         (written_read words' put.write put.pair))
 
-    -- a closure was shown a pair
+    -- a closure was called with a pair
     showing_stable : (removal : Removal) (answer : Answer) → IsSame words words' → word_of_place words' removal.place ≡ removal.word
         → IsClosureAnswer m.task answer → Stable made (Showing removal) answer
     showing_stable removal answer same read told =
@@ -326,7 +326,7 @@ module _ (words words' : At → ℕ) (m : Machine) (bare : IsBare words) where
         answered_known op_kinds.Remove same' = known same'
         answered_known (op_kinds.Abort t) same' = known same'
 
-    -- or that there is none
+    -- or with None
     offering_stable : (gap : Gap) (kind : OpKind) (answer : Answer) → answer ≡ Op kind → IsSame words words' → IsGapRead words gap
         → Stable made (Offering gap) answer
     offering_stable gap op_kinds.Insert answer e same read = quiet made (Offering gap) answer (Op op_kinds.Insert) e same (known same)
@@ -362,7 +362,7 @@ module _ (words words' : At → ℕ) (m : Machine) (bare : IsBare words) where
         (goes_read words' m.task m.mode m.remembered (look at word)
         (look_there words' (kind_of word) at word (there at word told.1 refl) (bare at.table at.probe.i)))
 
-    -- what is told of the numbers
+    -- the answer about the numbers
     limit_known : (count : ℕ) → words' Made_word ≡ count → IsNumberRead words' made.number → (limit : Option ℕ)
         → IsNumberRead words' (number_told (told_limit made limit count) made).number
     limit_known count is here None = tt
@@ -375,7 +375,7 @@ module _ (words words' : At → ℕ) (m : Machine) (bare : IsBare words) where
     told_known (Free n) count is here = limit_known count is here made.limit
     told_known Taken count is here = here
 
-    -- a call that makes a pair: s is its stage, which stays as it is or ends
+    -- a call that makes a pair: s is its stage, which stays unchanged or ends
     module _ (s : State) (old : ℕ) (answer : Answer)
         (as_loaded : (count : ℕ) → IsSame words words' → IsNumberRead words' (number_told (told_count made count) made).number
         → Stable made s (Word_read count))
@@ -419,7 +419,7 @@ module _ (words words' : At → ℕ) (m : Machine) (bare : IsBare words) where
       pair_stable : IsPrompt m.task words (pair_ask made old) answer words' → Stable made s answer
       pair_stable told_so = number_stable made.number refl number told_so
 
-    -- what is logged leaves the numbers but for a pair, whose next needs one
+    -- storing in the arena leaves the numbers, except that the pair after a stored pair needs one
     own_known : (keyed valued : Bool) → IsNumberRead words' made.number → IsNumberRead words' (made_to_pair (own_grown keyed valued made)).number
     own_known false valued here = here
     own_known true false here = here
@@ -552,7 +552,7 @@ module _ (words words' : At → ℕ) (m : Machine) (bare : IsBare words) where
     stable_in (Growing t) answer read told = quiet made (Growing t) answer _ told.0 told.1 (known told.1) tt
     stable_in (Ended reply) answer read told = absurd told
 
-  -- of the machine
+  -- for the whole machine
   pub machine_stable : (answer : Answer) → IsNumberRead words m.made.number → IsRead words m.state → IsPrompt m.task words (ask_of m) answer words'
       → IsCurrent words' (after m answer)
   machine_stable answer number read told = stable_in m.made number m.state answer read told

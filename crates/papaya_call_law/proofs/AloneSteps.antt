@@ -64,11 +64,12 @@ use Rattle.papaya_call_law.specs.Alone.{left_to_fill, left_to_serve}
 use Rattle.papaya_call_law.proofs.Leads.{occupies_leads}
 use Rattle.papaya_call.specs.Write.{claimed_by, made_of, made_to_write, served_ask, served_of, serves, with_pair_at, write_grown}
 
--- the exchange of a word that stands there is done
+-- the exchange of a word whose expected value is there succeeds
 pub exchange_done : (P Q : Type 0) (word old : ℕ) → word ≡ old → MatchBool (word == old) P Q → P
 exchange_done P Q word old same told = when_true P Q (eq-eqb word old same) told
 
--- what holds of each answer of the closure of a removal, and of that of a compute, holds of what a closure says
+-- a property of each `Yes` in a removal and of each `Op` in a compute holds of each answer of a
+-- closure
 pub by_saying : (P : Task → Answer → Type 0) → ((agrees : Bool) → P RemoveIf (Yes agrees)) → ((kind : OpKind) → P Compute (Op kind))
     → (task : Task) (answer : Answer) → IsClosureAnswer task answer → P task answer
 by_saying P by_yes by_op Get answer told = absurd told
@@ -76,14 +77,14 @@ by_saying P by_yes by_op (Insert replace) answer told = absurd told
 by_saying P by_yes by_op RemoveIf answer (agrees, e) = subst (P RemoveIf) (sym e) (by_yes agrees)
 by_saying P by_yes by_op Compute answer (kind, e) = subst (P Compute) (sym e) (by_op kind)
 
--- the steps that are left, at most, after a search saw this
+-- the steps that are left, at most, after this outcome of a probe
 abbrev left_of_seen : ProbeStep → ℕ
 left_of_seen (seen.On search) = left_to_search search
 left_of_seen (seen.Empty at) = 9
 left_of_seen (seen.Here at word) = 10
 left_of_seen (seen.Over t) = 8
 
--- a search goes on one place nearer its limit
+-- a search that continues is one place nearer its limit
 go_on_left : (at : Place) → left_of_seen (go_on at) ≤ 10 + 3 * (at.limit - at.probe.len)
 go_on_left at =
     cond_both (nat_lt at.probe.len at.limit) (seen.On (Looking (next_place at))) (seen.Over at.table)
@@ -91,7 +92,7 @@ go_on_left at =
     (λ more. let l : at.probe.len < at.limit = ltb-true at.probe.len at.limit more in omega arith)
     (λ _. omega arith)
 
--- a hint spares the word, or the word is loaded next
+-- a hint makes the load of the word unnecessary, or the word is loaded next
 hinted_left : (at : Place) (hash hint : ℕ) → left_of_seen (hinted at hash hint) ≤ 12 + 3 * (at.limit - at.probe.len)
 hinted_left at hash hint =
     cond_both (may_hold hint hash) (seen.On (Reading at)) (go_on at)
@@ -159,7 +160,7 @@ module _ (made : Made) where
   removes_left word_kinds.Buried at word = omega arith
   removes_left word_kinds.Closed at word = omega arith
 
-  -- what is remembered of a pair is done, or its closure is shown it
+  -- the remembered choice about a pair is executed, or the closure is called with the pair
   recalls_left : (choice : Option Choice) (at : Place) (word n : ℕ) → left_in made (recalls choice at word n) ≤ 10
   recalls_left None at word n = omega arith
   recalls_left (Some (choices.Replace old new)) at word n =
@@ -180,7 +181,7 @@ module _ (made : Made) where
   computes_left word_kinds.Buried held at word = omega arith
   computes_left word_kinds.Closed held at word = omega arith
 
-  -- a pair that was made goes where its key is absent
+  -- a pair that was made is put where its key is absent
   fills_left : (gap : Gap) (n : ℕ) → left_in made (fills gap n) ≤ left_to_fill gap
   fills_left gaps.NoRoot n = omega arith
   fills_left (gaps.At at) n = omega arith
@@ -200,7 +201,7 @@ module _ (made : Made) where
   passes_left task (Incremental chunk) fill t = omega arith
   passes_left task Blocking fill t = omega (arith, absent_left task fill (gaps.After t))
 
-  -- where a search leads, no more is left than it saw
+  -- the state after a search has no more left than the search
   goes_left : (task : Task) (mode : ResizeMode) (held : Remembered) (s : ProbeStep) → left_in made (goes_as task mode held s) ≤ left_of_seen s
   goes_left task mode held (seen.On search) = omega arith
   goes_left Get mode held (seen.Here at word) = omega arith
@@ -235,7 +236,7 @@ module _ (made : Made) where
   written_left write n = cond_both (write.old == 0) (Counting (claimed_by write n)) (Ended (Replaced (pair_of write.old) n)) (λ s. left_in made s < 3)
       (λ _. omega arith) (λ _. omega arith)
 
-  -- what its closure answered leads on
+  -- the result of its closure leaves fewer steps
   offered_left : (gap : Gap) (kind : OpKind) → left_in (answered kind made) (offered gap kind) < 6 + left_to_fill gap
   offered_left gap op_kinds.Insert = omega (arith, pair_left (answered op_kinds.Insert made) 0)
   offered_left gap op_kinds.Remove = omega arith
@@ -246,13 +247,13 @@ module _ (made : Made) where
   chosen_left removal op_kinds.Remove = omega arith
   chosen_left removal (op_kinds.Abort t) = omega arith
 
-  -- and so does the pair that was made of it
+  -- and so does the pair that was made from it
   provides_left : (purpose : Purpose) (n : ℕ) → left_in made (provides purpose n) ≤ left_to_serve purpose
   provides_left (purposes.Fill gap) n = fills_left gap n
   provides_left (purposes.Replace write) n = omega arith
   provides_left (purposes.Again write) n = omega arith
 
--- the pair that was made for a place serves there
+-- the pair that was made for a place is used there
 serves_own : (made : Made) (write : Write) (n : ℕ) → serves (with_pair_at made write n) write ≡ Some n
 serves_own made write n = by_old (write.old == 0)
   where
@@ -265,7 +266,7 @@ serves_own made write n = by_old (write.old == 0)
     by_old true = refl
     by_old false = cond-true (serves_at (made_of write n) write.place.table write.place.probe.i) (Some n) None itself
 
--- what is left to an insertion once less is left to its pair
+-- the steps left to an insertion once fewer are left to its pair
 unserved_left : (made : Made) (write : Write) (next : Made) (served : Option ℕ) → left_to_write made write ≡ 3 + left_to_pair made write.old
     → left_to_pair next write.old + 3 < left_to_pair made write.old + 3 → left_to_serve_with served next write.old < left_to_write made write
 unserved_left made write next None leaves nearer = omega (arith, leaves, nearer)
@@ -288,9 +289,9 @@ module _ (words words' : At → ℕ) (m : Machine) where
       → Nears made (Searching (Sizing t)) answer
   size_nears made t answer (slots, limit, size, e) = let few : limit < 2 ^ 32 = size.few in subst (Nears made (Searching (Sizing t))) (sym e) (omega arith)
 
-  -- where a call makes a pair, each step brings it nearer: s is left to do then
+  -- each step of a call that makes a pair brings it nearer: s is the number of steps after it
   module _ (made : Made) (old s : ℕ) where
-    -- by what is left to do then
+    -- by the steps that are left after it
     abbrev IsNearer : Made → Type 0
     IsNearer next = left_to_pair next old + s < left_to_pair made old + s
 
@@ -312,7 +313,7 @@ module _ (words words' : At → ℕ) (m : Machine) where
     taken_nears count free = let w : left_to_number made.number ≡ 1 = ap left_to_number free in
         subst (λ n. IsNearer (taken_as made n)) (sym free) (omega (arith, w))
 
-    -- the key or the value was logged, or the pair
+    -- the key or the value was stored in the arena, or the pair
     abbrev IsNearerGrown : Grown → Type 0
     IsNearerGrown (On next) = IsNearer next
     IsNearerGrown (Pair next) = Unit {0}
@@ -333,7 +334,7 @@ module _ (words words' : At → ℕ) (m : Machine) where
         (cond_both (old == 0) (own_grown made.keyed made.valued made) (of_grown made.valued made) IsNearerGrown
         (λ empty. own_nears empty made.keyed made.valued refl refl) (λ _. of_nears made.valued refl))
 
-  -- an insertion was told how many numbers were taken, or has logged something
+  -- an insertion received how many numbers were taken, or has stored a part in the arena
   told_write : (made : Made) (write : Write) → left_to_write made write ≡ 3 + left_to_pair made write.old → (o : Option Made)
       → IsNearerTold made write.old 3 o → left_in (number_told o made) (numbered o (Writing write)) < left_to_write made write
   told_write made write leaves None nearer = omega (arith, leaves)
@@ -356,7 +357,7 @@ module _ (words words' : At → ℕ) (m : Machine) where
   grown_pairing made purpose n (On next) nearer = nearer
   grown_pairing made purpose n (Pair next) nearer = omega (arith, provides_left next purpose n)
 
-  -- the word that was read of the numbers is told again: s is the stage of a call that makes a pair
+  -- the word of the numbers was read again: s is the stage of a call that makes a pair
   module _ (made : Made) (s : State) (old behind : ℕ) (answer : Answer)
       (as_loaded : (count : ℕ) → IsNearerTold made old behind (told made count) → Nears made s (Word_read count))
       (took : IsNearer made old behind (taken made) → Nears made s Exchanged)
@@ -423,7 +424,7 @@ module _ (words words' : At → ℕ) (m : Machine) where
       (λ refused. omega arith)
       number told_so
 
-  -- a closure was shown a pair
+  -- a closure was called with a pair
   showing_nears : (made : Made) (removal : Removal) (answer : Answer) → IsClosureAnswer m.task answer → Nears made (Showing removal) answer
   showing_nears made removal answer told =
       by_saying (λ task said. left (after (record m { task = task; made = made; state = Showing removal }) said) < 10)
@@ -475,7 +476,7 @@ module _ (words words' : At → ℕ) (m : Machine) where
   nears_in last made (Growing t) answer number read told = subst (Nears made (Growing t)) (sym told.0) (omega arith)
   nears_in last made (Ended reply) answer number read told = absurd told
 
-  -- of the machine
+  -- for the whole machine
   pub machine_nears : (answer : Answer) → IsNumberRead words m.made.number → IsRead words m.state → ((t : ℕ) → words (Next t) ≡ 0)
       → IsPrompt m.task words (ask_of m) answer words' → left (after m answer) < left m
   machine_nears answer number read last told = nears_in last m.made m.state answer number read told

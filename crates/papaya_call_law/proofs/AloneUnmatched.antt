@@ -32,7 +32,7 @@ use Rattle.papaya_call.specs.Search.{next_place, go_on, look_at, look, hinted}
 use Rattle.papaya_call.specs.Machine.{after, ask_of, asks, absent, at_root, left as next_or_end, passes, goes_as}
 use Rattle.papaya_call_law.specs.Alone.{HasMetNone, IsSeeker, IsUnmatched}
 
--- a search saw no pair with the key
+-- a probe found no pair with the key
 abbrev HasSeenNone : ProbeStep → Type 0
 HasSeenNone (seen.On search) = Unit {0}
 HasSeenNone (seen.Empty at) = Unit {0}
@@ -45,7 +45,7 @@ go_on_none at = cond_both (nat_lt at.probe.len at.limit) (seen.On (Looking (next
 hinted_none : (at : Place) (hash hint : ℕ) → HasSeenNone (hinted at hash hint)
 hinted_none at hash hint = cond_both (may_hold hint hash) (seen.On (Reading at)) (go_on at) HasSeenNone (λ _. tt) (λ _. go_on_none at)
 
--- a word alone shows no key
+-- a word alone does not determine a key
 look_none : (kind : Kind) (at : Place) (word : ℕ) → HasSeenNone (look_at kind at word)
 look_none word_kinds.Empty at word = tt
 look_none word_kinds.Live at word = tt
@@ -54,7 +54,7 @@ look_none word_kinds.Copied at word = tt
 look_none word_kinds.Buried at word = go_on_none at
 look_none word_kinds.Closed at word = go_on_none at
 
--- a call that looks for its key ends where it is absent
+-- a call that looks for its key ends if the key is absent
 absent_none : (task : Task) (fill : Option ℕ) (t : ℕ) → IsSeeker task → HasMetNone (absent task fill (After t))
 absent_none Get fill t seeker = refl
 absent_none (Insert replace) fill t seeker = absurd seeker
@@ -65,7 +65,7 @@ passes_none : (task : Task) (mode : ResizeMode) (fill : Option ℕ) (t : ℕ) �
 passes_none task (Incremental chunk) fill t seeker = tt
 passes_none task Blocking fill t seeker = absent_none task fill t seeker
 
--- where a search leads that saw none
+-- the state after a probe that found none
 goes_none : (task : Task) (mode : ResizeMode) (held : Remembered) (s : ProbeStep) → IsSeeker task → HasSeenNone s → HasMetNone (goes_as task mode held s)
 goes_none task mode held (seen.On search) seeker none = tt
 goes_none task mode held (seen.Here at word) seeker none = absurd none
@@ -93,7 +93,7 @@ module _ (m : Machine) (seeker : IsSeeker m.task) (answer : Answer) where
   abbrev MeetsNone : State → Answer → Type 0
   MeetsNone s told = HasMetNone (after (record m { state = s }) told).state
 
-  -- a call that has ended goes nowhere
+  -- a call that has ended has no next state
   ended_none : (reply : Reply) → reply ≡ Absent → (told : Answer) → MeetsNone (Ended reply) told
   ended_none reply absent (Word_read word) = absent
   ended_none reply absent Exchanged = absent
@@ -130,6 +130,6 @@ module _ (m : Machine) (seeker : IsSeeker m.task) (answer : Answer) where
   meets_none_in (Uncounting n) none told = absurd none
   meets_none_in (Growing t) none told = absurd none
 
-  -- of the machine
+  -- for the whole machine
   pub machine_meets_none : HasMetNone m.state → IsUnmatched (ask_of m) answer → HasMetNone (after m answer).state
   machine_meets_none none told = meets_none_in m.state none told

@@ -34,12 +34,12 @@ module _ {K P : Type 0} (g : Setting K P) (c : Coding K P) (hashed : IsHashed g 
   leaving_passed RemoveIf t r = (r.1, r.2)
   leaving_passed Compute t r = (r.1, r.2)
 
-  -- a slot from where the key's pair is copied, once it is settled
+  -- a slot from which the key's pair is copied, once it is migrated
   moved_passed : (inc : g.blocking ≡ false) (t x n : ℕ) → IsMovingFrom g c begun since k t x → IsSettled g now n (now.slot t x)
       → IsPassed g.places (look g now k) t
   moved_passed inc t x n (j, p, lt, here, e) settled = moved g now inc k t j n p lt e (subst (λ y. IsSettled g now n (now.slot t y)) (sym here) settled)
 
-  -- the table that a call goes on from was come to
+  -- the call had come to the table from which it continues
   pub left_come : (loaded : LoadedPairs P) (task : Task) (stage : Stage) → ReliesStage g c begun since k loaded task stage → (t : ℕ)
       → left_by stage ≡ Some t → HasComeTo g c begun since k t
   left_come loaded task (Leaving u) r t e = let same : u ≡ t = cc e in subst (HasComeTo g c begun since k) same (leaving_passed task u r).0
@@ -47,7 +47,7 @@ module _ {K P : Type 0} (g : Setting K P) (c : Coding K P) (hashed : IsHashed g 
   left_come loaded task (Growing (Pair_at u x)) r t e = let same : u ≡ t = cc e in subst (HasComeTo g c begun since k) same (r.1).0
   left_come loaded task stage r t e = absurd cc
 
-  -- it was passed, if the slot is settled in which the call met its key's pair
+  -- it was passed, if the slot in which the call met its key's pair is migrated
   left_passed : (inc : g.blocking ≡ false) (n : ℕ) (loaded : LoadedPairs P) (task : Task) (stage : Stage)
       → ReliesStage g c begun since k loaded task stage → (t : ℕ) → left_by stage ≡ Some t
       → ((u x : ℕ) → stage ≡ Growing (Pair_at u x) → IsSettled g now n (now.slot u x)) → IsPassed g.places (look g now k) t
@@ -67,7 +67,7 @@ module _ {K P : Type 0} (g : Setting K P) (c : Coding K P) (hashed : IsHashed g 
       let passed = left_passed inc (now.next t) loaded m.task m.state r.stage t left settled in
       record { hash = r.hash; mode = r.mode; made = r.made; stage = next_come g c hashed.lawful begun since may k t come inc passed some }
 
-  -- the pair that the call met is one that goes to the next table
+  -- the pair that the call met is one that is moved to the next table
   pub met_moving : (inc : g.blocking ≡ false) (t x : ℕ) → HasComeTo g c begun since k t → IsMovingFrom g c begun since k t x → 0 < now.next t
       → IsMoving g c now (record { from = t; index = x; to = now.next t })
   met_moving inc t x come (j, p, lt, here, e) some = record {

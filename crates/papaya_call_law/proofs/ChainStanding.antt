@@ -41,11 +41,11 @@ use Rattle.papaya_call_law.proofs.Standing.{machine_ask_fits, machine_stands}
 use Rattle.papaya_call_law.proofs.CopyStanding.{copying_fits, copying_stands, link_fits, link_stands}
 
 module _ (m : Machine) (stands : IsValid m) where
-  -- another phase, and another state of its call that stands anywhere
+  -- another phase, and another valid state of its call
   in_phase : (phase : Phase) → IsValidPhase phase → IsValid (record m { phase = phase })
   in_phase phase is = record { call = stands.call; chunked = stands.chunked; initial = stands.initial; phase = is }
 
-  -- the call goes on for itself, looks in a next table, begins anew, or is refused
+  -- the call continues in phase `Calling`, looks in a next table, starts again, or fails
   steps_stand : (told : Call_answer) → calls.IsFit told → IsValid (stepped m told)
   steps_stand told fit =
       let same = settings_stable m.call told in
@@ -82,7 +82,7 @@ module _ (m : Machine) (stands : IsValid m) where
     phase = tt;
   }
 
-  -- it goes on in the next table
+  -- it continues in the next table
   goes_stand : (helped : Bool) (aim : Aim) (next : ℕ) → IsValid (goes_on m helped aim next)
   goes_stand false aim next = record { call = stands.call; chunked = stands.chunked; initial = stands.initial; phase = tt }
   goes_stand true (aims.Settle slot) next = in_phase _ tt
@@ -98,7 +98,7 @@ module _ (m : Machine) (stands : IsValid m) where
   grows_stand (Incremental chunk) need next = cond_both (next == 0) (record m { phase = Linking (links.Sizing (needed need) (needed need) false) })
       (onward m next) IsValid (λ _. in_phase _ tt) (λ _. onward_stand next)
 
-  -- it was told the number of the next table
+  -- it received the number of the next table
   leaves_stand : (task : Task) (next : ℕ) → IsValid (leaves m task next)
   leaves_stand Get next = steps_stand (Word_read next) tt
   leaves_stand task next = cond_both (next == 0) (stepped m (Word_read next)) (onward m next) IsValid (λ _. steps_stand (Word_read next) tt)
@@ -113,7 +113,7 @@ module _ (m : Machine) (stands : IsValid m) where
   called_stand (Word_read word) fit = next_stand m.call.state word
   called_stand told fit = steps_stand told fit
 
-  -- the making of a table, or the copy of the root, led here
+  -- the state after the making of a table, or after the copy of the root
   linked_stand : (end : Linked) → IsValidLinked end → IsValid (after_linked m end)
   linked_stand (linked.On link) is = in_phase (Linking link) is
   linked_stand (linked.Table table) is = onward_stand table
@@ -135,7 +135,7 @@ module _ (m : Machine) (stands : IsValid m) where
   after_stand answer fit (Copying_root copying) is = copied_stand (copying_after copying m.call.mode m.call.initial m.number answer)
       (copying_stands copying m.call.mode m.call.initial m.number answer stands.initial fit is)
 
-  -- it stands after an answer
+  -- it is valid after an answer
   pub chain_stands : (answer : Answer) → IsFit answer → IsValid (after m answer)
   chain_stands answer fit = after_stand answer fit m.phase stands.phase
 
@@ -153,7 +153,7 @@ wanted_stands : (limit : Option ℕ) → IsNumber (wanted limit)
 wanted_stands None = tt
 wanted_stands (Some most) = tt
 
--- a call that begins stands
+-- a call that begins is valid
 pub started_stands : (task : Task) (hash : ℕ) (mode : ResizeMode) (initial number : ℕ) (limit : Option ℕ) → IsLimit limit → IsChunked mode
     → IsPowerOfTwo initial → IsValid (started task hash mode initial number limit)
 started_stands task hash mode initial number limit fits chunked

@@ -1,4 +1,4 @@
--- What the carry of a marked pair relies on after each answer.
+-- The facts that the move of a marked pair relies on after each answer.
 use Rattle.std.proofs.Common.{◌≡◌, inl, ⊎_elim, ℕ, suc, ◌+◌, ◌%◌, ◌<◌, ◌≤◌, ◌==◌, nat_lt, ltb-true}
 use Rattle.std.proofs.Common.{ltb-false, Bool, true, false, Option, Some, refl, sym, ap, ◌∙◌, subst}
 use Rattle.std.proofs.Common.{arith, eq-eqb}
@@ -51,7 +51,7 @@ use Rattle.papaya_call_law.proofs.CopierGuarantee.{compared_no, compared_yes, pa
 pub above : (n : ℕ) → (n == 0) ≡ false → 0 < n
 above n e = ⊎_elim (λ (lt : 0 < n). lt) (λ (le : n ≤ 0). let z : n ≡ 0 = omega (arith, le) in absurd (let y = eq-eqb n 0 z in cc (y, e))) (cases_lt 0 n)
 
--- what makes a table loads nothing
+-- the making of a table loads nothing
 pub no_load : (link : Link) (at : At) → link_ask link ≡ Load at → ⊥
 no_load (links.Sizing behind copied unfit) at e = cc e
 no_load (links.Measuring behind copied unfit len) at e = cc e
@@ -59,7 +59,7 @@ no_load (links.Counting behind unfit len copied) at e = cc e
 no_load (links.Making behind len limit chunks) at e = cc e
 no_load (links.Linking behind table chunks) at e = cc e
 
--- what it exchanges is a next table
+-- it exchanges a next table
 pub links_next : (link : Link) (at : At) (old new : ℕ) → link_ask link ≡ Ask_exchange at old new → (t : ℕ) × (at ≡ Next t)
 links_next (links.Sizing behind copied unfit) at old new e = absurd cc
 links_next (links.Measuring behind copied unfit len) at old new e = absurd cc
@@ -113,7 +113,7 @@ module _ {K P : Type 0} (g : Setting K P) (c : Coding K P) (hashed : IsHashed g 
 
   module _ (last : Option P) (hash : ℕ) (at : Place) (here : g.blocking ≡ true → at.table ≡ slot.to) (k : kept ≡ Some p) (f : IsFor g c s p hash at)
       (put : IsPutting g s slot.from slot.index p at.table at.probe.len) where
-    -- what the key sees at the place is what stands there
+    -- a search of the key sees at the place the word that is there
     sees : (w : Word P) → s.slot at.table at.probe.i ≡ w → look g s (g.key p) at.table at.probe.len ≡ view g (g.key p) w
     sees w e = ap (view g (g.key p)) (ap (s.slot at.table) (sym f.slot) ∙ e)
 
@@ -184,14 +184,14 @@ module _ {K P : Type 0} (g : Setting K P) (c : Coding K P) (hashed : IsHashed g 
     by_kind (Copied q) e = compares (Copied q) q e refl
     by_kind (Buried q) e = compares (Buried q) q e refl
 
-    -- what the word that stands there tells
+    -- by the word that is there
     looks : ReliesCarried g c s (or_last (named (s.slot at.table at.probe.i)) last) kept slot word
         (look_word hash at mode (code g c (s.slot at.table at.probe.i)))
     looks =
         let w : Word P = s.slot at.table at.probe.i in
         subst (λ y. ReliesCarried g c s (or_last (named w) last) kept slot word (look_at y hash at mode (code g c w))) (sym (code_kind g c w)) (by_kind w refl)
 
-    -- what a hint that may be there tells
+    -- by a hint that may be there
     hints : (n : ℕ) → IsHint g c s at.table at.probe.i n → ReliesCarried g c s last kept slot word (hinted hash at mode n)
     hints n is =
         cond_both (may_hold n hash) (carried.On (carries.Reading hash at)) (goes_on hash at mode) (ReliesCarried g c s last kept slot word)
@@ -217,7 +217,7 @@ module _ {K P : Type 0} (g : Setting K P) (c : Coding K P) (hashed : IsHashed g 
     );
   }
 
-  -- the making of the next table leads on
+  -- the move continues after the making of the next table
   pub leads_on : (last : Option P) (hash table : ℕ) → g.blocking ≡ false → kept ≡ Some p → hash ≡ c.hash (g.key p)
       → IsPutting g s slot.from slot.index p table (g.places table) → (l : Linked) → ReliesLinked g c s last kept table l
       → ReliesCarried g c s last kept slot word (carried_on hash l)
@@ -311,7 +311,7 @@ module _ {K P : Type 0} (g : Setting K P) (c : Coding K P) (hashed : IsHashed g 
     carry_noted (carries.Linking hash link) here r t x n e = absurd (no_note link t x n e)
     carry_noted (carries.Aborting table) here r t x n e = absurd cc
 
-    -- the hash of the pair last told of, which is carried from now on
+    -- the hash of the pair last loaded, which is moved from now on
     pub carry_hashed : (carry : Carry) → (g.blocking ≡ true → carried_to carry ≡ slot.to) → ReliesCarry g c s last kept slot p carry → (n : ℕ)
         → carry_ask carry word ≡ HashOf n → (q : P) → last ≡ Some q → IsCarrying g c s last last slot word (at_hash carry (c.hash (g.key q)))
     carry_hashed (carries.Hashing table) here r n e q told =

@@ -1,4 +1,4 @@
--- What a call that copies relies on after each answer, and what it names.
+-- The facts that a call that copies relies on after each answer, and the words that it names.
 use Rattle.std.proofs.Common.{◌≡◌, inl, ℕ, ◌+◌, ◌<◌, ◌==◌, ◌||◌, true, cond, Option, Some, refl, sym, ap, ◌∙◌, subst, eqb-true}
 use Rattle.std.proofs.lemmas.Bool.{cond_both}
 use Rattle.papaya_words.specs.Word.{pair_of}
@@ -74,7 +74,7 @@ use Rattle.papaya_call_law.proofs.CopierSteps.{step_exchanged, step_found, step_
 use Rattle.papaya_call_law.proofs.CopierSteps.{step_loaded, step_made, step_noted, step_refused}
 use Rattle.papaya_call_law.proofs.CopierSteps.{step_sized}
 
--- it copies for the same still
+-- it still copies for the same purpose
 same_aim : (aim : Aim) → IsStillAimed aim aim
 same_aim (aims.Search table) = refl
 same_aim (aims.Settle slot) = refl
@@ -96,7 +96,7 @@ module _ {K P : Type 0} (g : Setting K P) (c : Coding K P) (s : State P) (m : K 
   further_on aims.Chunk r chunk h = refl
   further_on (aims.All met) r chunk h = ((met, refl), (tt, (h, tt)))
 
-  -- the root has no next table, so it is the root still
+  -- the root has no next table, so it is still the root
   last_on : (aim : Aim) → ReliesAim g c s last kept aim → (t : ℕ) → s.was_root t ≡ true → s.next t ≡ 0 → ReliesCopied g c s last kept aim (last_of aim t)
   last_on (aims.Search table) r t was none = refl
   last_on (aims.Settle slot) r t was none = (refl, (r, tt))
@@ -131,7 +131,7 @@ module _ {K P : Type 0} (g : Setting K P) (c : Coding K P) (s : State P) (m : K 
       (λ e. (is ∙ eqb-true t 0 e, (met, refl)))
       (λ e. all_on how met t is (above t e))
 
-  -- the copy of a chunk leads on
+  -- the copy of a chunk continues
   leads_to : (how : ResizeMode) (aim : Aim) → ReliesAim g c s last kept aim → (end : Stepped) → ReliesStepped g c s last kept end
       → ReliesCopied g c s last kept aim (leads aim how end)
   leads_to how aim r (stepped.On step) h = (same_aim aim, (r, h))
@@ -151,7 +151,7 @@ module _ {K P : Type 0} (g : Setting K P) (c : Coding K P) (s : State P) (m : K 
 
 module _ {K P : Type 0} (g : Setting K P) (c : Coding K P) (hashed : IsHashed g c) (s : State P) (m : K → Option P) (keeps : IsKeeping g s m)
     (mode : ResizeMode) (moded : IsModeOf mode g.blocking) (last kept : Option P) where
-  -- what is known of the lone slot
+  -- the facts about the lone slot
   known : (slot : SlotToCopy) → IsMoving g c s slot → IsKnown g c hashed s m keeps slot
   known slot r = moving_known g c hashed s m keeps slot r
 
@@ -273,7 +273,7 @@ module _ {K P : Type 0} (g : Setting K P) (c : Coding K P) (hashed : IsHashed g 
 
 module _ {K P : Type 0} (g : Setting K P) (c : Coding K P) (hashed : IsHashed g c) (s : State P) (m : K → Option P) (keeps : IsKeeping g s m)
     (last kept : Option P) where
-  -- what the making of a table names
+  -- the making of a table names words that are there
   pub link_there : (link : Link) → ReliesLink g c s link → AreThere g c s last kept (link_ask link)
   link_there (links.Sizing behind copied unfit) r = r.on
   link_there (links.Measuring behind copied unfit len) r = subst (IsOn s.first s.next) (sym r.measures)

@@ -1,4 +1,4 @@
--- What a copier relies on while it loads the words of a table's chunks one after another.
+-- The facts that a copier relies on while it loads the words of a table's chunks one after another.
 use Rattle.std.proofs.Common.{◌≡◌, ◌⊎◌, inl, inr, ⊎_elim, ℕ, ◌+◌, ◌-◌, ◌*◌, ◌%◌, ◌<◌, ◌≤◌, ◌&&◌}
 use Rattle.std.proofs.Common.{nat_lt, nat_le, not, ltb-true, ltb-false, leb-true, Bool, true, false}
 use Rattle.std.proofs.Common.{cond, Option, refl, sym, ap, ◌∙◌, subst, arith}
@@ -17,7 +17,7 @@ use Rattle.papaya_words_law.specs.Meaning.{IsLawful}
 use Rattle.papaya_call_law.specs.Copier.{IsAllDone, IsChunk, IsCursor, IsPassedBy, IsSource, ReliesStep}
 use Rattle.papaya_call_law.specs.Relies.{IsCutAs}
 
--- where no chunk is left, this one is the last, or the cursor is back at its first
+-- if no chunk is left, this one is the last, or the cursor is back at its first
 not_further : (a wrapped b : Bool) → (a && not (wrapped && b)) ≡ false → (a ≡ false) ⊎ ((wrapped ≡ true) × (b ≡ true))
 not_further false wrapped b e = inl refl
 not_further true true true e = inr (refl, refl)
@@ -41,7 +41,7 @@ passed_next true start at chunk (inl h) = inl (inl h)
 passed_next true start at chunk (inr h) = ⊎_elim (λ (lt : chunk < at). inl (inr lt)) (λ (le : at ≤ chunk). inr (omega (arith, h, le))) (cases_lt chunk at)
 passed_next false start at chunk (low, h) = ⊎_elim (λ (lt : chunk < at). inl (low, lt)) (λ (le : at ≤ chunk). inr (omega (arith, h, le))) (cases_lt chunk at)
 
--- one that was passed by, where the cursor did not come round, or did
+-- one that was passed by, whether the cursor came round or not
 passed_straight : (cursor : Cursor) (chunk : ℕ) → cursor.wrapped ≡ false → cursor.start ≤ chunk → chunk < cursor.at → IsPassedBy cursor chunk
 passed_straight cursor chunk is low lt =
     subst (λ w. MatchBool w ((cursor.start ≤ chunk) ⊎ (chunk < cursor.at)) ((cursor.start ≤ chunk) × (chunk < cursor.at))) (sym is) (low, lt)
@@ -51,7 +51,7 @@ passed_round cursor chunk is h = subst (λ w.
     MatchBool w ((cursor.start ≤ chunk) ⊎ (chunk < cursor.at)) ((cursor.start ≤ chunk) × (chunk < cursor.at))) (sym is) h
 
 module _ {K P : Type 0} (g : Setting K P) (c : Coding K P) (s : State P) where
-  -- the chunk at which the cursor stands
+  -- the chunk that the cursor is at
   pub chunk_begins : (cursor : Cursor) → IsCursor g c s cursor → IsChunk g c s (chunk_at cursor)
   chunk_begins cursor r = record {
     cursor = r;
@@ -68,7 +68,7 @@ module _ {K P : Type 0} (g : Setting K P) (c : Coding K P) (s : State P) where
         let b = r.begun in omega (arith, lt, low, b));
   }
 
-  -- where no chunk comes after this one
+  -- if no chunk comes after this one
   last_chunk : (cursor : Cursor) → IsCursor g c s cursor → nat_lt cursor.slots (cursor.len - cursor.begun) ≡ false → (x : ℕ) → x < g.size cursor.from
       → g.chunk_of x ≤ cursor.at
   last_chunk cursor r e x lt =
@@ -163,7 +163,7 @@ module _ {K P : Type 0} (g : Setting K P) (c : Coding K P) (s : State P) where
           done_below x lt (λ less. passed_straight cursor (g.chunk_of x) h.0 (omega (arith, low)) less) (last_chunk cursor r none x lt))
           (not_round cursor.wrapped (nat_lt 0 cursor.start) f)
 
-      -- the cursor goes on, or all chunks are copied
+      -- the cursor continues, or all chunks are copied
       pub next_relies : ReliesStep g c s last kept (next_cursor cursor)
       next_relies =
           cond_both (is_further cursor) (steps.AtChunk (next_chunk cursor))

@@ -47,31 +47,31 @@ use Rattle.papaya_call_law.specs.Copier.{link_in_step}
 use Rattle.papaya_call_law.specs.TrueAnswers.{IsWritten, word_of}
 use Rattle.papaya_call_law.proofs.CopierGuarantee.{advances, aborts, finishes, links_on, places, promotes, root_on}
 
--- what was put there stands there
+-- a value that was put at an argument is there
 pub put_here : {Y : Type 0} → (f : ℕ → Y) (a : ℕ) (y : Y) → at_put f a y a ≡ y
 put_here f a y = cond-true (a == a) y (f a) (eq-eqb a a refl)
 
--- and elsewhere what stood before
+-- and at each other one the previous value
 put_other : {Y : Type 0} → (f : ℕ → Y) (a : ℕ) (y : Y) (b : ℕ) → (b ≡ a → ⊥) → at_put f a y b ≡ f b
 put_other f a y b different = ⊎_elim (λ e. absurd (different (eqb-true b a e))) (λ e. cond-false (b == a) y (f b) e) (cases_Bool (b == a))
 
--- what is said of a chunk is so
+-- a chunk that was marked as done is done
 pub done_here : (f : ℕ → ℕ → Bool) (n d : ℕ) → done_put f n d n d ≡ true
 done_here f n d = cond-true ((n == n) && (d == d)) true (f n d) (ap (λ b. b && (d == d)) (eq-eqb n n refl) ∙ eq-eqb d d refl)
 
--- and of no other
+-- and no other is marked by it
 done_other : (f : ℕ → ℕ → Bool) (n d u b : ℕ) → ((u ≡ n) × (b ≡ d) → ⊥) → done_put f n d u b ≡ f u b
 done_other f n d u b different = ⊎_elim
     (λ (e : ((u == n) && (b == d)) ≡ true). let parts = and_parts (u == n) (b == d) e in absurd (different (eqb-true u n parts.0, eqb-true b d parts.1)))
     (λ (e : ((u == n) && (b == d)) ≡ false). cond-false ((u == n) && (b == d)) true (f u b) e)
     (cases_Bool ((u == n) && (b == d)))
 
--- a table whose word is 0 was not given up, nor is a chunk done
+-- a table whose word is 0 was not given up, and a chunk whose word is 0 is not done
 pub aborted_none : (b : Bool) (w : ℕ) → w ≡ cond b 1 0 → w ≡ 0 → b ≡ false
 aborted_none true w e none = absurd (omega (arith, e, none))
 aborted_none false w e none = refl
 
--- one whose word is another was, or is
+-- a table whose word is not 0 was given up, and a chunk whose word is not 0 is done
 pub aborted_some : (b : Bool) (w : ℕ) → w ≡ cond b 1 0 → (w ≡ 0 → ⊥) → b ≡ true
 aborted_some true w e some = refl
 aborted_some false w e some = absurd (some e)
@@ -135,7 +135,7 @@ module _ {K P : Type 0} (g : Setting K P) (c : Coding K P) (s : State P) where
       others (Slot_word u y) different = refl
 
 module _ {K P : Type 0} (g : Setting K P) (c : Coding K P) (hashed : IsHashed g c) where
-  -- the number of the pair that is carried
+  -- the number of the pair that is moved
   pub carried_number : (p : P) (word : ℕ) → word ≡ code g c (Marked p) → pair_of word ≡ c.number p
   carried_number p word e = ap pair_of e ∙ code_pair g c hashed.coding (Marked p) p refl
 
@@ -154,7 +154,7 @@ module _ {K P : Type 0} (g : Setting K P) (c : Coding K P) (hashed : IsHashed g 
   live_pair p word e = sym (code_pair g c hashed.coding (Live p) p refl) ∙ ap pair_of (live_of p word e)
 
   module _ (s : State P) (m : K → Option P) (keeps : IsKeeping g s m) where
-    -- what a copier knows of a slot
+    -- the facts about a slot that a copier relies on
     pub record IsKnown (slot : SlotToCopy) : Type 0 where
       pub on : IsOn s.first s.next slot.from
       pub within : slot.index < g.size slot.from
@@ -174,7 +174,7 @@ module _ {K P : Type 0} (g : Setting K P) (c : Coding K P) (hashed : IsHashed g 
       abbrev pub MayDo : Option StepKind → At → (old new : ℕ) → Type 0
       MayDo kind at old new = word_of g c s at ≡ old → (e : Exchange P) × IsCopyAsked c kind at new s kept e × Allows g s e × IsWritten g c s at new (after s e)
 
-      -- what an ask says is one thing
+      -- an ask has one kind, place and words
       same_ask : (kind : Option StepKind) (at at' : At) (old old' new new' : ℕ) → Ask_exchange at old new ≡ Ask_exchange at' old' new'
           → MayDo kind at old new → MayDo kind at' old' new'
       same_ask kind at at' old old' new new' e h =
@@ -222,12 +222,12 @@ module _ {K P : Type 0} (g : Setting K P) (c : Coding K P) (hashed : IsHashed g 
             aborted_written g c s table,
           ))
 
-      -- a slot that is known is shut where it is Empty or Live
+      -- the table of such a slot was the root, if the slot is neither Marked nor Copied
       shut_was : (slot : SlotToCopy) → IsKnown slot → ((p : P) → (s.slot slot.from slot.index ≡ Marked p) ⊎ (s.slot slot.from slot.index ≡ Copied p) → ⊥)
           → s.was_root slot.from ≡ true
       shut_was slot known other = ⊎_elim (λ w. w) (λ h. absurd (other h.0 h.1)) known.shut
 
-      -- it is shut, marked or finished
+      -- sealing, marking or finishing it is allowed
       settle_may : (slot : SlotToCopy) → IsKnown slot → (settle : Settle) → ReliesSettle g c s last kept slot settle → HasWords g (link_in_settle settle)
           → (at : At) (old new : ℕ) → settle_ask settle slot ≡ Ask_exchange at old new → MayDo (settle_kind settle) at old new
       settle_may slot known settles.Looking r words at old new e = absurd cc
@@ -308,13 +308,13 @@ module _ {K P : Type 0} (g : Setting K P) (c : Coding K P) (hashed : IsHashed g 
             root_written g c s s.root to,
           ))
 
-      -- whatever a call copies for
+      -- for each purpose of a copy
       pub copying_may : (copying : Copying) → ReliesCopying g c s last kept copying → HasWords g (link_in_copying copying) → (at : At) (old new : ℕ)
           → copying_ask copying ≡ Ask_exchange at old new → MayDo (copying_kind copying) at old new
       copying_may (copyings.Stepping aim step) r words at old new e = step_may step r.1 words at old new e
       copying_may (copyings.Lone slot settle) r words at old new e = settle_may slot (moving_known slot r.0) settle r.1 words at old new e
 
--- there is one exchange that is asked for
+-- an ask determines one exchange
 pub one_asked : {K P : Type 0} → (c : Coding K P) (kind : Option StepKind) (at : At) (new : ℕ) (s : State P) (kept : Option P) (e e' : Exchange P)
     → IsCopyAsked c kind at new s kept e → IsCopyAsked c kind at new s kept e' → e ≡ e'
 one_asked c (Some kinds.Link) (Next t) new s kept e e' a b = a ∙ sym b
@@ -330,7 +330,7 @@ one_asked c (Some kinds.Promote) Root new s kept e e' a b = a ∙ sym b
 one_asked c (Some kinds.Abort) (Aborted n) new s kept e e' a b = a ∙ sym b
 one_asked c _ _ new s kept e e' a b = absurd a
 
--- so what is asked for is allowed
+-- so the exchange that is asked for is allowed
 pub asked_allowed : {K P : Type 0} → (g : Setting K P) (c : Coding K P) (hashed : IsHashed g c) (s : State P) (m : K → Option P)
     (keeps : IsKeeping g s m) (last kept : Option P) (copying : Copying) → ReliesCopying g c s last kept copying
     → HasWords g (link_in_copying copying) → (at : At) (old new : ℕ) → copying_ask copying ≡ Ask_exchange at old new → word_of g c s at ≡ old

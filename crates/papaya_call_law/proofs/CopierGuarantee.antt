@@ -1,5 +1,5 @@
--- What a copier asks for is allowed if its old word is there, and what it may rely on after each
--- answer.
+-- An exchange that a copier asks for is allowed if its old word is there; and the facts that it may
+-- rely on after each answer.
 use Rattle.std.proofs.Common.{◌≡◌, inl, ⊎_elim, ℕ, suc, ◌<◌, ◌≤◌, true, false, Option, ap, ◌∙◌, sym, subst, arith}
 use Rattle.std.proofs.lemmas.Bool.{cases_lt}
 use Rattle.papaya_words.proofs.ChunkLemmas.{chunk_first}
@@ -68,7 +68,7 @@ module _ {K P : Type 0} (g : Setting K P) (c : Coding K P) (s : State P) (m : K 
   pub promotes : (from to : ℕ) → IsSource g c s from to → IsAllDone g c s from to → s.root ≡ from → Allows g s (Promote from to)
   promotes from to r whole e = record { root = e; made = (root_on from r.was).0; target = r.target; whole = whole }
 
-  -- the word that stands is the marked one of the pair that was carried
+  -- the word that is there is the marked one of the pair that was moved
   pub finishes : (slot : SlotToCopy) (word : ℕ) (q : P) → HasCarried g c s slot word → g.blocking ≡ false → s.slot slot.from slot.index ≡ Marked q
       → Allows g s (Finish slot.from slot.index q)
   finishes slot word q r inc e =
@@ -88,11 +88,11 @@ module _ {K P : Type 0} (g : Setting K P) (c : Coding K P) (s : State P) (m : K 
         → Allows g s (Abort table)
     aborts table r blocks e = may_abort g s slot.from slot.index p table r.2 blocks e
 
-  -- a carry begins where the mark stands
+  -- a move begins where the mark is
   pub begins : (from n x : ℕ) (p : P) → IsSource g c s from n → s.slot from x ≡ Marked p → IsPutting g s from x p n 0
   begins from n x p r e = record { stood = inl e; taker = target_takes g s (g.key p) from n r.target; before = λ i lt. absurd (omega arith) }
 
-  -- and goes on behind a full table
+  -- and continues behind a full table
   pub passes : (from x : ℕ) (p : P) (n : ℕ) → IsPutting g s from x p n (g.places n) → g.blocking ≡ false → 0 < s.next n → IsPutting g s from x p (s.next n) 0
   passes from x p n r inc some = put_next g s from x p n r inc some
 
@@ -114,7 +114,7 @@ module _ {K P : Type 0} (g : Setting K P) (c : Coding K P) (s : State P) (m : K 
     compared_no other = subst (λ x. foreign (view g (g.key p) (s.slot at.table x)) ≡ true) f.slot
         (compared_foreign g law (g.key p) h.was (s.slot at.table at.probe.i) h.pair h.became h.names other)
 
-    -- or the key of the one that is carried
+    -- or the key of the one that is moved
     pub compared_yes : g.same (g.key p) (g.key h.pair) ≡ true → HasWord g.places (look g s (g.key p)) at.table
     compared_yes same = (
       at.probe.len,
@@ -123,7 +123,7 @@ module _ {K P : Type 0} (g : Setting K P) (c : Coding K P) (s : State P) (m : K 
           (compared_own g law (g.key p) h.was (s.slot at.table at.probe.i) h.pair h.became h.names same),
     )
 
-  -- with blocking a slot whose pair came to the target is settled
+  -- with blocking a slot whose pair was moved to the target is migrated
   pub settled_blocking : (slot : SlotToCopy) (word : ℕ) (r : HasCarried g c s slot word) → r.table ≡ slot.to → g.blocking ≡ true
       → IsSettled g s slot.to (s.slot slot.from slot.index)
   settled_blocking slot word r is blocks =

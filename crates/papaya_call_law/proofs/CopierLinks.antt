@@ -1,4 +1,4 @@
--- What the making of a next table relies on after each answer.
+-- The facts that the making of a next table relies on after each answer.
 use Rattle.std.proofs.Common.{◌≡◌, ℕ, ◌<◌, ◌^◌, ◌==◌, eqb-true, nat_le, Some, Option, refl, sym, ap, ◌∙◌, subst, arith}
 use Rattle.std.proofs.lemmas.Bool.{cond_both}
 use Rattle.papaya_words.proofs.ChunkLemmas.{chunk_counted, chunk_some}

@@ -1,4 +1,4 @@
--- What the copy of a slot relies on after each answer.
+-- The facts that the copy of a slot relies on after each answer.
 use Rattle.std.proofs.Common.{◌≡◌, inl, inr, ℕ, ◌+◌, ◌<◌, true, Option, Some, [], ◌∷◌, refl, sym, ap, ◌∙◌, subst, arith}
 use Rattle.std.proofs.lemmas.Bool.{cond-true}
 use Rattle.papaya_words.specs.Word.{shut_hint}
@@ -58,7 +58,7 @@ use Rattle.papaya_call_law.proofs.CopierLinks.{link_exchanged}
 use Rattle.papaya_call_law.proofs.CopierGuarantee.{settled_blocking, settled_incremental}
 use Rattle.papaya_call_law.proofs.CopierStable.{carry_stable}
 
--- an exchange of a next table tells of no pair
+-- an exchange of a next table concerns no pair
 pub link_last : {K P : Type 0} → (c : Coding K P) (s : State P) (last kept : Option P) (link : Link) (at : At) (old new : ℕ)
     → link_ask link ≡ Ask_exchange at old new → (e : Exchange P) → IsCopyAsked c (link_kind link) at new s kept e → last_after e last ≡ last
 link_last c s last kept (links.Sizing behind copied unfit) at old new q e asked = absurd cc
@@ -90,7 +90,7 @@ module _ {K P : Type 0} (g : Setting K P) (c : Coding K P) (hashed : IsHashed g 
     still_on = on_run g hashed.lawful (e ∷ []) s m keeps (may, tt)
 
     module _ (last kept : Option P) (slot : SlotToCopy) (word : ℕ) (p : P) (marked : word ≡ code g c (Marked p)) (on : IsOn s.first s.next slot.from) where
-      -- the exchange of a carry was made
+      -- the exchange of a move was made
       pub carry_exchanged : (carry : Carry) → (g.blocking ≡ true → carried_to carry ≡ slot.to) → ReliesCarry g c s last kept slot p carry
           → (at : At) (old new : ℕ) → carry_ask carry word ≡ Ask_exchange at old new → IsCopyAsked c (carry_kind carry) at new s kept e
           → ReliesCarried g c s' (last_after e last) kept slot word (carry_at_exchanged carry)
@@ -142,7 +142,7 @@ module _ {K P : Type 0} (g : Setting K P) (c : Coding K P) (hashed : IsHashed g 
           let by : e ≡ Abort table = subst (λ a. IsCopyAsked c (Some kinds.Abort) a new s kept e) (sym is) asked in
           (here r.0, r.0, subst (λ y. (after s y).aborted table ≡ true) (sym by) (put_here s.aborted table true))
 
-  -- the carry of the pair of a marked word leads on
+  -- the move of the pair of a marked word continues
   pub by_carried : (how : ResizeMode) → IsModeOf how g.blocking → (last kept : Option P) (slot : SlotToCopy) (word : ℕ) (end : Carried)
       → ReliesCarried g c s last kept slot word end → ReliesSettled g c s last kept slot (settled_by word how end)
   by_carried how is last kept slot word (carried.On carry) r = r
@@ -152,7 +152,7 @@ module _ {K P : Type 0} (g : Setting K P) (c : Coding K P) (hashed : IsHashed g 
   by_carried how is last kept slot word (carried.Refused refused) r = tt
 
   module _ (slot : SlotToCopy) (target : IsTarget g s slot.from slot.to) where
-    -- a pair that stands marked is to be carried
+    -- a pair that is marked is to be moved
     pub to_carry : (last kept : Option P) (p : P) → s.slot slot.from slot.index ≡ Marked p → last ≡ Some p → (word : ℕ) → word ≡ code g c (Marked p)
         → IsCarrying g c s last kept slot word (carries.Hashing slot.to)
     to_carry last kept p e told word is = record {
@@ -171,7 +171,7 @@ module _ {K P : Type 0} (g : Setting K P) (c : Coding K P) (hashed : IsHashed g 
     by_kind last kept (Copied p) e = subst (IsSettled g s slot.to) (sym e) tt
     by_kind last kept (Buried p) e = subst (IsSettled g s slot.to) (sym e) tt
 
-    -- what the word that stands there tells
+    -- by the word that is there
     looks : (last kept : Option P) → ReliesSettled g c s (or_last (named (s.slot slot.from slot.index)) last) kept slot
         (look_word slot (code g c (s.slot slot.from slot.index)))
     looks last kept =
@@ -203,7 +203,7 @@ module _ {K P : Type 0} (g : Setting K P) (c : Coding K P) (hashed : IsHashed g 
         (carry_hinted g c hashed s m keeps mode moded kept slot word r.pair r.marked known.on last carry r.here r.relies t x e n is)
     settle_hinted (settles.Finishing word) r t x e n is = absurd cc
 
-    -- the hint of a slot that was shut says so
+    -- the hint of a slot that was sealed states so
     pub settle_noted : (settle : Settle) → ReliesSettle g c s last kept slot settle → (t x n : ℕ) → settle_ask settle slot ≡ WriteHint t x n
         → IsHint g c s t x n × ReliesSettled g c s last kept slot (at_ok settle mode)
     settle_noted settles.Looking r t x n e = absurd cc

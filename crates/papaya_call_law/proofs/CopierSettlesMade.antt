@@ -1,4 +1,4 @@
--- What the copy of a slot relies on after an exchange that succeeded.
+-- The facts that the copy of a slot relies on after an exchange that succeeded.
 use Rattle.std.proofs.Common.{◌≡◌, ℕ, Option, Some, refl, sym, ap, ◌∙◌, subst}
 use Rattle.papaya_words.specs.declared.resize_mode.ResizeMode.{ResizeMode}
 use Rattle.papaya_call.specs.declared.ask.At.{At}

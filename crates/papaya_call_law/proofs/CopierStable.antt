@@ -1,4 +1,4 @@
--- What a copier relies on stays true, whatever is exchanged.
+-- The facts that a copier relies on stay true, whatever is exchanged.
 use Rattle.std.proofs.Common.{◌≡◌, ◌⊎◌, inl, inr, ⊎_elim, ℕ, Option, subst}
 use Rattle.papaya_words.specs.Word.{hint_of}
 use Rattle.papaya_words_law.specs.Class.{IsOn}
@@ -105,7 +105,7 @@ module _ {K P : Type 0} (g : Setting K P) (c : Coding K P) (hashed : IsHashed g 
   for_stable : (p : P) (hash : ℕ) (at : Place) → IsFor g c s p hash at → IsFor g c s' p hash at
   for_stable p hash at f = record { hashed = f.hashed; len = f.len; limit = f.limit; slot = f.slot; within = f.within }
 
-  -- it stands where it was put, and its hint is its own
+  -- it is where it was put, and its hint is its own
   placed_stable : (slot : SlotToCopy) (p : P) (hash : ℕ) (at : Place) → HasPlaced g c s slot p hash at → HasPlaced g c s' slot p hash at
   placed_stable slot p hash at r = record {
     fits = for_stable p hash at r.fits;
@@ -159,7 +159,7 @@ module _ {K P : Type 0} (g : Setting K P) (c : Coding K P) (hashed : IsHashed g 
     stood = stood_stable slot.from slot.index r.pair r.stood;
   }
 
-  -- whatever step the copy is at
+  -- for each step of the copy
   pub step_stable : (step : Step) → ReliesStep g c s last kept step → ReliesStep g c s' last kept step
   step_stable steps.AtRoot r = tt
   step_stable (steps.Aiming from behind) r = aimed_stable from behind r

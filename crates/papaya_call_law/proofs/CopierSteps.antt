@@ -1,4 +1,4 @@
--- What the copy of a chunk relies on after each answer.
+-- The facts that the copy of a chunk relies on after each answer.
 use Rattle.std.proofs.Common.{◌≡◌, cond, inl, inr, ⊎_elim, ℕ, ◌+◌, ◌<◌, ◌≤◌, ◌==◌, nat_lt, not}
 use Rattle.std.proofs.Common.{ltb-true, ltb-false, true, Option, Some, refl, sym, ap, ◌∙◌, subst}
 use Rattle.std.proofs.Common.{arith, eq-eqb, eqb-true}
@@ -61,7 +61,7 @@ use Rattle.papaya_call_law.proofs.CopierSettlesMade.{settle_exchanged}
 use Rattle.papaya_call_law.proofs.CopierStable.{step_stable}
 
 module _ {K P : Type 0} (g : Setting K P) (c : Coding K P) (hashed : IsHashed g c) (s : State P) (m : K → Option P) (keeps : IsKeeping g s m) where
-  -- the table behind is one to which copies go, or went
+  -- the table behind is, or was, a target of copies
   aimed_target : (from behind next : ℕ) → IsAimed g c s from behind → s.next behind ≡ next → 0 < next → IsTarget g s from next
   aimed_target from behind next r is some =
       let more : 0 < s.next behind = subst (λ y. 0 < y) (sym is) some in
@@ -84,14 +84,14 @@ module _ {K P : Type 0} (g : Setting K P) (c : Coding K P) (hashed : IsHashed g 
       (let a = r.at in let b = r.within in let d = r.cursor.len in omega (arith, a, b, d))
 
   module _ (last kept : Option P) where
-    -- the making of a table leads on
+    -- the copy continues after the making of a table
     linked_on : (from behind : ℕ) → g.blocking ≡ true → IsAimed g c s from behind → (l : Linked) → ReliesLinked g c s last kept behind l
         → ReliesStepped g c s last kept (linked_to from l)
     linked_on from behind blocks r (linked.On link) h = (blocks, subst (λ y. IsAimed g c s from y) (sym h.0) r, h.1)
     linked_on from behind blocks r (linked.Table table) h = (blocks, record { was = r.was; target = aimed_target from behind table r h.0 h.1 })
     linked_on from behind blocks r (linked.Refused refused) h = tt
 
-    -- the copy of a slot leads on
+    -- the copy continues after the copy of a slot
     settled_on : (chunk : Chunk) → IsChunk g c s chunk → (end : Settled) → ReliesSettled g c s last kept (slot_of chunk) end
         → ReliesStepped g c s last kept (settled_to chunk end)
     settled_on chunk r (settled.On settle) h = (r, h)
@@ -131,7 +131,7 @@ module _ {K P : Type 0} (g : Setting K P) (c : Coding K P) (hashed : IsHashed g 
         (λ e. chunk_begins g c s cursor r)
         (λ e. (chunk_begins g c s cursor r, tt)))
 
-    -- the chunk is copied, and its word says so
+    -- the chunk is copied, and its word states so
     advances_on : (cursor : Cursor) → IsCursor g c s cursor → s.done cursor.to cursor.at ≡ true → ReliesStepped g c s last kept (advanced cursor)
     advances_on cursor r done = next_relies g c s last kept (record cursor { copied = true })
         (record { source = r.source; len = r.len; some = r.some; cut = r.cut; begun = r.begun; within = r.within; done = r.done }) done
@@ -333,7 +333,7 @@ module _ {K P : Type 0} (g : Setting K P) (c : Coding K P) (hashed : IsHashed g 
 
 module _ {K P : Type 0} (g : Setting K P) (c : Coding K P) (hashed : IsHashed g c) (s : State P) (m : K → Option P) (keeps : IsKeeping g s m)
     (mode : ResizeMode) (moded : IsModeOf mode g.blocking) (e : Exchange P) (may : Allows g s e) (last kept : Option P) where
-  -- the exchange was made, and what was relied on stays so
+  -- the exchange was made, and the facts that were relied on stay true
   pub step_exchanged : (step : Step) → ReliesStep g c s last kept step → (at : At) (old new : ℕ) → step_ask step ≡ Ask_exchange at old new
       → word_of g c s at ≡ old → IsCopyAsked c (step_kind step) at new s kept e
       → ReliesStepped g c (after s e) (last_after e last) kept (at_exchanged step mode)

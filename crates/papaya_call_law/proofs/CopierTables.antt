@@ -1,4 +1,4 @@
--- What a copier relies on stays true, whatever tables are made later.
+-- The facts that a copier relies on stay true, whatever tables are made later.
 use Rattle.std.proofs.Common.{◌≡◌, inl, inr, ⊎_elim, ℕ, ◌<◌, true, Option, refl, sym, ap, ◌∙◌, subst}
 use Rattle.papaya_words.specs.Word.{hint_of}
 use Rattle.papaya_words_law.specs.Class.{IsOn}
@@ -55,7 +55,7 @@ module _ {K P : Type 0} (g g' : Setting K P) (c : Coding K P) (s : State P) (sou
   cut_carries : (from chunks : ℕ) → IsOn s.first s.next from → IsCutInto g from chunks → IsCutInto g' from chunks
   cut_carries from chunks on h x lt = subst (λ y. y < chunks) (sym (agrees.chunk_of x)) (h x (subst (λ y. x < y) (agrees.size from on) lt))
 
-  -- what is known of the table that is copied to the next one
+  -- the facts about the table that is copied to the next one
   measures_carry : (from : ℕ) → IsOn s.first s.next from → (link : Link) → Measures g from link → Measures g' from link
   measures_carry from on (links.Sizing after copied unfit) h = h
   measures_carry from on (links.Measuring after copied unfit len) h = h
@@ -157,7 +157,7 @@ module _ {K P : Type 0} (g g' : Setting K P) (c : Coding K P) (s : State P) (sou
       within = subst (λ y. at.probe.len < y) (sym (agrees.places at.table there)) f.within;
     }
 
-    -- it stands where it was put
+    -- it is where it was put
     placed_carries : (p : P) (hash : ℕ) (at : Place) → HasPlaced g c s slot p hash at → HasPlaced g' c s slot p hash at
     placed_carries p hash at r =
         let there : IsOn s.first s.next at.table = taker_on g s sound.rises (g.key p) slot.from at.table on r.taker in
@@ -224,7 +224,7 @@ module _ {K P : Type 0} (g g' : Setting K P) (c : Coding K P) (s : State P) (sou
     stood = r.stood;
   }
 
-  -- whatever step the copy is at
+  -- for each step of the copy
   step_carries : (step : Step) → ReliesStep g c s last kept step → ReliesStep g' c s last kept step
   step_carries steps.AtRoot r = tt
   step_carries (steps.Aiming from behind) r = aimed_carries from behind r

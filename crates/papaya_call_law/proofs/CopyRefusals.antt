@@ -1,4 +1,4 @@
--- A copy ends with a refusal only if a table that it makes is refused, or would be too long.
+-- A copy fails only if making a table fails, or if the table would be too long.
 use Rattle.std.proofs.Common.{◌≡◌, ℕ, ◌==◌, ◌||◌, nat_lt, not, cond, Bool, true, false, Option, None, Some, refl, ap, ◌∙◌}
 use Rattle.std.proofs.lemmas.Bool.{cond_both}
 use Rattle.papaya_words.specs.Word.{kind_of, may_hold}
@@ -41,7 +41,7 @@ use Rattle.papaya_call.specs.Settle as settle
 use Rattle.papaya_call.specs.Step as step
 use Rattle.papaya_call_law.specs.Copier.{link_in_carry, link_in_copying, link_in_settle, link_in_step}
 
--- the refusal that each ends with
+-- the failure with which each ends
 abbrev pub of_linked : Linked → Option Refused
 of_linked (linked.Refused refused) = Some refused
 of_linked _ = None
@@ -62,12 +62,12 @@ abbrev pub of_copied : Copied → Option Refused
 of_copied (copied.Refused refused) = Some refused
 of_copied _ = None
 
--- that of the making of a table, where one is under way
+-- the failure of the making of a table, if one is under way
 abbrev pub of_link : (Link → Linked) → Option Link → Option Refused
 of_link after None = None
 of_link after (Some made) = of_linked (after made)
 
--- what contains another ends as it does
+-- an outer part ends as the part within it does
 carried_on_as : (hash : ℕ) (end : Linked) → of_carried (carry.carried_on hash end) ≡ of_linked end
 carried_on_as hash (linked.On made) = refl
 carried_on_as hash (linked.Table table) = refl
@@ -142,7 +142,7 @@ lone_as slot settled.Settled = refl
 lone_as slot (settled.Unfit table) = refl
 lone_as slot (settled.Refused refused) = refl
 
--- no word ends the making of a table refused
+-- no answer with a word ends the making of a table with a failure
 link_exchanged_none : (made : Link) → of_linked (link.at_exchanged made) ≡ None
 link_exchanged_none (links.Linking behind table chunks) = refl
 link_exchanged_none (links.Sizing behind copied unfit) = refl
@@ -157,7 +157,7 @@ link_found_none (links.Measuring behind copied unfit len) word = refl
 link_found_none (links.Counting behind unfit slots copied) word = refl
 link_found_none (links.Making behind slots limit chunks) word = refl
 
--- nor a carry
+-- nor a move
 goes_on_none : (hash : ℕ) (at : Place) (mode : ResizeMode) → of_carried (carry.goes_on hash at mode) ≡ None
 goes_on_none hash at mode = cond_both (nat_lt at.probe.len at.limit) (carried.On (carries.Looking hash (next_place at)))
     (carried.On (carry.fills hash at.table mode)) (λ y. of_carried y ≡ None) (λ _. refl) (λ _. refl)
@@ -341,7 +341,7 @@ pub copying_found_none : (goes : Copying) (mode : ResizeMode) (word : ℕ) → o
 copying_found_none (Stepping aim goes) mode word = leads_as aim mode (step.at_found goes mode word) ∙ step_found_none goes mode word
 copying_found_none (Lone slot goes) mode word = lone_as slot (settle.at_found goes slot mode word) ∙ settle_found_none goes slot mode word
 
--- after a count or a refusal it ends as the making of its table does
+-- after a count or a failure it ends as the making of its table does
 pub copying_count_as : (goes : Copying) (mode : ResizeMode) (count initial : ℕ)
     → of_copied (copying.at_count goes mode count initial) ≡ of_link (λ made. link.at_count made mode count initial) (link_in_copying goes)
 copying_count_as (Stepping aim goes) mode count initial = leads_as aim mode (step.at_count goes mode count initial) ∙ step_count_as goes mode count initial
@@ -352,7 +352,7 @@ pub copying_refused_as : (goes : Copying) (mode : ResizeMode) (refused : Refused
 copying_refused_as (Stepping aim goes) mode refused = leads_as aim mode (step.at_refused goes mode refused) ∙ step_refused_as goes mode refused
 copying_refused_as (Lone slot goes) mode refused = lone_as slot (settle.at_refused goes mode refused) ∙ settle_refused_as goes mode refused
 
--- what is asked is what the making of its table asks
+-- its ask is that of the making of its table
 settle_asks : (goes : Settle) (slot : SlotToCopy) (made : Link) → link_in_settle goes ≡ Some made → settle.settle_ask goes slot ≡ link.link_ask made
 settle_asks (settles.Carrying marked (carries.Linking hash other)) slot made e = let same : other ≡ made = cc e in ap link.link_ask same
 settle_asks (settles.Carrying marked goes) slot made e = absurd cc

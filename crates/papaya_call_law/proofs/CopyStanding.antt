@@ -1,4 +1,4 @@
--- What is made or copied is within its tables after each answer within the limits, and asks only
+-- Each making and each copy is within its tables after each answer within the limits, and asks only
 -- for tables of sizes that tables may have.
 use Rattle.std.proofs.Common.{ℕ, zero, suc, ◌+◌, ◌-◌, ◌%◌, ◌==◌, ◌<◌, ◌≤◌, ◌^◌, nat_lt, nat_le, ◌&&◌, ◌||◌, not, cond, Bool, true, false, max, arith}
 use Rattle.std.proofs.Math.Nat.{mod-lt}
@@ -124,7 +124,7 @@ link_stands link mode initial (answers.Call other) power fit stands = stands
 link_stands link mode initial (answers.Hash hash) power fit stands = stands
 link_stands link mode initial (answers.Count count) power fit stands = link_count link mode count initial power stands
 
--- the carry of a pair: the place after one, and what a word at one tells
+-- the move of a pair: the place after one, and the outcome by a word
 fills_stands : (hash table : ℕ) (mode : ResizeMode) → IsValidCarry (carries.fills hash table mode)
 fills_stands hash table (Incremental chunk) = tt
 fills_stands hash table Blocking = tt
@@ -505,7 +505,7 @@ copying_stands (Lone slot settle) mode initial number (answers.Hash hash) power 
 copying_stands (Lone slot settle) mode initial number (answers.Count count) power fit stands = lone_stands slot
     (settles.at_count settle mode count initial) (settle_count settle mode count initial power stands)
 
--- a table that is asked for has a size of tables
+-- a table that is requested has a size of tables
 pub link_fits : (link : Link) → IsValidLink link → IsFitCopyAsk (link_ask link)
 link_fits (link_states.Sizing after copied unfit) stands = tt
 link_fits (link_states.Measuring after copied unfit len) stands = tt

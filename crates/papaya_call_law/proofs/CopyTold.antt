@@ -1,4 +1,4 @@
--- What the copy of the root learns from an answer.
+-- The facts that the copy of the root relies on after an answer.
 use Rattle.std.proofs.Common.{◌≡◌, ⊎_elim, ℕ, ◌<◌, ◌==◌, eqb-true, Option, List, [], ◌∷◌, refl, sym, subst}
 use Rattle.std.proofs.lemmas.Bool.{eqb-false}
 use Rattle.papaya_words.specs.declared.refused.Refused.{Refused}
@@ -38,7 +38,7 @@ use Rattle.papaya_call_law.proofs.CopierExchange.{asked_allowed}
 use Rattle.papaya_call_law.proofs.ReliesLearn.{by_test}
 use Rattle.papaya_call_law.specs.ChainAnswers.{IsTrueOfCopy, LoadedPairs, told_of}
 
--- it goes on copying for the same
+-- it continues to copy for the same purpose
 same_still : (aim aim' : Aim) → aim' ≡ aim → IsStillAimed aim aim'
 same_still (aims.All met) aim' e = (met, e)
 same_still (aims.Search table) aim' e = e
@@ -47,26 +47,26 @@ same_still aims.Chunk aim' e = e
 
 module _ {K P : Type 0} (g : Setting K P) (c : Coding K P) (hashed : IsHashed g c) (s : State P) (m : K → Option P) (keeps : IsKeeping g s m)
     (mode : ResizeMode) (moded : IsModeOf mode g.blocking) (cut : IsCutAs mode g.chunk_of) (initial number : ℕ) (loaded : LoadedPairs P) where
-  -- the pair last told of, and the one that is carried
+  -- the pair last loaded, and the one that is moved
   abbrev last : Option P
   last = loaded.call.last
 
   abbrev kept : Option P
   kept = loaded.kept
 
-  -- what was exchanged was allowed, and the copy relies on what holds where the answer led it
+  -- the exchange was allowed, and the copy relies on facts that hold in the state after the answer
   abbrev pub HasCopied : Copying → Answer → List (Exchange P) → LoadedPairs P → Type 0
   HasCopied copying answer es loaded' = AllAllowed g s es
       × ReliesCopied g c (run es s) loaded'.call.last loaded'.kept (aim_of copying) (copying_after copying mode initial number answer)
 
-  -- by what the answer is
+  -- by an equal answer
   answered : (copying : Copying) (answer answer' : Answer) (es es' : List (Exchange P)) (loaded' loaded'' : LoadedPairs P) → answer ≡ answer'
       → es ≡ es' → loaded' ≡ loaded'' → HasCopied copying answer' es' loaded'' → HasCopied copying answer es loaded'
   answered copying answer answer' es es' loaded' loaded'' a e h r =
       subst (λ y. HasCopied copying y es loaded') (sym a)
       (subst (λ y. HasCopied copying answer' y loaded') (sym e) (subst (λ y. HasCopied copying answer' es' y) (sym h) r))
 
-  -- where nothing was exchanged
+  -- if nothing was exchanged
   quiet : (copying : Copying) (answer answer' : Answer) (es : List (Exchange P)) (loaded' loaded'' : LoadedPairs P) → answer ≡ answer' → es ≡ []
       → loaded' ≡ loaded''
       → ReliesCopied g c s loaded''.call.last loaded''.kept (aim_of copying) (copying_after copying mode initial number answer')
@@ -74,7 +74,7 @@ module _ {K P : Type 0} (g : Setting K P) (c : Coding K P) (hashed : IsHashed g 
   quiet copying answer answer' es loaded' loaded'' a e h r = answered copying answer answer' es [] loaded' loaded'' a e h (tt, r)
 
   module _ (copying : Copying) (r : ReliesCopying g c s last kept copying) where
-    -- what it names is there
+    -- the words that it names are there
     there : (ask : CopyAsk) → copying_ask copying ≡ ask → AreThere g c s last kept ask
     there ask is = subst (AreThere g c s last kept) is (copying_there g c hashed s m keeps last kept copying r)
 

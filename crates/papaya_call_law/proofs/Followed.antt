@@ -1,4 +1,4 @@
--- Which table a machine names, and what it asks.
+-- The table that a machine names, and the kinds of its asks.
 use Rattle.std.proofs.Common.{◌≡◌, ◌⊎◌, inl, inr, ℕ, ◌==◌, nat_lt, Bool, true, false, cond, Option, None, Some, refl, sym, ap, ◌∙◌, subst}
 use Rattle.std.proofs.lemmas.Bool.{cond_both}
 use Rattle.papaya_words.specs.Word.{kind_of, may_hold, pair_of}
@@ -60,7 +60,7 @@ use Rattle.papaya_call.specs.Search.{at_size, at_word, at_yes, go_on, hinted, lo
 use Rattle.papaya_call_law.proofs.Standing.{computer_inserts, writer_inserts}
 use Rattle.papaya_call_law.proofs.Leads.{occupies_leads}
 
--- what a search saw names no table but n
+-- the outcome of a probe names no table but n
 abbrev IsSeenAt : ℕ → ProbeStep → Type 0
 IsSeenAt n (seen.On search) = table_of search ≡ n
 IsSeenAt n (seen.Empty at) = at.table ≡ n
@@ -146,7 +146,7 @@ passes_at : (n : ℕ) (task : Task) (mode : ResizeMode) (fill : Option ℕ) (t :
 passes_at n task (Incremental chunk) fill t is = is
 passes_at n task Blocking fill t is = absent_at n task fill (After t) is
 
--- what was seen leads to the same table
+-- the outcome leads to the same table
 goes_at : (n : ℕ) (task : Task) (mode : ResizeMode) (held : Remembered) (s : ProbeStep) → IsSeenAt n s → IsAtTable n (goes_as task mode held s)
 goes_at n task mode held (seen.On search) is = is
 goes_at n Get mode held (seen.Here at word) is = tt
@@ -163,12 +163,12 @@ goes_at n RemoveIf mode held (seen.Over t) is = passes_at n RemoveIf mode held.f
 goes_at n Compute mode held (seen.Over t) is = passes_at n Compute mode held.fill t is
 goes_at n (Insert replace) mode held (seen.Over t) is = is
 
--- by whether there is a table of the number that was loaded
+-- by whether the number that was loaded is that of a table
 cond_both_at : (none : Bool) (n word : ℕ) (s t : State) → IsAtTable n s → IsAtTable word t → IsAtTable (cond none n word) (cond none s t)
 cond_both_at true n word s t absent some = absent
 cond_both_at false n word s t absent some = some
 
--- a search goes on in its table
+-- a search continues in its table
 word_at : (n : ℕ) (search : Search) → table_of search ≡ n → (hash word : ℕ) → IsSeenAt n (at_word search hash word)
 word_at n (Sizing t) is hash word = is
 word_at n (Looking at) is hash word = hint_at n at is hash word
@@ -243,11 +243,11 @@ beaten_as_at n m RemoveIf at is word = beaten_at n m (kind_of word) at is word
 beaten_as_at n m Compute at is word = goes_at n m.task m.mode m.remembered (look at word) (look_kind n at is (kind_of word) word)
 
 module _ (m : Machine) (n : ℕ) where
-  -- what is asked leaves the table that was told last
+  -- the answer leaves the table that was received last
   abbrev HasNoTable : Answer → Type 0
   HasNoTable answer = HoldsOfPairAsks (λ ask. told_table ask answer n ≡ n)
 
-  -- where an answer leads a machine in a stage
+  -- a machine at table n names, after an answer, the table that it received last
   abbrev Leads : Made → State → Answer → Type 0
   Leads made s answer = IsAtTable n s → IsAtTable (told_table (asks made m.hash s) answer n) (after (record m { made = made; state = s }) answer).state
 
@@ -280,7 +280,7 @@ module _ (m : Machine) (n : ℕ) where
   writing_at made write Ok_done is = is
   writing_at made write (Was_refused refused) is = refuses_leads (IsAtTable n) write refused is tt (serves made write)
 
-  -- what is asked for a pair tells no table
+  -- the answer to an ask for a pair contains no table
   untold : (answer : Answer) → HasNoTable answer
   untold answer = record { loads = refl; takes = λ count. refl; key = refl; value = refl; pair = refl; pair_of = λ i. refl }
 
@@ -431,7 +431,7 @@ module _ (m : Machine) (n : ℕ) where
   leads made (Ended reply) Ok_done is = tt
   leads made (Ended reply) (Was_refused refused) is = tt
 
--- a machine names the table whose number it was told last
+-- a machine names the table whose number it received last
 pub table_told : (m : Machine) (answer : Answer) (n : ℕ) → IsAtTable n m.state → IsAtTable (told_table (ask_of m) answer n) (after m answer).state
 table_told m answer n is = leads m n m.made m.state answer is
 
@@ -494,7 +494,7 @@ closure_changes (Insert replace) has = tt
 closure_changes RemoveIf has = tt
 closure_changes Compute has = tt
 
--- what is asked for a pair, by a call that may insert
+-- the asks for a pair, for a call that may insert
 own_may : (task : Task) → MayInsert task → (keyed valued : Bool) → MayAsk task None (own_ask keyed valued)
 own_may task may false valued = may
 own_may task may true false = may
@@ -536,7 +536,7 @@ asks_in task made hash (Leaving u) stands = tt
 asks_in task made hash (Growing u) stands = tt
 asks_in task made hash (Ended reply) stands = tt
 
--- a machine asks what its task asks
+-- the asks of a machine are those of its task
 pub asked_of_task : (m : Machine) → IsValid m → MayAsk m.task (kind_of_ask m) (ask_of m)
 asked_of_task m stands = asks_in m.task m.made m.hash m.state stands.state
 
@@ -570,7 +570,7 @@ pub opens_once : (m : Machine) (answer : Answer) (t n : ℕ) → ask_of m ≡ Ex
     ⊎ ((word : ℕ) × (answer ≡ Found_instead word)) → ask_of (after m answer) ≡ Exchange Root 0 n → ⊥
 opens_once m answer t n e a f = opens_in m m.made m.state answer t n e a f
 
--- once it changed the map it counts
+-- once it has changed the map it counts
 counts_in : (made : Made) (hash : ℕ) (s : State) (change : Option ℕ × Option ℕ) → change_in s ≡ Some change → IsCounting (asks made hash s)
 counts_in made hash AtRoot change e = absurd cc
 counts_in made hash Making change e = absurd cc

@@ -1,4 +1,4 @@
--- One further key: the numbers of the words are what they were.
+-- One further key: the numbers of the words are unchanged.
 use Rattle.std.proofs.Common.{◌≡◌, ℕ, Bool, refl}
 use Rattle.papaya_call.specs.declared.ask.At.{At}
 use Rattle.papaya_call.specs.declared.ask.At.TheVariants.{Root, Next, Aborted, Done, Slot, Made}
@@ -9,7 +9,7 @@ use Rattle.papaya_words_law.proofs.Further.{key_code}
 use Rattle.papaya_call_law.specs.TrueAnswers.{word_of}
 
 module _ {K P : Type 0} (g : Setting K P) (matches : K → Bool) (hash : ℕ) where
-  -- what stands at a place has the number that it had
+  -- the word at a place has the same number
   pub key_word : (c : Coding K P) (s : State P) (at : At) → word_of (with_key g matches hash) (coding_with c hash) s at ≡ word_of g c s at
   key_word c s Root = refl
   key_word c s (Next t) = refl

@@ -1,4 +1,4 @@
--- What an answer does to the call of a machine over a chain.
+-- The call of a machine over a chain after an answer.
 use Rattle.std.proofs.Common.{◌≡◌, ◌⊎◌, inl, inr, ℕ, ◌==◌, Bool, true, false, cond, Some, refl, sym, ap, subst}
 use Rattle.std.proofs.lemmas.Bool.{cond_both}
 use Rattle.papaya_words.specs.declared.resize_mode.ResizeMode.{ResizeMode}
@@ -35,7 +35,7 @@ use Rattle.papaya_call.specs.ChainMachine.{stepped, told_next}
 use Rattle.papaya_call_law.specs.Goes.{Goes, IsInOrder}
 use Rattle.papaya_call_law.specs.ChainRelies.{left_by}
 
--- the call is another one now: the same, one step on, looking on in a table, or refused
+-- the call is the same as before, one step on, searching another table, started again, or failed
 abbrev Leaves : Machine → Answer → Machine → Type 0
 Leaves m answer m' = ((t : ℕ) × (left_by m.call.state ≡ Some t) × (m'.call ≡ m.call))
     ⊎ ((told : Call_answer) × (m.phase ≡ Calling) × (answer ≡ answers.Call told) × (m'.call ≡ call_machine.after m.call told) × (m'.phase ≡ Calling))
@@ -45,7 +45,7 @@ Leaves m answer m' = ((t : ℕ) × (left_by m.call.state ≡ Some t) × (m'.call
 
 module _ (m : Machine) (answer : Answer) where
   module _ (t : ℕ) (left : left_by m.call.state ≡ Some t) where
-    -- a call that is set aside goes on in the next table, or copies first
+    -- a call that is set aside continues in the next table, or copies first
     goes_leaves : (helped : Bool) (aim : Aim) (n : ℕ) → Leaves m answer (goes_on m helped aim n)
     goes_leaves false aim n = inl (t, left, refl)
     goes_leaves true (aims.Settle slot) n = inl (t, left, refl)
@@ -69,7 +69,7 @@ module _ (m : Machine) (answer : Answer) where
     copied_leaves (copied.Refused refused) = inr (inr (inr (inr (t, left, (refused, refl)))))
 
   module _ (phase : m.phase ≡ Calling) (told : Call_answer) (is : answer ≡ answers.Call told) where
-    -- the call goes on for itself
+    -- the call continues in phase `Calling`
     steps_leaves : Leaves m answer (stepped m told)
     steps_leaves = inr (inl (told, phase, is, refl, phase))
 
@@ -96,7 +96,7 @@ module _ (m : Machine) (answer : Answer) where
     next_leaves (Growing need) e = grows_leaves m.call.mode need (ap left_by e)
     next_leaves stage e = steps_leaves phase (Word_read word) is
 
-  -- the call was answered
+  -- the call received an answer
   called_leaves : m.phase ≡ Calling → (told : Call_answer) → answer ≡ answers.Call told → Leaves m answer (called m told)
   called_leaves phase (Word_read word) is = next_leaves phase word is m.call.state refl
   called_leaves phase Exchanged is = steps_leaves phase Exchanged is
@@ -117,7 +117,7 @@ module _ (m : Machine) (answer : Answer) where
   phase_leaves (Linking link) e aside = linked_leaves aside.0 aside.1 (link_after link m.call.mode m.call.initial answer)
   phase_leaves (Copying_root copying) e aside = copied_leaves aside.0 aside.1 (copying_after copying m.call.mode m.call.initial m.number answer)
 
-  -- of the machine
+  -- for the whole machine
   pub machine_goes : IsInOrder m answer m.phase → Goes m answer
   machine_goes aside = named (phase_leaves m.phase refl aside)
     where

@@ -56,8 +56,8 @@ pub record HoldsOfLeads (Holds : State → Type 0) : Type 0 where
   pub leaving : (t : ℕ) → Holds (Leaving t)
   pub growing : (need : Need) → Holds (Growing need)
 
--- what holds of the answer and of the table that is needed next holds where an insertion that replaces
--- nothing met its key's pair
+-- a property of the reply `Occupied`, and of the state that needs the next table, holds after an
+-- insertion that replaces nothing met its key's pair
 pub occupies_leads : (Holds : State → Type 0) (kd : Kind) (at : Place) (word : ℕ) → Holds (Ended (Occupied (pair_of word))) → Holds (copied_from at)
     → Holds (occupies kd at word)
 occupies_leads Holds word_kinds.Empty at word answered needed = needed
@@ -74,7 +74,7 @@ module _ (Holds : State → Type 0) (each : HoldsOfLeads Holds) where
   fills_leads (At_place at) n = each.putting (record { write = record { place = at; old = 0 }; pair = n })
   fills_leads (After t) n = each.growing (Room t)
 
-  -- a pair for what its value was answered to
+  -- a pair, by the purpose for which it was made
   pub provides_leads : (purpose : Purpose) (n : ℕ) → Holds (provides purpose n)
   provides_leads (Fill gap) n = fills_leads gap n
   provides_leads (For_replace write) n = each.putting (record { write = write; pair = n })
@@ -121,7 +121,7 @@ module _ (Holds : State → Type 0) (each : HoldsOfLeads Holds) where
   replaces_leads word_kinds.Buried at word = each.growing (Pair_at at.table at.probe.i)
   replaces_leads word_kinds.Closed at word = each.growing (Pair_at at.table at.probe.i)
 
-  -- a pair that a removal shows
+  -- a pair that a removal calls its closure with
   removes_leads : (kd : Kind) (at : Place) (word : ℕ) → Holds (removes kd at word)
   removes_leads word_kinds.Empty at word = each.growing (Pair_at at.table at.probe.i)
   removes_leads word_kinds.Live at word = each.showing (record { place = at; word = word })
@@ -130,7 +130,7 @@ module _ (Holds : State → Type 0) (each : HoldsOfLeads Holds) where
   removes_leads word_kinds.Buried at word = each.growing (Pair_at at.table at.probe.i)
   removes_leads word_kinds.Closed at word = each.growing (Pair_at at.table at.probe.i)
 
-  -- a pair of which one was made before
+  -- a pair for which one was made before
   recalled_leads : (new : Of) (at : Place) (word : ℕ) → Holds (recalled new at word)
   recalled_leads new at word =
       cond_both (serves_at new at.table at.probe.i) (Putting (record { write = record { place = at; old = word }; pair = new.pair }))
@@ -138,7 +138,7 @@ module _ (Holds : State → Type 0) (each : HoldsOfLeads Holds) where
       (λ _. each.putting (record { write = record { place = at; old = word }; pair = new.pair }))
       (λ _. each.pairing (Again (record { place = at; old = word })))
 
-  -- a pair to which a compute may have an answer
+  -- a pair for which a compute may have a result
   recalls_leads : (choice : Option Choice) (at : Place) (word n : ℕ) → Holds (recalls choice at word n)
   recalls_leads None at word n = each.showing (record { place = at; word = word })
   recalls_leads (Some (To_replace old new)) at word n =
@@ -168,7 +168,7 @@ module _ (Holds : State → Type 0) (each : HoldsOfLeads Holds) where
   found_leads RemoveIf held at word = removes_leads (kind_of word) at word
   found_leads Compute held at word = computes_leads (kind_of word) held at word
 
-  -- what a search saw
+  -- the outcome of a probe
   pub goes_leads : (task : Task) (mode : ResizeMode) (held : Remembered) (s : ProbeStep) → Holds (goes_as task mode held s)
   goes_leads task mode held (seen.On search) = each.searching search
   goes_leads task mode held (seen.Here at word) = found_leads task held at word
@@ -181,7 +181,7 @@ module _ (Holds : State → Type 0) (each : HoldsOfLeads Holds) where
   goes_leads (Insert replace) mode held (seen.Empty at) = each.writing (record { place = at; old = 0 })
   goes_leads (Insert replace) mode held (seen.Over t) = each.growing (Room t)
 
-  -- a word that a deletion found in the place of its own, by its kind
+  -- a word that a deletion found in place of the expected one, by its kind
   beaten_by_leads : (kd : Kind) (m : Machine) (at : Place) (word : ℕ) → Holds (beaten_by kd m at word)
   beaten_by_leads word_kinds.Buried m at word = each.ended_absent
   beaten_by_leads word_kinds.Empty m at word = goes_leads m.task m.mode m.remembered (look_seen at word)
@@ -197,6 +197,6 @@ module _ (Holds : State → Type 0) (each : HoldsOfLeads Holds) where
   beaten_as_leads RemoveIf m at word = beaten_by_leads (kind_of word) m at word
   beaten_as_leads Compute m at word = goes_leads m.task m.mode m.remembered (look_seen at word)
 
-  -- of a machine
+  -- for the whole machine
   pub beaten_leads : (m : Machine) (removal : Removal) (word : ℕ) → Holds (beaten m removal word)
   beaten_leads m removal word = beaten_as_leads m.task m removal.place word

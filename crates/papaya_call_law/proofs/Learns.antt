@@ -1,4 +1,5 @@
--- What a call over a chain relies on holds again after an answer that is true of the words.
+-- The facts that a call over a chain relies on hold again after an answer that is true of the
+-- words.
 use Rattle.std.proofs.Common.{◌≡◌, inl, inr, ℕ, ◌<◌, ◌==◌, Bool, false, cond, Option, Some, List}
 use Rattle.std.proofs.Common.{[], ◌∷◌, ◌++◌, append-nil, refl, sym, ap, ◌∙◌, subst, append_assoc}
 use Rattle.std.proofs.lemmas.Bool.{cond_both}
@@ -63,7 +64,7 @@ use Rattle.papaya_call_law.proofs.Onward.{onward_relies}
 use Rattle.papaya_call_law.proofs.Outcomes.{all_relies, copied_relies, linked_relies}
 use Rattle.papaya_call_law.proofs.Stable.{next_stable}
 
--- a call that is set aside relies on no pair that it was told of
+-- a call that is set aside relies on no pair that it has loaded
 aside_stage : {K P : Type 0} (g : Setting K P) (c : Coding K P) (begun since : List (Exchange P)) (k : K) (loaded loaded' : call_told.LoadedPairs P)
     (task : Task) (stage : Stage) (t : ℕ) → left_by stage ≡ Some t → calls.ReliesStage g c begun since k loaded task stage
     → calls.ReliesStage g c begun since k loaded' task stage
@@ -71,7 +72,7 @@ aside_stage g c begun since k loaded loaded' task (Leaving u) t e r = r
 aside_stage g c begun since k loaded loaded' task (Growing need) t e r = r
 aside_stage g c begun since k loaded loaded' task stage t e r = absurd cc
 
--- an answer of a copy tells of a pair at most
+-- an answer of a copy loads at most a pair
 copy_loaded : {K P : Type 0} (g : Setting K P) (c : Coding K P) (s : State P) (kind : Option StepKind) (n : ℕ) (loaded : LoadedPairs P)
     (ask : CopyAsk) (answer : Answer) (es : List (Exchange P)) (loaded' : LoadedPairs P) → IsTrueOfCopy g c s kind n loaded ask answer es loaded'
     → (last : Option P) × (loaded'.call ≡ record loaded.call { last = last })
@@ -105,11 +106,11 @@ module _ {K P : Type 0} (g : Setting K P) (c : Coding K P) (hashed : IsHashed g 
   abbrev now : State P
   now = run (begun ++ since) start
 
-  -- what has to be shown of the machine after an answer
+  -- the proof obligation for the machine after an answer
   abbrev pub Learned : Machine → List (Exchange P) → LoadedPairs P → Type 0
   Learned m es loaded' = AllAllowed g start (begun ++ (since ++ es)) × Relies g c begun (since ++ es) k m loaded'
 
-  -- where nothing was exchanged, and no pair was told of
+  -- if nothing was exchanged, and no pair was loaded
   quiet : (m : Machine) (es : List (Exchange P)) (loaded' : LoadedPairs P) → es ≡ [] → loaded' ≡ loaded → Relies g c begun since k m loaded
       → Learned m es loaded'
   quiet m es loaded' none same r =
@@ -135,7 +136,7 @@ module _ {K P : Type 0} (g : Setting K P) (c : Coding K P) (hashed : IsHashed g 
     abbrev in_stage : Stage → Machine
     in_stage stage = at_phase (record call { state = stage }) Calling
 
-    -- the call goes on for itself
+    -- the call continues in phase `Calling`
     steps_on : (stage : Stage) (told : Call_answer) (es : List (Exchange P)) (call' : call_told.LoadedPairs P) (loaded' : LoadedPairs P)
         → loaded' ≡ record loaded { call = call' }
         → AllAllowed g start (begun ++ (since ++ es))
@@ -154,11 +155,11 @@ module _ {K P : Type 0} (g : Setting K P) (c : Coding K P) (hashed : IsHashed g 
     module _ (stage : Stage) (r : calls.Relies g c begun since k (record call { state = stage }) loaded.call) (es : List (Exchange P))
         (call' : call_told.LoadedPairs P) (loaded' : LoadedPairs P) (handed : loaded' ≡ record loaded { call = call' }) (none : es ≡ [])
         (same : call' ≡ loaded.call) (word : ℕ) (inner : Learned (stepped (in_stage stage) (Word_read word)) es loaded') where
-      -- no pair was told of
+      -- no pair was loaded
       as_before : loaded' ≡ loaded
       as_before = handed ∙ ap (λ h. record loaded { call = h }) same
 
-      -- where the next table is there the call goes on to it
+      -- if the next table is there, the call continues in it
       goes_next : g.blocking ≡ false → IsChanger call.task → (t : ℕ) → left_by stage ≡ Some t → word ≡ now.next t → 0 < word
           → Learned (onward (in_stage stage) word) es loaded'
       goes_next inc changes t left is some =
@@ -166,7 +167,7 @@ module _ {K P : Type 0} (g : Setting K P) (c : Coding K P) (hashed : IsHashed g 
           (subst (λ n. Relies g c begun since k (onward (in_stage stage) n) loaded) (sym is)
           (onward_relies g c hashed begun since may k inc (in_stage stage) loaded cut r changes t left (subst (λ n. 0 < n) is some)))
 
-      -- there is none, or the call goes on to it
+      -- there is none, or the call continues in it
       either : g.blocking ≡ false → IsChanger call.task → (t : ℕ) → left_by stage ≡ Some t → word ≡ now.next t
           → Learned (cond (word == 0) (stepped (in_stage stage) (Word_read word)) (onward (in_stage stage) word)) es loaded'
       either inc changes t left is =
@@ -215,7 +216,7 @@ module _ {K P : Type 0} (g : Setting K P) (c : Coding K P) (hashed : IsHashed g 
           }))
           (λ more. goes_next inc changes (needed need) left is (more_than_none word more))
 
-    -- the call was answered, in each stage
+    -- the call received an answer, in each stage
     called_learns : (stage : Stage) → calls.Relies g c begun since k (record call { state = stage }) loaded.call
         → (told : Call_answer) (es : List (Exchange P)) (call' : call_told.LoadedPairs P) (loaded' : LoadedPairs P) → loaded' ≡ record loaded { call = call' }
         → call_told.IsTrueOf g c k now (call_machine.kind_asked call.made stage) loaded.call (call_machine.asks call.made call.hash stage) told es call'
@@ -238,9 +239,10 @@ module _ {K P : Type 0} (g : Setting K P) (c : Coding K P) (hashed : IsHashed g 
         (needing_changes call.task need (r.stage).0) need refl is
     called_learns stage r (Word_read word) es call' loaded' handed h inner = inner (Word_read word) refl
 
-    -- what the next table learns, or the copy, the call relies on again
+    -- the call relies again on the facts after an answer to the making of the next table, or to the
+    -- copy
     module _ (r : calls.Relies g c begun since k call loaded.call) (es : List (Exchange P)) (loaded' : LoadedPairs P) where
-      -- the call is set aside still, whatever it was told of last
+      -- the call is still set aside, whatever it loaded last
       aside_later : AllAllowed g start (begun ++ (since ++ es)) → (t : ℕ) → left_by call.state ≡ Some t → (last : Option P)
           → loaded'.call ≡ record loaded.call { last = last } → calls.Relies g c begun (since ++ es) k call loaded'.call
       aside_later allowed t left last told =
@@ -267,7 +269,7 @@ module _ {K P : Type 0} (g : Setting K P) (c : Coding K P) (hashed : IsHashed g 
                 (aside_later out.0 (follows link) at.left told.0 told.1) at.changes (follows link) at.left (link_after link call.mode call.initial answer) out.1,
           )
 
-      -- what a copier learns, after all exchanges
+      -- the facts of a copier after an answer, after all exchanges
       copied_in_all : (copying : Copying) → ReliesCopying g c now loaded.call.last loaded.kept copying → (answer : Answer)
           → (answer ≡ answers.Call Exchanged → HasWords g (link_in_copying copying))
           → IsTrueOfCopy g c now (copying_kind copying) (copying_follows copying) loaded (copying_ask copying) answer es loaded'
@@ -334,7 +336,7 @@ module _ {K P : Type 0} (g : Setting K P) (c : Coding K P) (hashed : IsHashed g 
 
 module _ {K P : Type 0} (g : Setting K P) (c : Coding K P) (hashed : IsHashed g c) (begun since : List (Exchange P))
     (may : AllAllowed g start (begun ++ since)) (k : K) where
-  -- of the machine
+  -- for the whole machine
   pub all_learns : (m : Machine) (loaded : LoadedPairs P) → Relies g c begun since k m loaded → (answer : Answer)
       → (answer ≡ answers.Call Exchanged → HasWords g (link_in m.phase)) → (es : List (Exchange P)) (loaded' : LoadedPairs P)
       → IsTrueOf g c k (run (begun ++ since) start) (kind_of_ask m) (follows_of m) loaded (ask_of m) answer es loaded'

@@ -1,4 +1,4 @@
--- what machines rely on
+-- the facts that machines rely on
 pub mod ReliesCarried
 pub mod ReliesHints
 pub mod ReliesNames
@@ -6,7 +6,7 @@ pub mod ReliesStable
 pub mod ReliesTables
 -- the words that it puts in
 pub mod NewWords
--- what a machine learns from an answer
+-- the facts that a machine relies on after an answer
 pub mod ReliesLearnMoments
 pub mod ReliesLearnPlaces
 pub mod ReliesLearnLook
@@ -19,19 +19,19 @@ pub mod ReliesExchange
 pub mod ReliesLearnWrites
 pub mod ReliesLearnRemovals
 pub mod ReliesLearn
--- where a load or a search leads
+-- the states after a load or a search
 pub mod Leads
--- what it asks that makes a pair, and where that leads
+-- the asks of a call that makes a pair, and the state after each
 pub mod Makings
 -- its task stays
 pub mod Tasks
--- what it changes, and its refusals
+-- its changes, and its failures
 pub mod ReliesReply
 pub mod ReliesReplyRefused
 pub mod ReliesRemovals
 pub mod ReliesCount
 pub mod ReliesOpened
--- what it stands on that its closure said
+-- the results of its closure that it relies on
 pub mod SaysWords
 pub mod SaysSaid
 pub mod SaysChanges
@@ -39,12 +39,12 @@ pub mod SaysOnce
 pub mod SaysOver
 pub mod SaysValues
 pub mod Silent
--- how much a lookup loads
+-- the number of loads of a lookup
 pub mod LoadsBound
 pub mod LoadsLeft
 pub mod LoadsLists
 pub mod LoadsSteps
--- a machine that stands within its table does so after each answer
+-- a valid machine is valid after each answer
 pub mod Standing
 -- a call whose words nobody else changes
 pub mod AloneCurrent
@@ -52,11 +52,11 @@ pub mod AloneSteps
 pub mod AloneUnmatched
 -- one further key
 pub mod FurtherWords
--- which table it names, and what it asks
+-- the table that it names, and the kinds of its asks
 pub mod Followed
 pub mod ReliesHeld
 pub mod ReliesCopied
--- what a copier relies on
+-- the facts that a copier relies on
 pub mod CopierStable
 pub mod CopierTables
 pub mod CopierGuarantee
@@ -68,49 +68,49 @@ pub mod CopierSettles
 pub mod CopierSettlesMade
 pub mod CopierSteps
 pub mod CopierCopies
--- where a call stands that is set aside, and how it goes on
+-- the state of a call that is set aside, and how it continues
 pub mod Aside
 pub mod Onward
--- what it relies on stays
+-- the facts that it relies on stay true
 pub mod Stable
--- where a copy led, and what each answer tells
+-- the outcome of a copy, and the facts after each answer
 pub mod Outcomes
 pub mod Making
 pub mod CopyTold
 pub mod Learns
--- what a copy names and may exchange
+-- the words that a copy names, and may exchange
 pub mod Names
--- where an answer leaves its call
+-- the state of its call after an answer
 pub mod Goes
 pub mod Replies
 pub mod Order
 -- the table that it is about to link
 pub mod LinkStates
 pub mod LinkMade
--- what its closure is shown once
+-- its closure is called with None at most once
 pub mod Once
--- why it is refused
+-- the causes of its failures
 pub mod CopyRefusals
 pub mod LinkRefusals
 pub mod Refusals
 -- a call that resizes the map
 pub mod ResizerRelies
 pub mod ResizerRefusals
--- it stands within its tables
+-- it is within its tables
 pub mod CopyStanding
 pub mod ChainStanding
--- a call that scans a table: which exchanges take a pair out of the map
+-- a call that scans a table: the exchanges that take a pair out of the map
 pub mod ScanTaken
--- what was done about each key's pair, slot by slot, and what is so at the end
+-- the steps about each key's pair, slot by slot, and the facts at the end
 pub mod ScanSlots
 pub mod ScanEnds
--- what it relies on stays, what it asks, what each answer tells
+-- the facts that it relies on stay true, its asks, and the facts after each answer
 pub mod ScanStable
 pub mod ScanAsks
 pub mod ScanLearns
 -- whatever tables come later
 pub mod ScanTables
--- what it did, and why it was refused
+-- its changes, and the causes of its failures
 pub mod ScanOutcomes
--- where the root has no next table
+-- if the root has no next table
 pub mod ScanUndisturbed

@@ -39,7 +39,7 @@ use Rattle.papaya_call_law.specs.Copier.{link_in_carry, link_in_copying, link_in
 use Rattle.papaya_call_law.specs.Goes.{link_in}
 use Rattle.papaya_call_law.proofs.LinkStates.{In, IsStable, Linked_in, Of, machine_holds, onward}
 
--- `Made` is what a table is that was made, with so many words for chunks.
+-- `Made` states that a table was made with this many words for chunks.
 module _ (Made : (table chunks : ℕ) → Type 0) where
   -- the table that is about to be linked was made
   abbrev pub IsMadeLink : Link → Type 0
@@ -53,7 +53,7 @@ module _ (Made : (table chunks : ℕ) → Type 0) where
   New (links.Making behind slots limit chunks) n = Made n chunks
   New made n = Unit {0}
 
-  -- in other words: what is about to be linked was made
+  -- in other words: the table that is about to be linked was made
   pub is_made : (o : Option Link) → In IsMadeLink o → (behind table chunks : ℕ) → o ≡ Some (links.Linking behind table chunks) → Made table chunks
   is_made o h behind table chunks e = subst (In IsMadeLink) e h
 
@@ -105,7 +105,8 @@ module _ (Made : (table chunks : ℕ) → Type 0) where
     finds = link_found;
   }
 
-  -- where the machine is about to link a table after an answer, that one was made before, or is the one of which it was told
+  -- if the machine is about to link a table after an answer, that one was made before, or is the
+  -- one of the answer
   pub machine_made : (m : Machine) (answer : Answer)
       → ((n behind slots limit chunks : ℕ) → (m.phase ≡ Calling → ⊥) → answer ≡ answers.Call (Made_number n)
       → link_in m.phase ≡ Some (links.Making behind slots limit chunks) → Made n chunks) → In IsMadeLink (link_in m.phase)
@@ -159,7 +160,7 @@ machine_links m behind old new e = by_phase m.phase e
     by_phase (Linking made) e = link_asks made behind old new cc
     by_phase (Copying_root goes) e = copying_asks goes behind old new cc
 
--- The other way round: one that is about to link a table asks for just that exchange.
+-- Conversely, a machine that is about to link a table asks for just that exchange.
 carry_linking : (goes : Carry) (marked behind table chunks : ℕ) → link_in_carry goes ≡ Some (links.Linking behind table chunks)
     → (carry.carry_ask goes marked ≡ Exchange (Next behind) 0 table) × (carry.carry_kind goes ≡ Some kinds.Link)
 carry_linking (carries.Linking hash made) marked behind table chunks e = let is : made ≡ links.Linking behind table chunks = cc e in rw is (refl, refl)
@@ -195,7 +196,7 @@ machine_linking m behind table chunks e = by_phase m.phase e
 abbrev pub IsUnlinked : Option Link → Type 0
 IsUnlinked = In (IsMadeLink (λ n chunks. ⊥))
 
--- Once it has tried to link a table it is about to link none.
+-- Once it has tried to link a table, it is about to link none.
 module _ (m : Machine) (behind table chunks : ℕ) where
   goes_unlinked : (next : ℕ) → IsUnlinked (link_in (machine.onward m next).phase)
   goes_unlinked next = onward (IsMadeLink (λ n chunks. ⊥)) (Told (λ n chunks. ⊥)) (New (λ n chunks. ⊥)) (stable (λ n chunks. ⊥)) m next

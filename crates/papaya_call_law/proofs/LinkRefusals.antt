@@ -1,4 +1,5 @@
--- The making of a table ends with a refusal if the table is refused, or would be too long.
+-- The making of a table fails only if the answer to its ask is a failure, or if the table would be
+-- too long.
 use Rattle.std.proofs.Common.{◌≡◌, ◌⊎◌, inl, inr, ℕ, ◌<◌, ◌^◌, Bool, true, false, nat_le, cond, None, Some, refl, sym, ap, ◌∙◌, leb-false}
 use Rattle.papaya_words.specs.Chunks.{chunk_count, chunk_len}
 use Rattle.papaya_words.specs.Table.{length_after}
@@ -23,7 +24,7 @@ use Rattle.papaya_call_law.proofs.CopyRefusals.{copying_found_none, copying_ok_n
 use Rattle.papaya_call_law.proofs.CopyRefusals.{copying_refused_as, copying_word_none}
 use Rattle.papaya_call_law.proofs.CopyRefusals.{copying_yes_none, of_copied, of_link, of_linked}
 
--- the copy of the root ends refused where the making of its table does
+-- the copy of the root fails when the making of its table does
 pub copying_ends : (goes : Copying) (mode : ResizeMode) (initial number : ℕ) (answer : Answer) (refused : Refused)
     → of_copied (copying_after goes mode initial number answer) ≡ Some refused
     → of_link (λ made. link_after made mode initial answer) (link_in_copying goes) ≡ Some refused
@@ -36,7 +37,7 @@ copying_ends goes mode initial number (answers.Call (Was_refused other)) refused
 copying_ends goes mode initial number (answers.Count count) refused e = sym (copying_count_as goes mode count initial) ∙ e
 copying_ends goes mode initial number answer refused e = absurd cc
 
--- the making of a table is refused while it counts, or is made
+-- linking never fails: the making of a table fails only while it counts, or makes the table
 linking_none : (before table chunks : ℕ) (mode : ResizeMode) (initial : ℕ) (answer : Answer)
     → of_linked (link_after (links.Linking before table chunks) mode initial answer) ≡ None
 linking_none before table chunks mode initial (answers.Call Exchanged) = refl
@@ -64,7 +65,7 @@ counting_none before slots unfit copied mode initial Exchanged = refl
 counting_none before slots unfit copied mode initial (Found_instead word) = refl
 counting_none before slots unfit copied mode initial told = refl
 
--- a table was to be made, and was refused
+-- a table was to be made, and making it failed
 pub record HasNotMade (made : Link) (answer : Answer) (refused : Refused) : Type 0 where
   pub slots : ℕ
   pub limit : ℕ
@@ -72,7 +73,7 @@ pub record HasNotMade (made : Link) (answer : Answer) (refused : Refused) : Type
   pub asks : link_ask made ≡ MakeTable slots limit chunks
   pub is : answer ≡ answers.Call (Was_refused refused)
 
--- a count was told, and the next table would be longer than a table may be
+-- a count was received, and the next table would be longer than a table may be
 pub record HasCountedTooMany (made : Link) (initial : ℕ) (answer : Answer) (refused : Refused) : Type 0 where
   pub capacity : refused ≡ Capacity
   pub behind : ℕ
@@ -85,7 +86,7 @@ pub record HasCountedTooMany (made : Link) (initial : ℕ) (answer : Answer) (re
   pub long : 2 ^ 32 < length_after slots count initial unfit
 
 module _ (initial : ℕ) (refused : Refused) where
-  -- a count is refused where the next length is past all lengths
+  -- a count fails if the next length is past all lengths
   too_long : (before slots count : ℕ) (unfit : Bool) (chunks : ℕ)
       → of_linked (making.counted before slots unfit chunks (length_after slots count initial unfit)) ≡ Some refused → (refused ≡ Capacity)
       × (2 ^ 32 < length_after slots count initial unfit)
@@ -98,7 +99,7 @@ module _ (initial : ℕ) (refused : Refused) where
       by_length true is e = absurd cc
       by_length false is e = let same : Capacity ≡ refused = cc e in (sym same, leb-false (length_after slots count initial unfit) (2 ^ 32) is)
 
--- the making of a table is refused by an answer, or by a count
+-- the making of a table fails by an answer, or by a count
 pub link_why : (made : Link) (mode : ResizeMode) (initial : ℕ) (answer : Answer) (refused : Refused)
     → of_linked (link_after made mode initial answer) ≡ Some refused → HasNotMade made answer refused ⊎ HasCountedTooMany made initial answer refused
 link_why (links.Making before slots limit chunks) mode initial (answers.Call (Was_refused other)) refused e =

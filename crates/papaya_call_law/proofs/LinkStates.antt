@@ -1,4 +1,4 @@
--- What holds of a table that is made for a copy, from one answer to the next.
+-- A property of a table that is made for a copy, from one answer to the next.
 use Rattle.std.proofs.Common.{sym, ◌∙◌, ◌≡◌, ℕ, ◌==◌, ◌&&◌, ◌||◌, nat_lt, not, cond, Bool, true, false, Option, None, Some, refl, ap}
 use Rattle.std.proofs.lemmas.Bool.{cond_both}
 use Rattle.papaya_words.specs.Word.{kind_of, may_hold}
@@ -59,13 +59,13 @@ use Rattle.papaya_call.specs.ChainMachine as machine
 use Rattle.papaya_call_law.specs.Copier.{link_in_carry, link_in_copying, link_in_settle, link_in_step}
 use Rattle.papaya_call_law.specs.Goes.{link_in}
 
--- the same of where an answer leads
+-- the same for the state after an answer
 abbrev pub Linked_in : (Link → Type 0) → Linked → Type 0
 Linked_in Holds (linked.On made) = Holds made
 Linked_in Holds _ = Unit {0}
 
--- It holds as the making begins, and stays so with each answer: of a size where that is told so, and of a table that was made where
--- that is new.
+-- It holds as the making begins, and each answer preserves it: an answer with a size if `Told`
+-- holds of the size, and an answer with a new table if `New` holds of that.
 pub record IsStable (Holds : Link → Type 0) (Told New : Link → ℕ → Type 0) : Type 0 where
   pub fresh : (behind copied : ℕ) (unfit : Bool) → Holds (links.Sizing behind copied unfit)
   pub sizes : (made : Link) (slots : ℕ) → Told made slots → Holds made → Holds (link.at_size made slots)
@@ -75,7 +75,7 @@ pub record IsStable (Holds : Link → Type 0) (Told New : Link → ℕ → Type 
   pub exchanges : (made : Link) → Holds made → Linked_in Holds (link.at_exchanged made)
   pub finds : (made : Link) (word : ℕ) → Holds made → Linked_in Holds (link.at_found made word)
 
--- of a machine's making of a table, if one is made
+-- for a machine's making of a table, if one is made
 abbrev pub In : (Link → Type 0) → Option Link → Type 0
 In Holds None = Unit {0}
 In Holds (Some made) = Holds made
@@ -94,7 +94,7 @@ module _ (Holds : Link → Type 0) (Told New : Link → ℕ → Type 0) (stable 
   abbrev NewIn : Option Link → ℕ → Type 0
   NewIn = Of New
 
-  -- the same of where an answer leads
+  -- the same for the state after an answer
   abbrev Linked_holds : Linked → Type 0
   Linked_holds = Linked_in Holds
 
@@ -114,7 +114,7 @@ module _ (Holds : Link → Type 0) (Told New : Link → ℕ → Type 0) (stable 
   Copied_holds (copied.On goes) = HoldsIn (link_in_copying goes)
   Copied_holds _ = Unit {0}
 
-  -- a carry
+  -- a move
   carried_on : (hash : ℕ) (end : Linked) → Linked_holds end → Carried_holds (carry.carried_on hash end)
   carried_on hash (linked.On made) h = h
   carried_on hash (linked.Table table) h = tt
@@ -416,7 +416,7 @@ module _ (Holds : Link → Type 0) (Told New : Link → ℕ → Type 0) (stable 
   lone slot (settled.Unfit table) h = tt
   lone slot (settled.Refused refused) h = tt
 
-  -- what an answer leads to
+  -- the state after an answer
   copying_called : (goes : Copying) (mode : ResizeMode) (number : ℕ) (answer : Call_answer)
       → ((slots limit : ℕ) → answer ≡ Size slots limit → ToldIn (link_in_copying goes) slots)
       → ((n : ℕ) → answer ≡ Made_number n → NewIn (link_in_copying goes) n) → HoldsIn (link_in_copying goes)
@@ -472,7 +472,7 @@ module _ (Holds : Link → Type 0) (Told New : Link → ℕ → Type 0) (stable 
   link_after made mode initial (answers.Hash hash) told new h = h
   link_after made mode initial (answers.Count count) told new h = stable.counts made mode count initial h
 
-  -- a call that goes on to another table links none yet
+  -- a call that continues in another table links none yet
   going_on : (m : Machine) (helped : Bool) (aim : Aim) (next : ℕ) → HoldsIn (link_in (machine.goes_on m helped aim next).phase)
   going_on m false aim next = tt
   going_on m true (aims.Settle slot) next = tt
@@ -518,7 +518,7 @@ module _ (Holds : Link → Type 0) (Told New : Link → ℕ → Type 0) (stable 
   copied_on m copied.Chunk h = tt
   copied_on m (copied.Refused refused) h = tt
 
-  -- of the machine
+  -- for the whole machine
   pub machine_holds : (m : Machine) (answer : Answer)
       → ((slots limit : ℕ) → answer ≡ answers.Call (Size slots limit) → ToldIn (link_in m.phase) slots)
       → ((n : ℕ) → (m.phase ≡ Calling → ⊥) → answer ≡ answers.Call (Made_number n) → NewIn (link_in m.phase) n) → HoldsIn (link_in m.phase)

@@ -37,7 +37,7 @@ module _ (limit : ℕ → ℕ) (hash initial : ℕ) (mode : ResizeMode) where
   abbrev pub valid : Made → State → Machine
   valid made s = lookup hash initial mode made s
 
-  -- a hint leads to its word, or past it
+  -- after a hint its word is loaded, or the place is passed
   hint_step : (at : Place) (hint : ℕ) → at.probe.len ≤ at.limit
       → IsStep limit (Searching (Looking at)) (goes_as Get mode nothing (hinted at hash hint)) (LoadHint at.table at.probe.i)
   hint_step at hint le =
@@ -107,7 +107,7 @@ module _ (limit : ℕ → ℕ) (hash initial : ℕ) (mode : ResizeMode) where
   step_by made (Uncounting pair) answer reader fits = absurd reader
   step_by made (Growing u) answer reader fits = absurd reader
 
-  -- what is asked from a state on is bounded
+  -- the number of loads from a state on is bounded
   record IsRun (s : State) (asks : List Ask) : Type 0 where
     pub loads : (t : ℕ) → count t (tables_loaded asks) ≤ left limit true t s
     pub hints : (t : ℕ) → count t (tables_hinted asks) ≤ left limit false t s

@@ -6,13 +6,14 @@ use Rattle.std.proofs.lemmas.Bool.{cases_order, cases_Bool, cond-true, cond-fals
 abbrev pub once : (t u : ℕ) → ℕ
 once t u = cond (u == t) 1 0
 
--- what holds of both of two holds of the one that is chosen
+-- a property of both of two values holds of the one that is chosen
 pub chosen : {A : Type 0} (P : A → Type 0) (b : Bool) (x y : A) → (b ≡ true → P x) → (b ≡ false → P y) → P (cond b x y)
 chosen P true x y f g = f refl
 chosen P false x y f g = g refl
 
 module _ (limit : ℕ → ℕ) where
-  -- how many slots of t may be loaded yet where a search of table u may load so many more of u
+  -- the number of slots of t that may still be loaded if a search of table u may load this many
+  -- more of u
   abbrev pub left_in : (t u more : ℕ) → ℕ
   left_in t u more = cond (u == t) more (cond (nat_lt u t) (limit t + 1) 0)
 
@@ -24,22 +25,22 @@ module _ (limit : ℕ → ℕ) where
     other lt = ⊎_elim (λ (b : (u == t) ≡ true). absurd (let e = eqb-true u t b in ⊎_elim (λ l. omega arith) (λ l. omega arith) lt)) (λ b. b)
         (cases_Bool (u == t))
 
-    -- a load of u counts for t where they are one
+    -- a load of u counts for t if they are the same
     one : u ≡ t → once t u ≡ 1
     one e = cond-true (u == t) 1 0 (equal e)
 
     none : (u < t) ⊎ (t < u) → once t u ≡ 0
     none lt = cond-false (u == t) 1 0 (other lt)
 
-    -- of u itself
+    -- for u itself
     left_same : (x : ℕ) → u ≡ t → left_in t u x ≡ x
     left_same x e = cond-true (u == t) x (cond (nat_lt u t) (limit t + 1) 0) (equal e)
 
-    -- of a table that comes later
+    -- for a table that comes later
     left_before : (x : ℕ) → u < t → left_in t u x ≡ limit t + 1
     left_before x lt = cond-false (u == t) x (cond (nat_lt u t) (limit t + 1) 0) (other (inl lt)) ∙ cond-true (nat_lt u t) (limit t + 1) 0 (lt-ltb u t lt)
 
-    -- of one that was passed
+    -- for one that was passed
     left_after : (x : ℕ) → t < u → left_in t u x ≡ 0
     left_after x lt =
         cond-false (u == t) x (cond (nat_lt u t) (limit t + 1) 0) (other (inr lt))

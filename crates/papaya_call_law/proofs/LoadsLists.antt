@@ -1,4 +1,4 @@
--- Lists of tables: counts, increasing numbers, and which tables are in them.
+-- Lists of tables: counts, increasing numbers, and the tables that are in them.
 use Rattle.std.proofs.Common.{◌≡◌, ℕ, zero, suc, ◌+◌, ◌<◌, ◌≤◌, ◌==◌, cond, List, [], ◌∷◌, length, get_or, refl, subst, arith}
 use Rattle.std.specs.List.{Contains, count_by}
 use Rattle.std.specs.List.Sorted.{IsStrictlyIncreasing}
@@ -39,6 +39,6 @@ from_cons n t ts le h = record { up = rises; first = λ lt. le }
 pub contains_first : (t : ℕ) (ts : List ℕ) → Contains (t ∷ ts) t
 contains_first t ts = (0, omega arith, refl)
 
--- what is in a list is in a longer one
+-- a member of a list is a member of a longer one
 pub contains_more : (t u : ℕ) (ts : List ℕ) → Contains ts u → Contains (t ∷ ts) u
 contains_more t u ts (k, lt, e) = (suc k, omega (arith, lt), e)

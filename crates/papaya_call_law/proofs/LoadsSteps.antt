@@ -1,4 +1,4 @@
--- How much a lookup may still load after one answer.
+-- The number of loads that a lookup may still make after one answer.
 use Rattle.std.proofs.Common.{◌≡◌, ◌⊎◌, inl, inr, ⊎_elim, ℕ, ◌+◌, ◌-◌, ◌<◌, ◌≤◌, ◌==◌, nat_lt, Bool}
 use Rattle.std.proofs.Common.{true, false, None, List, ◌∷◌, refl, sym, subst, arith, Option}
 use Rattle.std.specs.List.{All, Contains, cons_option}
@@ -34,11 +34,11 @@ use Rattle.papaya_call_law.specs.Loads.{table_entered, table_hinted, table_loade
 use Rattle.papaya_call_law.proofs.LoadsLists.{count, count-cons, IsFrom, from_lower, from_cons, contains_first, contains_more}
 use Rattle.papaya_call_law.proofs.LoadsLeft.{chosen, left_in, left_most, left_less, left_loaded, left_later}
 
--- a lookup that stands here
+-- a lookup in this state
 abbrev pub lookup : (hash initial : ℕ) → ResizeMode → Made → State → Machine
 lookup hash initial mode made s = record { task = Get; hash = hash; mode = mode; initial = initial; made = made; remembered = nothing; state = s }
 
--- where a lookup may stand: within the limit of its table
+-- the states of a lookup: within the limit of its table
 abbrev pub IsReader : State → Type 0
 IsReader AtRoot = Unit {0}
 IsReader (Searching (Sizing u)) = Unit {0}
@@ -77,18 +77,19 @@ IsIn (Searching (Reading at)) u = at.table ≡ u
 IsIn (Searching (Comparing at word)) u = at.table ≡ u
 IsIn _ u = ⊥
 
--- of words, or else of hints: the table of which an ask loads one
+-- the table of which an ask loads a word, or otherwise a hint
 abbrev pub loaded_by : Bool → Ask → Option ℕ
 loaded_by true ask = table_loaded ask
 loaded_by false ask = table_hinted ask
 
--- the place whose hint was loaded has its word yet to load
+-- the words, or otherwise hints, left once the hint of a place was loaded: its word is yet to be
+-- loaded
 abbrev left_here : Bool → Place → ℕ
 left_here true at = at.limit + 1 - at.probe.len
 left_here false at = at.limit - at.probe.len
 
 module _ (limit : ℕ → ℕ) where
-  -- how many words, or else hints, of table t it may load from here on
+  -- the number of words, or otherwise hints, of table t that it may load from here on
   abbrev pub left : Bool → ℕ → State → ℕ
   left words t AtRoot = limit t + 1
   left words t (Searching (Sizing u)) = left_in limit t u (limit t + 1)
@@ -98,7 +99,7 @@ module _ (limit : ℕ → ℕ) where
   left words t (Leaving u) = left_in limit t u 0
   left words t _ = 0
 
-  -- a lookup comes here after a place of table u, after which so many more of u may be loaded
+  -- a lookup reaches this state after a place of table u, with this many more loads of u
   pub record Follows (u more : ℕ) (s : State) : Type 0 where
     pub reader : IsReader s
     pub fewer : (words : Bool) (t : ℕ) → left words t s ≤ left_in limit t u more
@@ -133,7 +134,7 @@ module _ (limit : ℕ → ℕ) where
   follows_passes Blocking u more = follows_ended u more Absent
 
   module _ (mode : ResizeMode) (at : Place) (le : at.probe.len ≤ at.limit) where
-    -- what a search saw at a place leads to such a state
+    -- the outcome of a probe leads to such a state
     abbrev pub Leads : ProbeStep → Type 0
     Leads seen = Follows at.table (at.limit - at.probe.len) (goes_as Get mode nothing seen)
 
@@ -167,7 +168,7 @@ module _ (limit : ℕ → ℕ) where
   abbrev pub AreKnown : State → (entered as_loaded : List ℕ) → Type 0
   AreKnown s entered as_loaded = All (λ u. Contains entered u ⊎ IsIn s u) as_loaded
 
-  -- what is bounded from s' on is bounded from s on, where this is asked between them
+  -- a bound from s' on is a bound from s on, with this ask between them
   pub record IsStep (s s' : State) (ask : Ask) : Type 0 where
     pub reader : IsReader s'
     pub loads : (words : Bool) (t : ℕ) (rest : List ℕ) → count t rest ≤ left words t s' → count t (cons_option (loaded_by words ask) rest) ≤ left words t s
@@ -189,7 +190,7 @@ module _ (limit : ℕ → ℕ) where
     quiet = quiet;
   }
 
-  -- such are the loads of a root and of a next table, and whatever is compared or replied
+  -- these are the loads of a root and of a next table, and all comparisons and replies
   of_root : (words : Bool) → loaded_by words (Load Root) ≡ None
   of_root true = refl
   of_root false = refl
@@ -257,7 +258,7 @@ module _ (limit : ℕ → ℕ) where
       → count t rest ≤ left_in limit t at.table (at.limit - at.probe.len) → count t rest ≤ left_in limit t at.table more
   none_loaded at t rest more le h = let l = left_less limit t at.table (at.limit - at.probe.len) more (λ e. le) in omega (arith, h, l)
 
-  -- what is known of the tables after one was loaded at this place, or none
+  -- the facts about the tables after one was loaded at this place, or none
   known_here : (at : Place) (s s' : State) → ((u : ℕ) → IsIn s' u → at.table ≡ u) → ((u : ℕ) → at.table ≡ u → IsIn s u) → (entered as_loaded : List ℕ)
       → AreKnown s' entered as_loaded → AreKnown s entered as_loaded
   known_here at s s' same back entered as_loaded h k d lt = ⊎_elim (λ c. inl c) (λ i. inr (back _ (same _ i))) (h k d lt)
@@ -284,7 +285,7 @@ module _ (limit : ℕ → ℕ) where
       known false entered as_loaded h = All-cons (λ u. Contains entered u ⊎ IsIn (Searching (Looking at)) u) at.table as_loaded (inr refl)
           (known_here at (Searching (Looking at)) s' f.same (λ u e. e) entered as_loaded h)
 
-  -- a hint was loaded, and the word is to be
+  -- a hint was loaded, and the word is loaded next
   pub step_read : (at : Place) → at.probe.len ≤ at.limit → IsStep (Searching (Looking at)) (Searching (Reading at)) (LoadHint at.table at.probe.i)
   step_read at le = record {
     reader = le;

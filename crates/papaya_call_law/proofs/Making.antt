@@ -1,4 +1,4 @@
--- What the making of the next table learns from an answer.
+-- The facts that the making of the next table relies on after an answer.
 use Rattle.std.proofs.Common.{◌≡◌, ⊎_elim, ℕ, ◌<◌, ◌≤◌, ◌==◌, eqb-true, Option, Some, List, [], ◌∷◌, ◌++◌, append_assoc, refl, sym, ap, ◌∙◌, subst}
 use Rattle.std.proofs.lemmas.Bool.{eqb-false}
 use Rattle.papaya_words.specs.declared.refused.Refused.{Refused}
@@ -28,19 +28,19 @@ use Rattle.papaya_call_law.specs.ChainAnswers.{IsTrueOfCopy, LoadedPairs, told_o
 
 module _ {K P : Type 0} (g : Setting K P) (c : Coding K P) (s : State P) (m : K → Option P) (keeps : IsKeeping g s m) (mode : ResizeMode)
     (cut : IsCutAs mode g.chunk_of) (initial : ℕ) (loaded : LoadedPairs P) where
-  -- what was exchanged was allowed, and it relies on what holds where the answer led it
+  -- the exchange was allowed, and it relies on facts that hold in the state after the answer
   abbrev pub HasLinked : Link → Answer → List (Exchange P) → LoadedPairs P → Type 0
   HasLinked link answer es loaded' = AllAllowed g s es
       × ReliesLinked g c (run es s) loaded'.call.last loaded'.kept (follows link) (link_after link mode initial answer)
 
-  -- by what the answer is
+  -- by an equal answer
   answered : (link : Link) (answer answer' : Answer) (es es' : List (Exchange P)) (loaded' loaded'' : LoadedPairs P) → answer ≡ answer' → es ≡ es'
       → loaded' ≡ loaded'' → HasLinked link answer' es' loaded'' → HasLinked link answer es loaded'
   answered link answer answer' es es' loaded' loaded'' a e h r =
       subst (λ y. HasLinked link y es loaded') (sym a)
       (subst (λ y. HasLinked link answer' y loaded') (sym e) (subst (λ y. HasLinked link answer' es' y) (sym h) r))
 
-  -- where nothing was exchanged
+  -- if nothing was exchanged
   quiet : (link : Link) (answer answer' : Answer) (es : List (Exchange P)) (loaded' loaded'' : LoadedPairs P) → answer ≡ answer' → es ≡ [] → loaded' ≡ loaded''
       → ReliesLinked g c s loaded''.call.last loaded''.kept (follows link) (link_after link mode initial answer') → HasLinked link answer es loaded'
   quiet link answer answer' es loaded' loaded'' a e h r = answered link answer answer' es [] loaded' loaded'' a e h (tt, r)

@@ -1,4 +1,4 @@
--- What a call asks that makes a pair, and its state after each answer.
+-- The asks of a call that makes a pair, and its state after each answer.
 use Rattle.std.proofs.Common.{◌≡◌, ℕ, ◌+◌, ◌==◌, Bool, true, false, cond, Option, None, Some, refl}
 use Rattle.std.proofs.lemmas.Bool.{cond_both}
 use Rattle.papaya_words.specs.Word.{pair_of}
@@ -30,7 +30,7 @@ use Rattle.papaya_call.specs.Write.{put_ask, served_ask, serves, write_ask}
 use Rattle.papaya_call.specs.Search.{look}
 use Rattle.papaya_call_law.specs.Says.{MakesPair}
 
--- such a call loads how many numbers were taken, takes the next, or has something logged
+-- such a call loads how many numbers were taken, takes the next, or stores a part in the arena
 abbrev pub IsPairAsk : Ask → Type 0
 IsPairAsk (Load Made_word) = Unit {0}
 IsPairAsk (Exchange Made_word old new) = Unit {0}
@@ -40,7 +40,7 @@ IsPairAsk MakePair = Unit {0}
 IsPairAsk (MakePairOf n) = Unit {0}
 IsPairAsk _ = ⊥
 
--- something is logged
+-- a part is stored in the arena
 abbrev pub IsMakeAsk : Ask → Type 0
 IsMakeAsk MakeKey = Unit {0}
 IsMakeAsk MakeValue = Unit {0}
@@ -48,7 +48,7 @@ IsMakeAsk MakePair = Unit {0}
 IsMakeAsk (MakePairOf n) = Unit {0}
 IsMakeAsk _ = ⊥
 
--- once there is a number, no more is asked than that
+-- once there is a number, these are the only asks
 own_makes : (keyed valued : Bool) → IsMakeAsk (own_ask keyed valued)
 own_makes false valued = tt
 own_makes true false = tt
@@ -73,7 +73,7 @@ IsWriteAsk MakePair = Unit {0}
 IsWriteAsk (MakePairOf n) = Unit {0}
 IsWriteAsk _ = ⊥
 
--- what holds of each of these asks
+-- a property of each of these asks
 pub record HoldsOfPairAsks (Holds : Ask → Type 0) : Type 0 where
   pub loads : Holds (Load Made_word)
   pub takes : (count : ℕ) → Holds (Exchange Made_word count (count + 1))
@@ -98,7 +98,7 @@ module _ (Holds : Ask → Type 0) (each : HoldsOfPairAsks Holds) where
   number_holds Taken made old = cond_both (old == 0) (own_ask made.keyed made.valued) (of_ask made.valued old) Holds
       (λ _. own_holds made.keyed made.valued) (λ _. of_holds made.valued old)
 
-  -- holds of what is asked for a pair
+  -- holds of the asks for a pair
   pub pair_holds : (made : Made) (old : ℕ) → Holds (pair_ask made old)
   pair_holds made old = number_holds made.number made old
 
@@ -106,11 +106,11 @@ module _ (Holds : Ask → Type 0) (each : HoldsOfPairAsks Holds) where
   served_holds write puts None made = pair_holds made write.old
   served_holds write puts (Some n) made = puts n
 
-  -- and with the exchange of a slot, of what an insertion asks that writes
+  -- and, with the exchange of a slot, of the asks of an insertion that writes
   pub write_holds : (write : Write) → ((n : ℕ) → Holds (put_ask write n)) → (made : Made) → Holds (write_ask write made)
   write_holds write puts made = served_holds write puts (serves made write) made
 
--- what is asked for a pair
+-- the asks for a pair
 pub pair_asks : (made : Made) (old : ℕ) → IsPairAsk (pair_ask made old)
 pair_asks made old = pair_holds IsPairAsk (record { loads = tt; takes = λ count. tt; key = tt; value = tt; pair = tt; pair_of = λ n. tt }) made old
 
@@ -123,19 +123,19 @@ pub write_asks : (made : Made) (write : Write) → IsWriteAsk (write_ask write m
 write_asks made write = write_holds IsWriteAsk (record { loads = tt; takes = λ count. tt; key = tt; value = tt; pair = tt; pair_of = λ n. tt }) write
     (λ n. tt) made
 
--- where no number is left the call ends, and else it stays
+-- if no number is left the call ends, and otherwise it stays
 pub numbered_leads : (Holds : State → Type 0) → Holds (Ended (Reply_refused Limit)) → (state : State) → Holds state → (o : Option Made)
     → Holds (numbered o state)
 numbered_leads Holds over state stable None = over
 numbered_leads Holds over state stable (Some made) = stable
 
 module _ (Holds : State → Type 0) (over : Holds (Ended (Reply_refused Limit))) (write : Write) (stable : Holds (Writing write)) where
-  -- an insertion is told how many numbers were taken
+  -- an insertion receives how many numbers were taken
   pub told_leads : (served : Option ℕ) (made : Made) (count : ℕ) → Holds (write_told served made write count)
   told_leads None made count = numbered_leads Holds over (Writing write) stable (told made count)
   told_leads (Some n) made count = stable
 
-  -- another word stands there
+  -- another word is there
   pub lost_leads : (m : Machine) (word : ℕ) → Holds (goes m (look write.place word)) → (served : Option ℕ) → Holds (write_lost served m write word)
   lost_leads m word goes_on None = numbered_leads Holds over (Writing write) stable (told m.made word)
   lost_leads m word goes_on (Some n) = goes_on
@@ -146,19 +146,19 @@ pub exchanged_leads : (Holds : State → Type 0) (write : Write) → Holds (Writ
 exchanged_leads Holds write stable done None = stable
 exchanged_leads Holds write stable done (Some n) = done n
 
--- what was to be made was refused
+-- the part that was to be made was not made
 pub refuses_leads : (Holds : State → Type 0) (write : Write) (refused : Refused) → Holds (Writing write) → Holds (Ended (Reply_refused refused))
     → (served : Option ℕ) → Holds (refuses served refused write)
 refuses_leads Holds write refused stable over None = over
 refuses_leads Holds write refused stable over (Some n) = stable
 
--- something was made for a compute
+-- a part was made for a compute
 pub paired_leads : (Holds : State → Type 0) (purpose : Purpose) (n : ℕ) → Holds (Pairing purpose) → Holds (provides purpose n) → (g : Grown)
     → Holds (paired g purpose n)
 paired_leads Holds purpose n stable goes_on (On made) = stable
 paired_leads Holds purpose n stable goes_on (Pair made) = goes_on
 
--- where something is made, it is the pair just where one was asked for
+-- a part that is made is the pair if, and only if, a pair was asked for
 own_makes_pair : (keyed valued : Bool) (made next : Made) → own_grown keyed valued made ≡ Pair next → MakesPair (own_ask keyed valued)
 own_makes_pair false valued made next e = absurd cc
 own_makes_pair true false made next e = absurd cc
@@ -204,7 +204,7 @@ pub pair_made : (made : Made) (old : ℕ) → MakesPair (pair_ask made old) → 
 pair_made made old m = pair_made_by made.number made old m
 
 module _ (m : Machine) where
-  -- where each answer leads an insertion that writes, by the pair that serves
+  -- the state of an insertion that writes after each answer, by the pair that it uses
   abbrev pub write_then : Option ℕ → Made → Write → Answer → State
   write_then served made write (Word_read word) = write_told served made write word
   write_then served made write Exchanged = exchanged served write
@@ -225,7 +225,7 @@ module _ (m : Machine) where
   write_then_is made write (Was_refused refused) = refl
 
   module _ (Holds : State → Type 0) (over : (refused : Refused) → Holds (Ended (Reply_refused refused))) where
-    -- one that has no pair for its place stays, or is refused
+    -- an insertion that has no pair for its place stays, or fails
     pub unserved_leads : (made : Made) (write : Write) → Holds (Writing write) → (answer : Answer) → Holds (write_then None made write answer)
     unserved_leads made write stable (Word_read word) = numbered_leads Holds (over Limit) (Writing write) stable (told made word)
     unserved_leads made write stable Exchanged = stable

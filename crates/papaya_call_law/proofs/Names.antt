@@ -1,4 +1,4 @@
--- What a copy for a call names, and may exchange.
+-- The words that a copy for a call names, and may exchange.
 use Rattle.std.proofs.Common.{◌≡◌, inl, inr, ℕ, Option, List, ◌++◌, refl, subst}
 use Rattle.papaya_call.specs.declared.ask.Ask.{Ask as Call_ask}
 use Rattle.papaya_call.specs.declared.ask.At.{At}
@@ -30,7 +30,7 @@ use Rattle.papaya_call_law.specs.ChainAnswers.{LoadedPairs}
 use Rattle.papaya_call_law.proofs.CopierCarries.{no_note}
 use Rattle.papaya_words_law.specs.Hints.{IsHint}
 
--- what a machine asks as its call asks is what its call asks
+-- an ask of a machine in its call's form is its call's ask
 own_ask : (m : Machine) (phase : Phase) (ask : Call_ask) → asks_in m.call phase ≡ asks.Call ask → (phase ≡ Calling) × (call_machine.ask_of m.call ≡ ask)
 own_ask m Calling ask e = (refl, cc e)
 own_ask m (Linking link) ask e = absurd cc
@@ -53,7 +53,7 @@ module _ {K P : Type 0} (g : Setting K P) (c : Coding K P) (hashed : IsHashed g 
   copy_relies copying (inl at) = at.relies
   copy_relies copying (inr at) = at.relies
 
-  -- what is named is there
+  -- the words that are named are there
   there_in : (phase : Phase) → ReliesPhase g c begun since k m loaded phase → (ask : CopyAsk) → asks_in m.call phase ≡ asks.Copy ask
       → AreThere g c now loaded.call.last loaded.kept ask
   there_in Calling at ask e = absurd cc
@@ -67,7 +67,7 @@ module _ {K P : Type 0} (g : Setting K P) (c : Coding K P) (hashed : IsHashed g 
   pub copies_there : (ask : CopyAsk) → ask_of m ≡ asks.Copy ask → AreThere g c now loaded.call.last loaded.kept ask
   copies_there ask e = there_in m.phase r.phase ask e
 
-  -- what is exchanged is allowed
+  -- its exchange is allowed
   abbrev May : Option StepKind → At → (old new : ℕ) → Type 0
   May kind at old new = word_of g c now at ≡ old → (e : Exchange P) × IsCopyAsked c kind at new now loaded.kept e × Allows g now e
       × IsWritten g c now at new (after now e)

@@ -19,18 +19,18 @@ use Rattle.papaya_call_law.specs.ChainRelies.{left_by}
 use Rattle.papaya_call_law.proofs.Goes.{machine_goes}
 use Rattle.papaya_call_law.proofs.Names.{call_asks}
 
--- a call that is set aside has shown it where it remembers what to insert
+-- a call that is set aside has called its closure with None if it remembers what to insert
 pub aside_filled : (fill : Option ℕ) (stage : Stage) (t : ℕ) → left_by stage ≡ Some t → HasCalledNone fill stage → IsFilled fill
 aside_filled fill (Leaving u) t e h = h
 aside_filled fill (Growing need) t e h = h
 aside_filled fill stage t e h = absurd cc
 
--- the call has shown it
+-- the call has called its closure with None
 abbrev HasCalled : Call_machine → Type 0
 HasCalled call = HasCalledNone call.remembered.fill call.state
 
 module _ (m : Machine) (answer : Answer) (order : IsInOrder m answer m.phase) (shown : HasCalledNone m.call.remembered.fill m.call.state) where
-  -- where the answer leaves the call it has shown it
+  -- the call after the answer has done so
   still_shown : HasCalled (after m answer).call
   still_shown = elim (machine_goes m answer order) [
     | inl waits ↦ subst HasCalled (sym waits.call) shown
@@ -42,11 +42,11 @@ module _ (m : Machine) (answer : Answer) (order : IsInOrder m answer m.phase) (s
     | inr (inr (inr (inr ends))) ↦ subst HasCalled (sym ends.call) tt
   ]
 
-  -- so it shows it no more
+  -- so it does so no more
   pub chain_once : (ask_of m ≡ asked.Call ShowNone → ⊥) × HasCalledNone (after m answer).call.remembered.fill (after m answer).call.state
   chain_once = (λ asks. (machine_shown m.call (Word_read 0) shown).0 (call_asks m ShowNone asks).1, still_shown)
 
--- once it was shown, it has
+-- after such a call of the closure it has done so
 pub chain_offered : (m : Machine) (kind : OpKind) → ask_of m ≡ asked.Call ShowNone
     → HasCalledNone (after m (answers.Call (Op kind))).call.remembered.fill (after m (answers.Call (Op kind))).call.state
 chain_offered m kind asks = let own = call_asks m ShowNone asks in

@@ -27,7 +27,7 @@ module _ {K P : Type 0} (g : Setting K P) (c : Coding K P) (hashed : IsHashed g 
   module _ (inc : g.blocking ≡ false) (m : Machine) (loaded : LoadedPairs P) (cut : calls.IsCutAs m.call.mode g.chunk_of)
       (r : calls.Relies g c begun since k m.call loaded.call) (changes : IsChanger m.call.task) (t : ℕ) (left : left_by m.call.state ≡ Some t)
       (some : 0 < now.next t) where
-    -- what the call copies for is there
+    -- the copy for the call is for a table or slot that is there
     aims_rest : (stage : Stage) → ReliesStage g c begun since k loaded.call m.call.task stage → left_by stage ≡ Some t
         → ReliesAim g c now loaded.call.last loaded.kept (aim_for stage (now.next t))
     aims_rest (Growing (Pair_at u x)) stands e =
@@ -57,7 +57,7 @@ module _ {K P : Type 0} (g : Setting K P) (c : Coding K P) (hashed : IsHashed g 
     abbrev in_stage : Stage → Machine
     in_stage stage = record m { call = record m.call { state = stage } }
 
-    -- it looks for its key in the next table
+    -- it searches the next table for its key
     entered : (stage : Stage) → ReliesStage g c begun since k loaded.call m.call.task stage → left_by stage ≡ Some t
         → ((u x : ℕ) → stage ≡ Growing (Pair_at u x) → IsSettled g now (now.next t) (now.slot u x))
         → Relies g c begun since k (enters (in_stage stage) (now.next t)) loaded
@@ -68,7 +68,7 @@ module _ {K P : Type 0} (g : Setting K P) (c : Coding K P) (hashed : IsHashed g 
       phase = tt;
     }
 
-    -- or, where it did so before, the slot in which it met its key's pair, or nothing
+    -- or, if it did so before, the slot in which it met its key's pair, or nothing
     helps_no_more : (stage : Stage) → ReliesStage g c begun since k loaded.call m.call.task stage → left_by stage ≡ Some t
         → Relies g c begun since k (goes_on (in_stage stage) true (aim_for stage (now.next t)) (now.next t)) loaded
     helps_no_more (Growing (Pair_at u x)) stands e = record {

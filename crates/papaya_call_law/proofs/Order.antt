@@ -1,4 +1,4 @@
--- A call that asks for itself is answered as calls are, and any other call was set aside.
+-- A call in phase `Calling` receives answers to calls, and any other call was set aside.
 use Rattle.std.proofs.Common.{inl, inr, ℕ, List}
 use Rattle.papaya_call.specs.Link.{follows}
 use Rattle.papaya_call.specs.declared.chain.ask.Answer.{Answer}

@@ -1,5 +1,5 @@
--- After a step of the making of a table, or of the copy of the root, what the call relies on holds
--- again.
+-- After a step of the making of a table, or of the copy of the root, the facts that the call relies
+-- on hold again.
 use Rattle.std.proofs.Common.{◌≡◌, inl, inr, ℕ, ◌<◌, true, false, Some, List, [], ◌++◌, append-nil, refl, sym, ap, ◌∙◌, subst}
 use Rattle.papaya_words.specs.declared.refused.Refused.{Refused}
 use Rattle.papaya_call.specs.declared.ask.Answer.TheVariants.{Word as Word_read}
@@ -34,7 +34,7 @@ use Rattle.papaya_call.proofs.Settings.{settings_stable}
 use Rattle.papaya_call_law.proofs.Aside.{enters_relies}
 use Rattle.papaya_call_law.proofs.Onward.{onward_relies}
 
--- a call that is set aside copies for a chunk and a table or a slot, and goes on copying for that
+-- a call that is set aside copies for a chunk and a table or a slot, and continues to copy for that
 same_aimed : (stage : Stage) (n : ℕ) (aim : Aim) → IsStillAimed (aim_for stage n) aim → aim ≡ aim_for stage n
 same_aimed (Growing (Pair_at t x)) n aim still = still
 same_aimed (Growing (Room t)) n aim still = still
@@ -57,7 +57,7 @@ module _ {K P : Type 0} (g : Setting K P) (c : Coding K P) (hashed : IsHashed g 
   abbrev now : State P
   now = run (begun ++ since) start
 
-  -- a call that may change the map may be refused
+  -- a call that may change the map may fail
   refused_stage : (loaded : call_loaded.LoadedPairs P) (task : Task) → IsChanger task → (refused : Refused)
       → ReliesStage g c begun since k loaded task (Ended (Reply_refused refused))
   refused_stage loaded Get changes refused = absurd changes
@@ -75,7 +75,7 @@ module _ {K P : Type 0} (g : Setting K P) (c : Coding K P) (hashed : IsHashed g 
       phase = tt;
     }
 
-    -- with blocking the call begins anew at the root
+    -- with blocking the call starts again at the root
     anew_relies : (root : ℕ) → now.root ≡ root → Relies g c begun since k (restarted m root) loaded
     anew_relies root is = subst (λ n. Relies g c begun since k (restarted m n) loaded) is
         (record {
@@ -87,7 +87,7 @@ module _ {K P : Type 0} (g : Setting K P) (c : Coding K P) (hashed : IsHashed g 
           phase = tt;
         })
 
-    -- the copy of all led here
+    -- the state after the copy of all
     pub all_relies : g.blocking ≡ true → (t : ℕ) → left_by m.call.state ≡ Some t → (met : ℕ) (end : Copied)
         → ReliesCopied g c now loaded.call.last loaded.kept (aims.All met) end → Relies g c begun since k (after_copied m end) loaded
     all_relies blocks t left met (copied.On copying) is = record {
@@ -102,7 +102,7 @@ module _ {K P : Type 0} (g : Setting K P) (c : Coding K P) (hashed : IsHashed g 
 
   module _ (inc : g.blocking ≡ false) (m : Machine) (loaded : LoadedPairs P) (cut : calls.IsCutAs m.call.mode g.chunk_of)
       (r : calls.Relies g c begun since k m.call loaded.call) (changes : IsChanger m.call.task) (t : ℕ) (left : left_by m.call.state ≡ Some t) where
-    -- the making of the next table led here
+    -- the state after the making of the next table
     pub linked_relies : (end : Linked) → ReliesLinked g c now loaded.call.last loaded.kept t end → Relies g c begun since k (after_linked m end) loaded
     linked_relies (linked.On link) is = record {
       cut = cut;
@@ -115,7 +115,7 @@ module _ {K P : Type 0} (g : Setting K P) (c : Coding K P) (hashed : IsHashed g 
     linked_relies (linked.Refused refused) is = refuses_relies m loaded cut r changes refused
 
     module _ (some : 0 < now.next t) where
-      -- where the call was to look on, its slot is settled
+      -- if the call met its key's pair in a slot, that slot is migrated
       led_settled : (stage : Stage) (n : ℕ) → IsLedTo g c now loaded.call.last loaded.kept (aim_for stage (now.next t)) n → (u x : ℕ)
           → stage ≡ Growing (Pair_at u x) → IsSettled g now (now.next t) (now.slot u x)
       led_settled (Growing (Pair_at v y)) n led u x e =
@@ -131,7 +131,7 @@ module _ {K P : Type 0} (g : Setting K P) (c : Coding K P) (hashed : IsHashed g 
       led_next (Growing (Room v)) n led = led
       led_next stage n led = led
 
-      -- the copy of the root led here
+      -- the state after the copy of the root
       pub copied_relies : (end : Copied) → ReliesCopied g c now loaded.call.last loaded.kept (aim_for m.call.state (now.next t)) end
           → Relies g c begun since k (after_copied m end) loaded
       copied_relies (copied.On copying) is = record {

@@ -1,4 +1,4 @@
--- Why a call over a chain is refused.
+-- The causes with which a call over a chain fails.
 use Rattle.std.proofs.Common.{◌≡◌, ◌⊎◌, inl, inr, ⊎_elim, ℕ, ◌+◌, ◌==◌, Bool, true, false, cond, Option, None, Some, List, [], ◌∷◌, refl, sym, ap, ◌∙◌, subst}
 use Rattle.std.proofs.lemmas.Bool.{cond_both}
 use Rattle.papaya_words.specs.declared.refused.Refused.{Refused}
@@ -60,7 +60,7 @@ use Rattle.papaya_call_law.proofs.Names.{call_asks}
 use Rattle.papaya_call_law.proofs.Replies.{anew, aside_asks}
 use Rattle.papaya_words.specs.Word.{live_word}
 
--- the refusal that an ask ends a call with
+-- the failure with which an ask ends a call
 abbrev of_reply : Reply → Option Refused
 of_reply (Reply_refused refused) = Some refused
 of_reply _ = None
@@ -69,7 +69,7 @@ abbrev of_asked : Ask → Option Refused
 of_asked (asked.Call (Ask_done reply)) = of_reply reply
 of_asked _ = None
 
--- a call that needs a next table is refused by a word alone
+-- a call that needs a next table fails by a word alone
 growing_word : (call : Call_machine) (need : Need) (refused : Refused) (told : Call_answer) → call.state ≡ Growing need
     → call_machine.ask_of (call_machine.after call told) ≡ Ask_done (Reply_refused refused) → (word : ℕ) × (told ≡ Word_read word)
 growing_word call need refused told grows e = by_answer told
@@ -81,7 +81,7 @@ growing_word call need refused told grows e = by_answer told
     by_answer other e = absurd cc
 
 module _ (m : Machine) where
-  -- a call that goes on in the next table isn't refused
+  -- a call that continues in the next table doesn't fail
   goes_none : (helped : Bool) (aim : Aim) (n : ℕ) → of_asked (ask_of (goes_on m helped aim n)) ≡ None
   goes_none false aim n = refl
   goes_none true (aims.Settle slot) n = refl
@@ -92,13 +92,14 @@ module _ (m : Machine) where
   onward_none : (n : ℕ) → of_asked (ask_of (onward m n)) ≡ None
   onward_none n = goes_none m.helped (aim_for m.call.state n) n
 
-  -- nor one that is told of the next table it needs
+  -- nor one that receives the next table that it needs
   grows_none : (mode : ResizeMode) (need : Need) (word : ℕ) → of_asked (ask_of (grows_as m mode need word)) ≡ None
   grows_none Blocking need word = refl
   grows_none (Incremental chunk) need word = cond_both (word == 0) (record m { phase = Linking (links.Sizing (needed need) (needed need) false) })
       (onward m word) (λ (y : Machine). of_asked (ask_of y) ≡ None) (λ _. refl) (λ _. onward_none word)
 
-  -- the call went on for itself, and was told no next table that it needs, or it isn't refused
+  -- the call continued in phase `Calling`, and received no next table that it needs, or it doesn't
+  -- fail
   abbrev IsStep : Call_answer → Machine → Type 0
   IsStep told m' = ((m' ≡ stepped m told) × ((need : Need) (word : ℕ) → m.call.state ≡ Growing need → told ≡ Word_read word → ⊥))
       ⊎ (of_asked (ask_of m') ≡ None)
@@ -122,7 +123,7 @@ module _ (m : Machine) where
   called_steps (Word_read word) = next_steps m.call.state word refl
   called_steps told = inl (refl, λ need other grows is. absurd (cc is))
 
-  -- the making of a table, or the copy of the root, ended refused where the call did
+  -- the making of a table, or the copy of the root, failed if the call did
   linked_ends : (refused : Refused) (end : Linked) → of_asked (ask_of (after_linked m end)) ≡ Some refused → of_linked end ≡ Some refused
   linked_ends refused (linked.On link) e = e
   linked_ends refused (linked.Table n) e = absurd (cc (onward_none n, e))
@@ -138,7 +139,7 @@ module _ (m : Machine) where
   copied_ends t left refused (copied.Refused other) e = e
 
 module _ (m : Machine) (answer : Answer) (refused : Refused) where
-  -- the making of a table is refused by an answer, or by a count
+  -- the making of a table fails by an answer, or by a count
   made_why : (made : Link) → link_in m.phase ≡ Some made → ask_of m ≡ asked.Copy (link_ask made)
       → of_linked (link_after made m.call.mode m.call.initial answer) ≡ Some refused → WasNotMade m answer refused ⊎ WouldBeTooLong m answer refused
   made_why made stands says e =
@@ -161,21 +162,21 @@ module _ (m : Machine) (answer : Answer) (refused : Refused) where
       }))
       (link_why made m.call.mode m.call.initial answer refused e)
 
-  -- where a copy makes one
+  -- if a copy makes one
   held_why : (goes : Copying) → m.phase ≡ Copying_root goes → (held : Option Link) → link_in_copying goes ≡ held
       → of_link (λ made. link_after made m.call.mode m.call.initial answer) held ≡ Some refused → WasNotMade m answer refused ⊎ WouldBeTooLong m answer refused
   held_why goes phase None holds e = absurd cc
   held_why goes phase (Some made) holds e = made_why made (ap link_in phase ∙ holds)
       (ap (asks_in m.call) phase ∙ ap asked.Copy (copying_asks goes made holds)) e
 
-  -- what is refused to the call was to be made for it
+  -- an answer with a failure, in a state of making, answers an ask to make a part
   abbrev Makes : Type 0
   Makes = (told : Call_answer) → m.phase ≡ Calling → answer ≡ answers.Call told → told ≡ Was_refused refused → IsMaking m.call.state
       → IsToMake (call_machine.ask_of m.call)
 
   module _ (makes : Makes) (open_still : (reply : Reply) → ask_of m ≡ asked.Call (Ask_done reply) → ⊥)
       (ends : ask_of (after m answer) ≡ asked.Call (Ask_done (Reply_refused refused))) where
-    -- the call went on for itself
+    -- the call continued in phase `Calling`
     own_why : (told : Call_answer) → m.phase ≡ Calling → answer ≡ answers.Call told → after m answer ≡ stepped m told
         → ((need : Need) (word : ℕ) → m.call.state ≡ Growing need → told ≡ Word_read word → ⊥) → IsOwnRefusal m answer refused
     own_why told phase is same no_table = by_reason (machine_reason m.call refused told still then)
@@ -235,19 +236,19 @@ module _ (m : Machine) (answer : Answer) (refused : Refused) where
         ended : (phase : Phase) → m.phase ≡ phase → of_asked (ask_of (after_in m answer phase)) ≡ Some refused
         ended phase e = sym (ap (λ p. of_asked (ask_of (after_in m answer p))) e) ∙ ap of_asked ends
 
-    -- of the machine
+    -- for the whole machine
     machine_why : IsInOrder m answer m.phase → IsCause m answer refused
     machine_why order = phase_why m.phase refl order
 
 module _ {K P : Type 0} (g : Setting K P) (c : Coding K P) (k : K) (s : State P) (m : Machine) (answer : Answer) (refused : Refused)
     (loaded : LoadedPairs P) (es : List (Exchange_made P)) (loaded' : LoadedPairs P)
     (tells : IsTrueOf g c k s (kind_of_ask m) (follows_of m) loaded (ask_of m) answer es loaded') where
-  -- what is refused was to be made
+  -- only an ask to make a part has an answer with a failure
   abbrev IsMadeAsk : Call_ask → Type 0
   IsMadeAsk ask = (kind : Option StepKind) (call' : call_told.LoadedPairs P)
       → call_told.IsTrueOf g c k s kind loaded.call ask (Was_refused refused) es call' → IsToMake ask
 
-  -- no exchange is refused
+  -- an exchange has no such answer
   exchange_told : (at : At) (old new : ℕ) → IsMadeAsk (Exchange at old new)
   exchange_told at old new kind call' h =
       by_test (call_told.word_of g c s at == old)
@@ -281,7 +282,7 @@ module _ {K P : Type 0} (g : Setting K P) (c : Coding K P) (k : K) (s : State P)
       making_told m.call.made m.call.hash (call_machine.kind_of_ask m.call) h.call m.call.state making
       (subst (λ a. call_told.IsTrueOf g c k s (call_machine.kind_of_ask m.call) loaded.call (call_machine.ask_of m.call) a es h.call) same h.tells)
 
-  -- of a machine that is told
+  -- for a machine that receives an answer
   pub chain_refused : IsInOrder m answer m.phase → ((reply : Reply) → ask_of m ≡ asked.Call (Ask_done reply) → ⊥)
       → ask_of (after m answer) ≡ asked.Call (Ask_done (Reply_refused refused)) → IsCause m answer refused
   chain_refused order open_still ends = machine_why m answer refused makes_told open_still ends order

@@ -1,5 +1,5 @@
--- What a machine relies on, by its parts: if each part is carried over to another state, all of it
--- is.
+-- The facts that a machine relies on, by their parts: if each part carries over to another state,
+-- all of them do.
 use Rattle.std.proofs.Common.{◌≡◌, inl, inr, ⊎_elim, ℕ, ◌<◌, ◌==◌, MatchBool, MatchOption, Bool, true, false, Option, None, Some, List, sym, ap, ◌∙◌, subst}
 use Rattle.papaya_call.specs.declared.call.Reply.{Reply}
 use Rattle.papaya_call.specs.declared.call.Reply.TheVariants.{Absent, Found, Inserted, Replaced}
@@ -45,7 +45,8 @@ use Rattle.papaya_call_law.specs.Relies.{ReliesStage, Relies, HasClaimed}
 use Rattle.papaya_call.specs.declared.need.Need.{Need}
 use Rattle.papaya_call.specs.declared.write.Claimed.{Claimed}
 
--- each part is carried from one setting, and the exchanges of a call so far, to another setting and more of them
+-- each part carries over from one setting, and the exchanges of a call so far, to another setting
+-- and more exchanges
 pub record AreCarried {K P : Type 0} (g g' : Setting K P) (c : Coding K P) (begun since since' : List (Exchange P)) (k : K) (loaded : LoadedPairs P) :
     Type 0 where
   pub mode : g'.blocking ≡ g.blocking
@@ -91,7 +92,7 @@ module _ {K P : Type 0} (g g' : Setting K P) (c : Coding K P) (begun since since
       same_carried : (p : P) → g'.same k (g'.key p) ≡ g.same k (g.key p)
       same_carried p = carried.same k (g'.key p) ∙ ap (λ key. g.same k key) (carried.key p)
 
-  -- what a write takes the place of
+  -- the word that a write replaces
   write_carried : (replace : Bool) (write : Write) → MayWrite g c begun since k loaded replace write → MayWrite g' c begun since' k loaded replace write
   write_carried replace write r = record {
     stands = carried.stands write.place r.stands;
@@ -105,7 +106,7 @@ module _ {K P : Type 0} (g g' : Setting K P) (c : Coding K P) (begun since since
   writing_carried RemoveIf write r = r
   writing_carried Compute write r = r
 
-  -- what a pair is made for
+  -- the purpose for which a pair is made
   purpose_carried : (purpose : Purpose) → ReliesPurpose g c begun since k loaded purpose → ReliesPurpose g' c begun since' k loaded purpose
   purpose_carried (Fill gap) r = gap_carried gap r
   purpose_carried (For_replace write) r = removal_carried (record { place = write.place; word = write.old }) r
@@ -132,7 +133,7 @@ module _ {K P : Type 0} (g g' : Setting K P) (c : Coding K P) (begun since since
   had_carried : (n : ℕ) → HadPair g c begun since k n → HadPair g' c begun since' k n
   had_carried n r = (r.0, r.1, carried.moment (Some r.0) r.2)
 
-  -- a reply fits still
+  -- a reply still fits
   reply_carried : (task : Task) (reply : Reply) → IsReply g c begun since k loaded task reply → IsReply g' c begun since' k loaded task reply
   reply_carried Get Absent r = carried.moment None r
   reply_carried Get (Found n) r = had_carried n r
@@ -212,13 +213,13 @@ module _ {K P : Type 0} (g g' : Setting K P) (c : Coding K P) (begun since since
   of_carried None r = r
   of_carried (Some of) r = at_carried of.pair of.table of.index r
 
-  -- what a closure chose
+  -- the choice of a closure
   choice_carried : (choice : Option Choice) → ReliesChoice g c begun since k loaded choice → ReliesChoice g' c begun since' k loaded choice
   choice_carried None r = r
   choice_carried (Some (To_replace old new)) r = of_carried (Some new) r
   choice_carried (Some (To_remove old)) r = r
 
-  -- the pairs that the call made are of its class
+  -- the pairs that the call made have keys equal to its key
   loaded_carried : (made : Made) (held : Remembered) → ReliesLoaded g c begun since k loaded made held → ReliesLoaded g' c begun since' k loaded made held
   loaded_carried made held r = record {
     keys = λ q one. (carried.same k (g'.key q) ∙ ap (λ key. g.same k key) (carried.key q)) ∙ r.keys q one;
@@ -230,7 +231,7 @@ module _ {K P : Type 0} (g g' : Setting K P) (c : Coding K P) (begun since since
     choice_is = choice_carried held.choice r.choice_is;
   }
 
-  -- all of it
+  -- all of them
   pub relies_carried : (m : Machine) → Relies g c begun since k m loaded → Relies g' c begun since' k m loaded
   relies_carried m r = record {
     hash = r.hash;

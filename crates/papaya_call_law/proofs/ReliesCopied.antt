@@ -1,4 +1,4 @@
--- A pair is made with the key of the pair loaded last, if that pair is of the call's class.
+-- A pair is made with the key of the pair loaded last, if that key is equal to the call's.
 use Rattle.std.proofs.Common.{◌≡◌, ⊎_elim, ℕ, ◌==◌, eq-eqb, Bool, true, false, cond, Option, None, Some, List, refl, ◌∙◌}
 use Rattle.papaya_words.specs.Word.{pair_of}
 use Rattle.papaya_call.specs.declared.ask.Ask.TheVariants.{MakePairOf}
@@ -29,7 +29,7 @@ use Rattle.papaya_call_law.specs.TrueAnswers.{LoadedPairs}
 use Rattle.papaya_call_law.specs.Relies.{MayRemove, Relies, ReliesPurpose, ReliesStage, ReliesWriting}
 use Rattle.papaya_call_law.proofs.ReliesLearnPairs.{removal_number}
 
--- it is asked for in place of a word that names the pair
+-- the ask is in place of a word that names the pair
 own_copies : (keyed valued : Bool) (n : ℕ) → own_ask keyed valued ≡ MakePairOf n → ⊥
 own_copies false valued n e = cc e
 own_copies true false n e = cc e
@@ -53,7 +53,7 @@ copies : (made : Made) (old n : ℕ) → pair_ask made old ≡ MakePairOf n → 
 copies made old n e = copies_by made.number made old n e
 
 module _ {K P : Type 0} (g : Setting K P) (c : Coding K P) (hashed : IsHashed g c) (begun since : List (Exchange P)) (k : K) (loaded : LoadedPairs P) where
-  -- the pair last loaded, of the call's class
+  -- the pair last loaded, with a key equal to the call's
   abbrev pub IsCopying : ℕ → Type 0
   IsCopying n = (p : P) × (loaded.last ≡ Some p) × (c.number p ≡ n) × (g.same k (g.key p) ≡ true)
 
@@ -106,6 +106,6 @@ module _ {K P : Type 0} (g : Setting K P) (c : Coding K P) (hashed : IsHashed g 
   copied_in task hash made (Growing u) s n e = absurd cc
   copied_in task hash made (Ended reply) s n e = absurd cc
 
-  -- of the machine
+  -- for the whole machine
   pub machine_copied : (m : Machine) → Relies g c begun since k m loaded → (n : ℕ) → ask_of m ≡ MakePairOf n → IsCopying n
   machine_copied m r n e = copied_in m.task m.hash m.made m.state r.stage n e

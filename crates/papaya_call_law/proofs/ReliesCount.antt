@@ -1,4 +1,4 @@
--- What a machine has yet to add after an answer is what the map grew by.
+-- After an answer a machine has yet to add the map's growth to the count.
 use Rattle.std.proofs.Common.{◌≡◌, ⊎_elim, ℕ, ◌+◌, ℤ, pos, negsuc, ◌==◌, Bool, true, false, cond, Option, None, Some, List, ◌∷◌, [], refl, sym, ap, ◌∙◌, subst}
 use Rattle.papaya_words.specs.Word.{pair_of, live_word}
 use Rattle.papaya_words.specs.declared.refused.Refused.{Refused}
@@ -45,7 +45,7 @@ use Rattle.std.proofs.lemmas.Bool.{cond_both}
 use Rattle.papaya_call_law.proofs.Leads.{HoldsOfLeads, beaten_leads, goes_leads, left_leads, provides_leads, root_leads}
 use Rattle.papaya_call_law.proofs.ReliesLearn.{by_test}
 
--- a machine owes where it is about to count
+-- a machine that is about to count owes
 abbrev owed_in : Stage → ℤ
 owed_in (Counting n) = pos 1
 owed_in (Noting n) = pos 0
@@ -64,11 +64,11 @@ owed_in (Leaving t) = pos 0
 owed_in (Growing t) = pos 0
 owed_in (Ended reply) = pos 0
 
--- what is asked for a pair owes nothing
+-- the asks for a pair owe nothing
 pairs_owe : HoldsOfPairAsks (λ ask. owed_by ask ≡ pos 0)
 pairs_owe = record { loads = refl; takes = λ count. refl; key = refl; value = refl; pair = refl; pair_of = λ n. refl }
 
--- its ask is what it owes
+-- its ask states what it owes
 asked_in : (made : Made) (hash : ℕ) (stage : Stage) → owed_by (asks made hash stage) ≡ owed_in stage
 asked_in made hash AtRoot = refl
 asked_in made hash Making = refl
@@ -90,7 +90,7 @@ asked_in made hash (Leaving t) = refl
 asked_in made hash (Growing t) = refl
 asked_in made hash (Ended reply) = refl
 
--- a load or a search leads to nothing that is owed
+-- nothing is owed after a load or a search
 leads_owe : HoldsOfLeads (λ stage. owed_in stage ≡ pos 0)
 leads_owe = record {
   ended_absent = refl;
@@ -108,11 +108,11 @@ leads_owe = record {
   growing = λ t. refl;
 }
 
--- what a search saw
+-- nor after a probe
 goes_owes : (task : Task) (mode : ResizeMode) (held : Remembered) (s : ProbeStep) → owed_in (goes_as task mode held s) ≡ pos 0
 goes_owes task mode held s = goes_leads (λ stage. owed_in stage ≡ pos 0) leads_owe task mode held s
 
--- nor does what a closure answered
+-- nor after a result of a closure
 agreed_owes : (removal : Removal) (agrees : Bool) → owed_in (agreed removal agrees) ≡ pos 0
 agreed_owes removal true = refl
 agreed_owes removal false = refl
@@ -125,7 +125,7 @@ judged_owes RemoveIf removal true = refl
 judged_owes RemoveIf removal false = refl
 judged_owes Compute removal agrees = refl
 
--- to a pair that was shown
+-- for a pair that it was called with
 chosen_owes : (removal : Removal) (kind : OpKind) → owed_in (chosen removal kind) ≡ pos 0
 chosen_owes removal ops.Insert = refl
 chosen_owes removal ops.Remove = refl
@@ -138,13 +138,13 @@ decided_owes (Insert replace) removal kind = refl
 decided_owes RemoveIf removal kind = refl
 decided_owes Compute removal kind = chosen_owes removal kind
 
--- to None
+-- for None
 offered_owes : (gap : Gap) (kind : OpKind) → owed_in (offered gap kind) ≡ pos 0
 offered_owes gap ops.Insert = refl
 offered_owes gap ops.Remove = refl
 offered_owes gap (ops.Abort t) = refl
 
--- one is owed for a pair that was claimed, and nothing for one that took the place of another
+-- one is owed for a pair that was claimed, and nothing for one that replaced another
 written_owes : (b : Bool) (write : Write) (n : ℕ)
     → owed_in (cond b (Counting (claimed_by write n)) (Ended (Replaced (pair_of write.old) n))) ≡ grows_of (Some (cond b kinds.Claim kinds.Replace))
 written_owes true write n = refl
@@ -152,12 +152,12 @@ written_owes false write n = refl
 
 module _ {K P : Type 0} (g : Setting K P) (c : Coding K P) (k : K) (s : State P) (m : Machine) (loaded : LoadedPairs P) (es : List (Exchange P))
     (loaded' : LoadedPairs P) where
-  -- what an answer leads to owes what the map grew by
+  -- the state after an answer owes the map's growth
   abbrev Owes : Made → Stage → Answer → Type 0
   Owes made stage answer = owed_in (after (record m { made = made; state = stage }) answer).state ≡ grows_by (kind_asked made stage)
       (asks made m.hash stage) answer
 
-  -- where there is nothing to make
+  -- if there is nothing to make
   unmade_owes : (made : Made) (stage : Stage) (answer : Answer) → IsUnmade g c k answer
       → ((refused : Refused) → Owes made stage (Was_refused refused)) → Owes made stage Ok_done → Owes made stage answer
   unmade_owes made stage answer h refused ok =
@@ -166,7 +166,7 @@ module _ {K P : Type 0} (g : Setting K P) (c : Coding K P) (k : K) (s : State P)
       (λ (n : answer ≡ Ok_done). subst (Owes made stage) (sym n) ok)
       h
 
-  -- where a closure was asked
+  -- if a closure was called
   said_owes : (made : Made) (stage : Stage) (answer : Answer) → IsClosureAnswer g c k answer → ((agrees : Bool) → Owes made stage (Yes agrees))
       → ((kind : OpKind) → Owes made stage (Op kind)) → Owes made stage Ok_done → Owes made stage answer
   said_owes made stage answer h judged decided ok =
@@ -181,7 +181,7 @@ module _ {K P : Type 0} (g : Setting K P) (c : Coding K P) (k : K) (s : State P)
   compared_owes made at word (Yes same) = goes_owes m.task m.mode m.remembered (search_compared (Comparing at word) same)
   compared_owes made at word answer = refl
 
-  -- the map doesn't grow by what is asked for a pair
+  -- the map doesn't grow by an ask for a pair
   taken_grows : (count : ℕ) (answer : Answer) → grows_by (Some kinds.Take) (Ask_exchange Made_word count (count + 1)) answer ≡ pos 0
   taken_grows count Exchanged = refl
   taken_grows count answer = refl
@@ -206,7 +206,7 @@ module _ {K P : Type 0} (g : Setting K P) (c : Coding K P) (k : K) (s : State P)
   abbrev OwesNone : Stage → Type 0
   OwesNone stage = owed_in stage ≡ pos 0
 
-  -- a write owes what its exchange lets the map grow by
+  -- a write owes the map's growth by its exchange
   write_owes : (made : Made) (write : Write) (served : Option ℕ) (answer : Answer)
       → IsTrueOf g c k s (served_kind served made write) loaded (served_ask served write made) answer es loaded'
       → owed_in (write_then m served made write answer) ≡ grows_by (served_kind served made write) (served_ask served write made) answer
@@ -283,7 +283,7 @@ module _ {K P : Type 0} (g : Setting K P) (c : Coding K P) (k : K) (s : State P)
       (left_leads (λ stage. owed_in stage ≡ pos 0) leads_owe m.task m.remembered.fill t (s.next t))
   owes_in made (Ended reply) answer h = subst (Owes made (Ended reply)) (sym h.0) refl
 
-  -- of the machine
+  -- for the whole machine
   pub machine_owes : (answer : Answer) → IsTrueOf g c k s (kind_of_ask m) loaded (ask_of m) answer es loaded'
       → owed_by (ask_of (after m answer)) ≡ grows_by (kind_of_ask m) (ask_of m) answer
   machine_owes answer h = asked_in (after m answer).made (after m answer).hash (after m answer).state ∙ owes_in m.made m.state answer h

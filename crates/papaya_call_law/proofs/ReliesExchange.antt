@@ -92,7 +92,7 @@ module _ {K P : Type 0} (g : Setting K P) (c : Coding K P) (hashed : IsHashed g 
       };
     }
 
-    -- one of the call's class that is Live may be replaced by one of its own key
+    -- a Live pair with a key equal to the call's may be replaced by one with just that pair's key
     pub may_replace : (p q : P) → now.slot at.table at.probe.i ≡ Live p → g.same k (g.key p) ≡ true → g.key q ≡ g.key p
         → MayReplace g now at.table at.probe.i p q
     may_replace p q live same kept = record {
@@ -107,7 +107,7 @@ module _ {K P : Type 0} (g : Setting K P) (c : Coding K P) (hashed : IsHashed g 
   MayDo kind loaded at old new = word_of g c now at ≡ old → (e : Exchange P) × IsAsked g c k kind at new now loaded e × Allows g now e
       × IsWritten g c now at new (after now e)
 
-  -- what an ask says is one thing
+  -- an ask has one kind, place and words
   same_ask : (kind : Option StepKind) (loaded : LoadedPairs P) (at at' : At) (old old' new new' : ℕ)
       → Ask_exchange at old new ≡ Ask_exchange at' old' new' → MayDo kind loaded at old new → MayDo kind loaded at' old' new'
   same_ask kind loaded at at' old old' new new' e h =
@@ -162,7 +162,7 @@ module _ {K P : Type 0} (g : Setting K P) (c : Coding K P) (hashed : IsHashed g 
   new_code : (n : ℕ) (q : P) → c.number q ≡ n → code g c (Live q) ≡ live_word n
   new_code n q is = ap live_word is
 
-  -- a Live word that came of one of the key is of the key
+  -- a Live word that came from one of the key is of the key
   still_own : (was : Word P) (p q : P) → IsOfKind word_kinds.Live was → named was ≡ Some p → Becomes g was (Live q) → g.same k (g.key p) ≡ true
       → g.same k (g.key q) ≡ true
   still_own was p q live names became same =
@@ -170,7 +170,7 @@ module _ {K P : Type 0} (g : Setting K P) (c : Coding K P) (hashed : IsHashed g 
       let kept : g.key q ≡ g.key live.0 = subst (λ w. Becomes g w (Live q)) live.1 became in
       subst (λ l. g.same k l ≡ true) (sym (kept ∙ ap g.key is)) same
 
-  -- so is a Live word that stands where a removal met its pair
+  -- so is a Live word that is where a removal met its pair
   pub live_same : (loaded : LoadedPairs P) (removal : Removal) → MayRemove g c begun since k loaded removal → (q : P)
       → now.slot removal.place.table removal.place.probe.i ≡ Live q → g.same k (g.key q) ≡ true
   live_same loaded removal r q live =
@@ -186,7 +186,8 @@ module _ {K P : Type 0} (g : Setting K P) (c : Coding K P) (hashed : IsHashed g 
       sym of_key.2 ∙ ap g.key (sym is)
 
   module _ (loaded : LoadedPairs P) where
-    -- a call writes a pair that was made for the place: it is claimed where there was none, or put in place of another
+    -- a call writes a pair that was made for the place: it is claimed if there was none, or
+    -- replaces another
     writes : (n : ℕ) (replace : Bool) (write : Write) → MayWrite g c begun since k loaded replace write → (b : Bool) → (write.old == 0) ≡ b
         → MatchBool b (IsOwnPair g c begun since k loaded n) (IsPairAt g c begun since k loaded n write.place.table write.place.probe.i)
         → MayDo (Some (cond b kinds.Claim kinds.Replace)) loaded (Slot write.place.table write.place.probe.i) write.old (live_word n)
@@ -235,7 +236,7 @@ module _ {K P : Type 0} (g : Setting K P) (c : Coding K P) (hashed : IsHashed g 
   grave_code : (p : P) (word : ℕ) → code g c (Live p) ≡ word → code g c (Buried p) ≡ grave_word word
   grave_code p word e = ap buried_word (sym (code_pair g c hashed.coding (Live p) p refl)) ∙ ap grave_word e
 
-  -- a pair to which the closure agreed is deleted where its word stands
+  -- a pair for which the closure returned `true` is deleted if its word is still there
   buries : (loaded : LoadedPairs P) (removal : Removal) → MayRemove g c begun since k loaded removal
       → MayDo (Some kinds.Bury) loaded (Slot removal.place.table removal.place.probe.i) removal.word (grave_word removal.word)
   buries loaded removal r stands_there =
@@ -253,14 +254,14 @@ module _ {K P : Type 0} (g : Setting K P) (c : Coding K P) (hashed : IsHashed g 
       )
 
   module _ (loaded : LoadedPairs P) (hash : ℕ) (task : Task) where
-    -- what is asked for a pair may be made
+    -- an exchange asked for a pair may be made
     number_do : (number : Number) (made : Made) (word : ℕ) → ReliesNumber g c begun since k number → (at : At) (old new : ℕ)
         → number_ask number made word ≡ Ask_exchange at old new → MayDo (number_kind number) loaded at old new
     number_do Wanted made word r at old new e = absurd cc
     number_do (Free count) made word r at old new e = same_ask (Some kinds.Take) loaded Made_word at count old (count + 1) new e (takes loaded count r)
     number_do Taken made word r at old new e = absurd (subst IsMakeAsk e (make_asks made word))
 
-    -- and what an insertion asks that writes
+    -- and so may an exchange of an insertion that writes
     write_do : (made : Made) (held : Remembered) → ReliesLoaded g c begun since k loaded made held → (write : Write)
         → ReliesWriting g c begun since k loaded task write → (served : Option ℕ) → serves made write ≡ served
         → (at : At) (old new : ℕ) → served_ask served write made ≡ Ask_exchange at old new → MayDo (served_kind served made write) loaded at old new
@@ -270,7 +271,7 @@ module _ {K P : Type 0} (g : Setting K P) (c : Coding K P) (hashed : IsHashed g 
         (live_word n) new e
         (writing loaded n task write r (served_pair g c begun since k loaded made held m write n is))
 
-    -- what a machine asks for may be made
+    -- an exchange that a machine asks for may be made
     may_do : (made : Made) (held : Remembered) → ReliesLoaded g c begun since k loaded made held → (stage : Stage)
         → ReliesStage g c begun since k loaded task stage
         → (at : At) (old new : ℕ) → asks made hash stage ≡ Ask_exchange at old new → MayDo (kind_asked made stage) loaded at old new
@@ -299,7 +300,7 @@ module _ {K P : Type 0} (g : Setting K P) (c : Coding K P) (hashed : IsHashed g 
     may_do made held m (Growing t) r at old new e = absurd cc
     may_do made held m (Ended reply) r at old new e = absurd cc
 
-  -- the same of the machine
+  -- the same for the whole machine
   pub machine_may : (m : Machine) (loaded : LoadedPairs P) → Relies g c begun since k m loaded → (at : At) (old new : ℕ)
       → asks m.made m.hash m.state ≡ Ask_exchange at old new → MayDo (kind_asked m.made m.state) loaded at old new
   machine_may m loaded r at old new e = may_do loaded m.hash m.task m.made m.remembered r.made m.state r.stage at old new e

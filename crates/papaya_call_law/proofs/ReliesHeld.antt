@@ -1,5 +1,5 @@
--- What a call that exchanges a slot has made, and what a call that calls its closure with a pair
--- has learned of.
+-- The pair that a call has made when it exchanges a slot, and the pair that a call has loaded when
+-- it calls its closure with it.
 use Rattle.std.proofs.Common.{◌≡◌, inl, inr, ℕ, Option, None, Some, List, refl, subst}
 use Rattle.papaya_call.specs.declared.ask.At.TheVariants.{Slot}
 use Rattle.papaya_call.specs.declared.ask.Ask.TheVariants.{Exchange as Ask_exchange, SameKey, ShowNone, ShowPair}
@@ -73,7 +73,7 @@ module _ {K P : Type 0} (g : Setting K P) (c : Coding K P) (begun since : List (
   computes_not RemoveIf r w = r
   computes_not Compute r w = w
 
-  -- an insertion that exchanges a slot has a pair that serves there
+  -- an insertion that exchanges a slot has a pair that it uses there
   write_made : (made : Made) (held : Remembered) → ReliesLoaded g c begun since k loaded made held
       → (write : Write) (t x old new : ℕ) (served : Option ℕ) → serves made write ≡ served
       → served_ask served write made ≡ Ask_exchange (Slot t x) old new → HasMade
@@ -108,7 +108,7 @@ module _ {K P : Type 0} (g : Setting K P) (c : Coding K P) (begun since : List (
       → IsWriter m.task → HasMade
   machine_made m r t x old new e w = made_in m.task m.hash m.made m.remembered r.made m.state r.stage t x old new e w
 
-  -- a pair that was told of
+  -- a pair that was loaded
   abbrev pub WasTold : Type 0
   WasTold = (p : P) × (loaded.last ≡ Some p)
 
@@ -134,12 +134,13 @@ module _ {K P : Type 0} (g : Setting K P) (c : Coding K P) (begun since : List (
   told_in task hash made (Growing u) s n e = absurd cc
   told_in task hash made (Ended reply) s n e = absurd cc
 
-  -- a call that compares a key was told of a pair
+  -- a call that compares a key has loaded a pair
   pub machine_told : (m : Machine) → Relies g c begun since k m loaded → (n : ℕ) → ask_of m ≡ SameKey n → WasTold
   machine_told m r n e = told_in m.task m.hash m.made m.state r.stage n e
 
 module _ {K P : Type 0} (g : Setting K P) (c : Coding K P) (hashed : IsHashed g c) (begun since : List (Exchange P)) (k : K) (loaded : LoadedPairs P) where
-  -- the pair that is shown: the one last told of, with the call's key, which the map had at a moment of the call
+  -- the pair that the closure is called with: the one last loaded, with the call's key, which the
+  -- map had at some point of the call
   abbrev pub IsShowing : ℕ → Type 0
   IsShowing n = (p : P) × (loaded.last ≡ Some p) × (c.number p ≡ n) × (g.same k (g.key p) ≡ true) × WasAtMoment g c begun since k (Some p)
 
@@ -175,7 +176,7 @@ module _ {K P : Type 0} (g : Setting K P) (c : Coding K P) (hashed : IsHashed g 
   shows_in task hash made (Growing u) s n e = absurd cc
   shows_in task hash made (Ended reply) s n e = absurd cc
 
-  -- a call that shows a pair
+  -- a call that calls its closure with a pair
   pub machine_shows : (m : Machine) → Relies g c begun since k m loaded → (n : ℕ) → ask_of m ≡ ShowPair n → IsShowing n
   machine_shows m r n e = shows_in m.task m.hash m.made m.state r.stage n e
 
@@ -201,14 +202,14 @@ ended_in made hash (Leaving u) reply e = absurd cc
 ended_in made hash (Growing u) reply e = absurd cc
 ended_in made hash (Ended other) reply e = let is : other ≡ reply = cc e in ap Ended is
 
--- what it replies, and the change that it made
+-- its reply, and the change that it made
 pub machine_replies : {K P : Type 0} (g : Setting K P) (c : Coding K P) (begun since : List (Exchange P)) (k : K) (loaded : LoadedPairs P)
     (m : Machine) → Relies g c begun since k m loaded → (reply : Reply) → ask_of m ≡ Done reply → IsReply g c begun since k loaded m.task reply
     × (change_in m.state ≡ change_of_reply reply)
 machine_replies g c begun since k loaded m r reply e =
     let is = ended_in m.made m.hash m.state reply e in (subst (λ s. ReliesStage g c begun since k loaded m.task s) is r.stage, ap change_in is)
 
--- a machine that shows that its key is absent has found where its pair would stand
+-- a machine that calls its closure with None has found where a pair of its key would be put
 offering_in : (made : Made) (hash : ℕ) (s : Stage) → asks made hash s ≡ ShowNone → (gap : Gap) × (s ≡ Offering gap)
 offering_in made hash AtRoot e = absurd cc
 offering_in made hash Making e = absurd cc
@@ -230,7 +231,7 @@ offering_in made hash (Leaving u) e = absurd cc
 offering_in made hash (Growing u) e = absurd cc
 offering_in made hash (Ended reply) e = absurd cc
 
--- the map had none of its key at a moment of the call
+-- the map had none of its key at some point of the call
 pub machine_offers : {K P : Type 0} (g : Setting K P) (c : Coding K P) (begun since : List (Exchange P)) (k : K) (loaded : LoadedPairs P)
     (m : Machine) → Relies g c begun since k m loaded → ask_of m ≡ ShowNone → WasAtMoment g c begun since k None
 machine_offers g c begun since k loaded m r e = let at = offering_in m.made m.hash m.state e in
@@ -242,13 +243,13 @@ offered_shown m gap ops.Insert = tt
 offered_shown m gap ops.Remove = tt
 offered_shown m gap (ops.Abort with) = tt
 
--- and it never shows that again
+-- and it never does so again
 pub machine_offered : (m : Machine) (kind : OpKind) → ask_of m ≡ ShowNone → HasCalledNone (after m (Op kind)).remembered.fill (after m (Op kind)).state
 machine_offered m kind e = let at = offering_in m.made m.hash m.state e in
     subst (λ s. HasCalledNone (after (record m { state = s }) (Op kind)).remembered.fill (after (record m { state = s }) (Op kind)).state) (sym at.1)
     (offered_shown m at.0 kind)
 
--- a machine that shows a pair has found it
+-- a machine that calls its closure with a pair has found it
 showing_in : (made : Made) (hash : ℕ) (s : Stage) (n : ℕ) → asks made hash s ≡ ShowPair n → (removal : Removal) × (s ≡ Showing removal)
 showing_in made hash AtRoot n e = absurd cc
 showing_in made hash Making n e = absurd cc
@@ -279,7 +280,7 @@ choice_is_made None shown e = cc e
 choice_is_made (Some (To_replace old new)) shown e = cc e
 choice_is_made (Some (To_remove old)) shown e = cc e
 
--- so no value of its closure's waits to be made a pair of
+-- so no value of its closure waits for a pair to be made from it
 pub machine_unpaired : (m : Machine) (shown other : Option ℕ) → ask_of m ≡ show other → ActsOn m (Inserts shown) → ⊥
 machine_unpaired m shown other e (inr (inl h)) = fill_is_made m.remembered.fill shown h
 machine_unpaired m shown other e (inr (inr h)) = choice_is_made m.remembered.choice shown h
@@ -288,7 +289,7 @@ machine_unpaired m shown None e (inl h) = let at = offering_in m.made m.hash m.s
 machine_unpaired m shown (Some n) e (inl h) = let at = showing_in m.made m.hash m.state n e in
     let none : None ≡ Some (Inserts shown) = ap (result_in m.task) (sym at.1) ∙ h in cc none
 
--- a compute that makes a pair makes it of its closure's value
+-- a compute that makes a pair makes it from its closure's value
 pairing_in : (made : Made) (hash : ℕ) (s : Stage) → IsValidState Compute s → MakesPair (asks made hash s) → (purpose : Purpose) × (s ≡ Pairing purpose)
 pairing_in made hash AtRoot stands e = absurd e
 pairing_in made hash Making stands e = absurd e
@@ -317,14 +318,14 @@ refused_unpaired m purpose cause shown task (inl h) = let none : None ≡ Some (
 refused_unpaired m purpose cause shown task (inr (inl h)) = fill_is_made m.remembered.fill shown h
 refused_unpaired m purpose cause shown task (inr (inr h)) = choice_is_made m.remembered.choice shown h
 
--- where that was refused, no value waits any more
+-- if that failed, no value waits any longer
 pub machine_refused_pair : (m : Machine) (cause : Cause) (shown : Option ℕ) → m.task ≡ Compute → IsValid m → MakesPair (ask_of m)
     → ActsOn (after m (Was_refused cause)) (Inserts shown) → ⊥
 machine_refused_pair m cause shown task valid e h =
     let at = pairing_in m.made m.hash m.state (subst (λ t. IsValidState t m.state) task valid.state) e in
     refused_unpaired m at.0 cause shown task (subst (λ s. ActsOn (after (record m { state = s }) (Was_refused cause)) (Inserts shown)) at.1 h)
 
--- nothing waits where a pair goes to its place
+-- nothing waits when a pair is put in its place
 provided_waits : (task : Task) (purpose : Purpose) (n : ℕ) (shown : Option ℕ) → result_in task (provides purpose n) ≡ Some (Inserts shown) → ⊥
 provided_waits task (Fill NoRoot) n shown e = cc e
 provided_waits task (Fill (At place)) n shown e = cc e

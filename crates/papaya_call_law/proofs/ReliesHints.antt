@@ -22,7 +22,7 @@ use Rattle.papaya_call_law.specs.Relies.{now, Relies, ReliesStage}
 
 module _ {K P : Type 0} (g : Setting K P) (c : Coding K P) (begun since : List (Exchange P)) (k : K) where
   module _ (loaded : LoadedPairs P) (task : Task) (hash : ℕ) (same : hash ≡ c.hash k) (t x n : ℕ) where
-    -- one that was claimed writes its key's
+    -- a pair that was claimed writes its key's hint
     may_hint_in : (made : Made) (stage : Stage) → ReliesStage g c begun since k loaded task stage → asks made hash stage ≡ WriteHint t x n
         → IsHint g c (now g c begun since k) t x n
     may_hint_in made AtRoot r e = absurd cc
@@ -52,7 +52,7 @@ module _ {K P : Type 0} (g : Setting K P) (c : Coding K P) (begun since : List (
     may_hint_in made (Growing need) r e = absurd cc
     may_hint_in made (Ended reply) r e = absurd cc
 
-  -- of the machine
+  -- for the whole machine
   pub machine_may_hint : (m : Machine) (loaded : LoadedPairs P) → Relies g c begun since k m loaded → (t x n : ℕ) → ask_of m ≡ WriteHint t x n
       → IsHint g c (now g c begun since k) t x n
   machine_may_hint m loaded r t x n e = may_hint_in loaded m.task m.hash r.hash t x n m.made m.state r.stage e

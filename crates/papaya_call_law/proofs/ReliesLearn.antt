@@ -1,4 +1,4 @@
--- What a machine relies on holds again after an answer that is true of the words.
+-- The facts that a machine relies on hold again after an answer that is true of the words.
 use Rattle.std.proofs.Common.{◌≡◌, ◌⊎◌, ⊎_elim, ℕ, ◌<◌, ◌≤◌, ◌==◌, eqb-true, Bool, true, false}
 use Rattle.std.proofs.Common.{cond, MatchBool, MatchOption, Option, None, Some, List, [], ◌∷◌, ◌++◌}
 use Rattle.std.proofs.Common.{append-nil, refl, sym, ap, ◌∙◌, subst, arith}
@@ -91,7 +91,7 @@ module _ {K P : Type 0} (g : Setting K P) (c : Coding K P) (hashed : IsHashed g 
   abbrev now : State P
   now = run (begun ++ since) start
 
-  -- the number of a table was loaded: the search goes on there, or there is none
+  -- the number of a table was loaded: the search continues there, or there is none
   looked : (loaded : LoadedPairs P) (task : Task) (word : ℕ) (none : Stage) → (word ≡ 0 → ReliesStage g c begun since k loaded task none)
       → (0 < word → HasComeTo g c begun since k word)
       → ReliesStage g c begun since k loaded task (cond (word == 0) none (Searching (Sizing word)))
@@ -125,7 +125,7 @@ module _ {K P : Type 0} (g : Setting K P) (c : Coding K P) (hashed : IsHashed g 
       (λ none. lacks_relies g c begun since k loaded fill own (After t) (r.1, r.2) (over_last g c hashed.lawful begun since may k t r.1 r.0 r.2 none))
       (next_come g c hashed.lawful begun since may k t r.1 r.0 r.2)
 
-  -- a call that needs a next table ends refused
+  -- a call that needs a next table may fail
   growing_refused : (loaded : LoadedPairs P) (task : Task) (need : Need) → MayNeed task need → (refused : _)
       → ReliesStage g c begun since k loaded task (Ended (Reply_refused refused))
   growing_refused loaded Get need r refused = absurd r
@@ -133,7 +133,7 @@ module _ {K P : Type 0} (g : Setting K P) (c : Coding K P) (hashed : IsHashed g 
   growing_refused loaded RemoveIf need r refused = tt
   growing_refused loaded Compute need r refused = tt
 
-  -- a refusal ends a call that may insert
+  -- a call that may insert may fail
   refusal_relies : (loaded : LoadedPairs P) (task : Task) → MayInsert task → (refused : _)
       → ReliesStage g c begun since k loaded task (Ended (Reply_refused refused))
   refusal_relies loaded Get w refused = absurd w
@@ -141,7 +141,7 @@ module _ {K P : Type 0} (g : Setting K P) (c : Coding K P) (hashed : IsHashed g 
   refusal_relies loaded RemoveIf w refused = absurd w
   refusal_relies loaded Compute w refused = tt
 
-  -- who writes inserts
+  -- a call that writes inserts
   writer : (loaded : LoadedPairs P) (task : Task) (write : Write) → ReliesWriting g c begun since k loaded task write → MayInsert task
   writer loaded Get write r = r
   writer loaded (Insert replace) write r = tt
@@ -159,7 +159,7 @@ module _ {K P : Type 0} (g : Setting K P) (c : Coding K P) (hashed : IsHashed g 
   abbrev word_at : Place → ℕ
   word_at at = code g c (now.slot at.table at.probe.i)
 
-  -- what the machine has been told of when it was told of that word
+  -- the pairs that the machine has loaded after it read that word
   abbrev told_at : Place → LoadedPairs P → LoadedPairs P
   told_at at loaded = told_word (now.slot at.table at.probe.i) loaded
 
@@ -172,7 +172,7 @@ module _ {K P : Type 0} (g : Setting K P) (c : Coding K P) (hashed : IsHashed g 
       goes_relies g c hashed begun since may k (told_at at loaded) m.remembered own'.fill_is own'.choice_is m.task m.mode mode
       (look_seen at (word_at at)) (looks g c hashed begun since may k at r loaded)
 
-  -- an insertion that writes stands at its place
+  -- an insertion that writes is valid at its place
   write_stands : (loaded : LoadedPairs P) (task : Task) (write : Write) → ReliesWriting g c begun since k loaded task write → IsAt g c begun since k write.place
   write_stands loaded Get write r = absurd r
   write_stands loaded (Insert replace) write r = r.stands
@@ -191,16 +191,16 @@ module _ {K P : Type 0} (g : Setting K P) (c : Coding K P) (hashed : IsHashed g 
   keys_last : (es : List (Exchange P)) → AllAllowed g start (begun ++ (since ++ es)) → KeysLast g c begun since k (since ++ es)
   keys_last es all t x key r = key_stable g now (run (begun ++ (since ++ es)) start) (state_later g c hashed begun since es all k) t x key r
 
-  -- what has to be shown after an answer
+  -- the proof obligation after an answer
   abbrev pub Learned : Machine → Answer → List (Exchange P) → LoadedPairs P → Type 0
   Learned m answer es loaded' = AllAllowed g start (begun ++ (since ++ es)) × Relies g c begun (since ++ es) k (after m answer) loaded'
 
-  -- by what the answer is and what the machine was told
+  -- by an equal answer, and equal loaded pairs
   answered : (m : Machine) (answer answer' : Answer) (es : List (Exchange P)) (loaded' loaded'' : LoadedPairs P) → answer ≡ answer'
       → loaded' ≡ loaded'' → Learned m answer' es loaded'' → Learned m answer es loaded'
   answered m answer answer' es loaded' loaded'' a h r = subst (λ y. Learned m y es loaded') (sym a) (subst (λ y. Learned m answer' es y) (sym h) r)
 
-  -- where nothing was exchanged
+  -- if nothing was exchanged
   quiet : (m : Machine) (answer answer' : Answer) (es : List (Exchange P)) (loaded' loaded'' : LoadedPairs P) → answer ≡ answer' → es ≡ []
       → loaded' ≡ loaded'' → Relies g c begun since k (after m answer') loaded'' → Learned m answer es loaded'
   quiet m answer answer' es loaded' loaded'' a e h r =
@@ -213,27 +213,27 @@ module _ {K P : Type 0} (g : Setting K P) (c : Coding K P) (hashed : IsHashed g 
     abbrev in_stage : Made → Stage → Machine
     in_stage made stage = record m { made = made; state = stage }
 
-    -- what the machine relies on in a stage, where it may remember something else
+    -- the facts that the machine relies on in a stage, if it may remember something else
     relies_held : (loaded' : LoadedPairs P) (made : Made) (held : Remembered) → ReliesLoaded g c begun since k loaded' made held → (stage : Stage)
         → ReliesStage g c begun since k loaded' m.task stage
         → Relies g c begun since k (record m { made = made; remembered = held; state = stage }) loaded'
     relies_held loaded' made held r stage s = record { hash = hash; mode = mode; made = r; stage = s }
 
-    -- what it has made, and remembers
+    -- the facts about the pairs that it has made, and about those that it remembers
     abbrev Own : LoadedPairs P → Made → Type 0
     Own loaded' made = ReliesLoaded g c begun since k loaded' made m.remembered
 
-    -- where it remembers the same
+    -- if it remembers the same
     relies : (loaded' : LoadedPairs P) (made : Made) → Own loaded' made → (stage : Stage) → ReliesStage g c begun since k loaded' m.task stage
         → Relies g c begun since k (in_stage made stage) loaded'
     relies loaded' made r stage s = relies_held loaded' made m.remembered r stage s
 
-    -- a refusal is the reply
+    -- a failure is the reply
     refusal : (made : Made) → Own loaded made → MayInsert m.task → (refused : _)
         → Relies g c begun since k (in_stage made (Ended (Reply_refused refused))) loaded
     refusal made r may_insert refused = relies loaded made r (Ended (Reply_refused refused)) (refusal_relies loaded m.task may_insert refused)
 
-    -- what was to be made was refused, or there was nothing to make
+    -- making a part failed, or there was nothing to make
     unmade : (made : Made) (stage : Stage) (answer : Answer) (es : List (Exchange P)) (loaded' : LoadedPairs P) → IsUnmade g c k answer → es ≡ []
         → loaded' ≡ loaded
         → ((refused : _) → Relies g c begun since k (after (in_stage made stage) (Was_refused refused)) loaded)
@@ -245,7 +245,7 @@ module _ {K P : Type 0} (g : Setting K P) (c : Coding K P) (hashed : IsHashed g 
         (λ (n : answer ≡ Ok_done). quiet (in_stage made stage) answer Ok_done es loaded' loaded n e s ok)
         h
 
-    -- a closure answered, or there was none
+    -- a closure returned, or there was none
     said : (made : Made) (stage : Stage) (answer : Answer) (es : List (Exchange P)) (loaded' : LoadedPairs P) → IsClosureAnswer g c k answer → es ≡ []
         → loaded' ≡ loaded
         → ((agrees : Bool) → Relies g c begun since k (after (in_stage made stage) (Yes agrees)) loaded)
@@ -262,7 +262,7 @@ module _ {K P : Type 0} (g : Setting K P) (c : Coding K P) (hashed : IsHashed g 
         other)
         h
 
-    -- where an exchange was made that changes nothing of what was made
+    -- if an exchange was made that changes nothing of the pairs made
     later_relies : (es : List (Exchange P)) → AllAllowed g start (begun ++ (since ++ es)) → (made : Made) → Own loaded made → (stage : Stage)
         → ReliesStage g c begun (since ++ es) k loaded m.task stage → Relies g c begun (since ++ es) k (in_stage made stage) loaded
     later_relies es all made own stage r = record {
@@ -291,13 +291,13 @@ module _ {K P : Type 0} (g : Setting K P) (c : Coding K P) (hashed : IsHashed g 
         (λ other h'. quiet (in_stage made stage) answer (Found_instead (word_at at)) es loaded' (told_at at loaded) h'.0 h'.1 h'.2
         (beaten (look_relies (in_stage made stage) hash mode loaded own at r)))
 
-    -- another word was found, and what was made is as before
+    -- another word was found, and the pairs made are as before
     told_relies_at : (made : Made) → Own loaded made → (at : Place) (stage : Stage) → ReliesStage g c begun since k (told_at at loaded) m.task stage
         → Relies g c begun since k (in_stage made stage) (told_at at loaded)
     told_relies_at made own at stage r = relies (told_at at loaded) made
         (loaded_told g c begun since k loaded made m.remembered own (told_at at loaded).last) stage r
 
-    -- what is known of the closure's value
+    -- the facts about the pairs made, after the closure's result
     decided_made : (made : Made) → Own loaded made → (removal : Removal) (kind : OpKind)
         → ReliesLoaded g c begun since k loaded (made_decided m.task kind made) (decided_held m.task m.remembered removal kind)
     decided_made made own removal kind = decided_loaded g c begun since k loaded (made_decided m.task kind made) m.remembered (answered_of m.task)
@@ -310,7 +310,7 @@ module _ {K P : Type 0} (g : Setting K P) (c : Coding K P) (hashed : IsHashed g 
         answered_of Compute = loaded_answered g c begun since k loaded made m.remembered own kind
 
     module _ (made : Made) (own : Own loaded made) (stage : Stage) (r : ReliesStage g c begun since k loaded m.task stage) (inserts : MayInsert m.task) where
-      -- so many numbers were taken for pairs: a further one is free, or the call ends
+      -- `count` numbers were taken for pairs: a further one is free, or the call ends
       numbered_relies : (count : ℕ) → Relies g c begun since k (in_stage (number_told (told made count) made) (numbered (told made count) stage)) loaded
       numbered_relies count = by_told (told made count) (told_relies g c begun since k loaded made m.remembered own count)
         where
@@ -339,7 +339,7 @@ module _ {K P : Type 0} (g : Setting K P) (c : Coding K P) (hashed : IsHashed g 
           → Relies g c begun since k (after (in_stage made stage) (Made_number n)) loaded)
           (paired_so : grown made old ≡ Pair (paired made) → (q : P) → IsNewFor g c hashed begun since k loaded old q
           → Relies g c begun since k (after (in_stage made stage) (Made_number (c.number q))) (record loaded { made = q ∷ loaded.made })) where
-        -- the key or the value is logged
+        -- the key or the value is stored in the arena
         logs : (next : Made) → grown made old ≡ On next → Own loaded next → (IsUnmade g c k answer ⊎ ((n : ℕ) × (answer ≡ Made_number n)))
             × ((es ≡ []) × (loaded' ≡ loaded)) → Learned (in_stage made stage) answer es loaded'
         logs next is own' h =
@@ -407,7 +407,7 @@ module _ {K P : Type 0} (g : Setting K P) (c : Coding K P) (hashed : IsHashed g 
         pair_learns : IsTrueOf g c k now (number_kind made.number) loaded (pair_ask made old) answer es loaded' → Learned (in_stage made stage) answer es loaded'
         pair_learns h = number_learns made.number refl own.number_is h
 
-    -- a compute makes a pair of what its closure answered
+    -- a compute makes a pair of its closure's result
     pairing_learns : (made : Made) → Own loaded made → (purpose : Purpose) → ReliesStage g c begun since k loaded m.task (Pairing purpose)
         → (answer : Answer) (es : List (Exchange P)) (loaded' : LoadedPairs P)
         → IsTrueOf g c k now (number_kind made.number) loaded (pair_ask made (in_place_of purpose)) answer es loaded'
@@ -579,7 +579,7 @@ module _ {K P : Type 0} (g : Setting K P) (c : Coding K P) (hashed : IsHashed g 
     learns_in made n (Ended reply) r answer es loaded' h = quiet (in_stage made (Ended reply)) answer Ok_done es loaded' loaded h.0 h.1.0 h.1.1
         (relies loaded made n (Ended reply) r)
 
-  -- of the machine
+  -- for the whole machine
   pub machine_learns : (m : Machine) (loaded : LoadedPairs P) → Relies g c begun since k m loaded
       → (answer : Answer) (es : List (Exchange P)) (loaded' : LoadedPairs P) → IsTrueOf g c k now (kind_of_ask m) loaded (ask_of m) answer es loaded'
       → Learned m answer es loaded'

@@ -1,4 +1,5 @@
--- A compute: its state after each result of its closure, and what is made and remembered of it.
+-- A compute: its state after each result of its closure, and the pair that is made from the result
+-- and remembered.
 use Rattle.std.proofs.Common.{◌≡◌, inl, inr, ℕ, ◌<◌, ◌==◌, Bool, true, false, MatchBool, Option, None, Some, List, ◌∷◌, refl, eqb-true, arith}
 use Rattle.std.proofs.lemmas.Bool.{cond_both}
 use Rattle.papaya_call.specs.declared.ask.OpKind.{OpKind}
@@ -34,14 +35,14 @@ use Rattle.papaya_call_law.proofs.ReliesLearnPairs.{IsNewFor, new_at, new_same, 
 use Rattle.papaya_call_law.proofs.SaysWords.{live_is_some}
 
 module _ {K P : Type 0} (g : Setting K P) (c : Coding K P) (begun since : List (Exchange P)) (k : K) where
-  -- a pair that was made goes where its key is absent
+  -- a pair that was made is put where its key is absent
   pub fills_relies : (loaded : LoadedPairs P) (gap : Gap) (n : ℕ) → ReliesGap g c begun since k gap → IsOwnPair g c begun since k loaded n
       → ReliesStage g c begun since k loaded Compute (fills gap n)
   fills_relies loaded NoRoot n r own = tt
   fills_relies loaded (At at) n r own = (tt, record { stands = r; old = inl refl }, own)
   fills_relies loaded (After t) n r own = (tt, r)
 
-  -- the closure is shown that the key is absent, or was before
+  -- the closure is called with None, or was before
   pub lacks_relies : (loaded : LoadedPairs P) (fill : Option ℕ) → ReliesFill g c begun since k loaded fill → (gap : Gap)
       → ReliesGap g c begun since k gap → WasAtMoment g c begun since k None
       → ReliesStage g c begun since k loaded Compute (lacks fill gap)
@@ -49,11 +50,11 @@ module _ {K P : Type 0} (g : Setting K P) (c : Coding K P) (begun since : List (
   lacks_relies loaded (Some n) own gap r m = fills_relies loaded gap n r own
 
   module _ (loaded : LoadedPairs P) (write : Write) (shown : MayRemove g c begun since k loaded (record { place = write.place; word = write.old })) where
-    -- the Live word of a pair of the key may give way to another
+    -- the Live word of a pair of the key may be replaced
     pub replaceable : MayWrite g c begun since k loaded true write
     replaceable = record { stands = shown.met.stands; old = inr (refl, shown) }
 
-    -- a pair that was made for its place may stand there: the word is no empty one
+    -- a pair that was made for its place may be put there: the word is no empty one
     pub pair_replaces : (n : ℕ) → IsPairAt g c begun since k loaded n write.place.table write.place.probe.i → IsPairFor g c begun since k loaded write n
     pair_replaces n own = by_old (write.old == 0) refl
       where
@@ -63,7 +64,7 @@ module _ {K P : Type 0} (g : Setting K P) (c : Coding K P) (begun since : List (
         by_old false e = own
 
   module _ (loaded : LoadedPairs P) (at : Place) (word : ℕ) (removes : MayRemove g c begun since k loaded (record { place = at; word = word })) where
-    -- a pair of which one was made before
+    -- a pair for which one was made before
     recalled_relies : (new : Of) → ReliesOf g c begun since k loaded (Some new) → ReliesStage g c begun since k loaded Compute (recalled new at word)
     recalled_relies new own =
         let write : Write = record { place = at; old = word } in
@@ -72,7 +73,7 @@ module _ {K P : Type 0} (g : Setting K P) (c : Coding K P) (begun since : List (
         (λ e. (tt, replaceable loaded write removes, pair_replaces loaded write removes new.pair (placed_pair g c begun since k loaded new at own e)))
         (λ e. (tt, removes))
 
-    -- the closure is shown the pair of a Live word, or was before
+    -- the closure is called with the pair of a Live word, or was before
     pub recalls_relies : (choice : Option Choice) → ReliesChoice g c begun since k loaded choice → (n : ℕ)
         → ReliesStage g c begun since k loaded Compute (recalls choice at word n)
     recalls_relies None own n = (tt, removes)
@@ -86,7 +87,7 @@ module _ {K P : Type 0} (g : Setting K P) (c : Coding K P) (begun since : List (
         (λ e. (tt, removes))
         (λ e. (tt, removes))
 
-  -- what the closure answers where its key is absent
+  -- the closure's result for None
   pub offered_relies : (loaded : LoadedPairs P) (task : Task) → IsComputer task → (gap : Gap) → ReliesGap g c begun since k gap → (kind : OpKind)
       → ReliesStage g c begun since k loaded task (offered gap kind)
   offered_relies loaded Get is gap r kind = absurd is
@@ -97,20 +98,20 @@ module _ {K P : Type 0} (g : Setting K P) (c : Coding K P) (begun since : List (
   offered_relies loaded Compute is gap r (ops.Abort t) = tt
 
   module _ (loaded : LoadedPairs P) (removal : Removal) (removes : MayRemove g c begun since k loaded removal) where
-    -- what it answers where it is shown a pair
+    -- its result for a pair
     chosen_relies : (kind : OpKind) → ReliesStage g c begun since k loaded Compute (chosen removal kind)
     chosen_relies ops.Insert = (tt, removes)
     chosen_relies ops.Remove = (tt, removes)
     chosen_relies (ops.Abort t) = tt
 
-    -- the closure of a removal isn't asked for such an answer
+    -- the closure of a removal has no such result
     pub decided_relies : (task : Task) → HasClosure task → (kind : OpKind) → ReliesStage g c begun since k loaded task (decided task removal kind)
     decided_relies Get is kind = absurd is
     decided_relies (Insert replace) is kind = absurd is
     decided_relies RemoveIf is kind = (tt, removes)
     decided_relies Compute is kind = chosen_relies kind
 
-  -- what is remembered of such an answer
+  -- the remembered choice after such a result
   choice_relies : (loaded : LoadedPairs P) (made : Made) (held : Remembered) → ReliesLoaded g c begun since k loaded made held
       → (removal : Removal) (kind : OpKind) → ReliesLoaded g c begun since k loaded made (with_choice held removal kind)
   choice_relies loaded made held r removal ops.Insert = r
@@ -126,13 +127,13 @@ module _ {K P : Type 0} (g : Setting K P) (c : Coding K P) (begun since : List (
   decided_loaded loaded made held r RemoveIf removal kind = r
   decided_loaded loaded made held r Compute removal kind = choice_relies loaded made held r removal kind
 
-  -- a pair is of the key that what it is made for wants: the call's own, or the one that is there
+  -- a pair has the key that its purpose requires: the call's own, or the one that is there
   abbrev pub IsPairTo : LoadedPairs P → Purpose → ℕ → Type 0
   IsPairTo loaded (Fill gap) n = IsOwnPair g c begun since k loaded n
   IsPairTo loaded (Replace write) n = IsPairAt g c begun since k loaded n write.place.table write.place.probe.i
   IsPairTo loaded (Again write) n = IsPairAt g c begun since k loaded n write.place.table write.place.probe.i
 
-  -- a pair that was made is to stand where the closure was shown what it answered to
+  -- a pair that was made is to be put at the place for which the closure was called
   pub provides_relies : (loaded : LoadedPairs P) (task : Task) → IsComputer task → (purpose : Purpose)
       → ReliesPurpose g c begun since k loaded purpose → (n : ℕ) → IsPairTo loaded purpose n → ReliesStage g c begun since k loaded task (provides purpose n)
   provides_relies loaded Get is purpose r n own = absurd is
@@ -153,14 +154,15 @@ module _ {K P : Type 0} (g : Setting K P) (c : Coding K P) (begun since : List (
       own = record { keys = r.keys; limit = r.limit; number_is = r.number_is; own_is = r.own_is; of_is = r.of_is; fill_is = r.fill_is; choice_is = own }
 
 module _ {K P : Type 0} (g : Setting K P) (c : Coding K P) (hashed : IsHashed g c) (begun since : List (Exchange P)) (k : K) (loaded : LoadedPairs P) where
-  -- what a pair is made for stays so
+  -- the purpose of a pair stays
   pub purpose_more : (q : P) (purpose : Purpose) → ReliesPurpose g c begun since k loaded purpose
       → ReliesPurpose g c begun since k (record loaded { made = q ∷ loaded.made }) purpose
   purpose_more q (Fill gap) r = r
   purpose_more q (Replace write) r = removal_more g c hashed begun since k loaded q (record { place = write.place; word = write.old }) r
   purpose_more q (Again write) r = removal_more g c hashed begun since k loaded q (record { place = write.place; word = write.old }) r
 
-  -- the newest pair in place of one that was shown is of the class, and serves there
+  -- the newest pair has a key equal to the call's, and may replace the one that the closure was
+  -- called with
   shown_new : (write : Write) → MayRemove g c begun since k loaded (record { place = write.place; word = write.old }) → (q : P)
       → IsNewFor g c hashed begun since k loaded write.old q
       → (g.same k (g.key q) ≡ true) × IsPairAt g c begun since k (record loaded { made = q ∷ loaded.made }) (c.number q) write.place.table write.place.probe.i
@@ -173,7 +175,7 @@ module _ {K P : Type 0} (g : Setting K P) (c : Coding K P) (hashed : IsHashed g 
       by_old false e h = let removal : Removal = record { place = write.place; word = write.old } in
           (new_same g c hashed begun since k loaded removal r q h, new_at g c hashed begun since k loaded removal r q h)
 
-  -- so it is with what the newest pair is made for
+  -- so it is with the purpose of the newest pair
   pub purpose_new : (q : P) (purpose : Purpose) → ReliesPurpose g c begun since k loaded purpose
       → IsNewFor g c hashed begun since k loaded (in_place_of purpose) q
       → (g.same k (g.key q) ≡ true) × IsPairTo g c begun since k (record loaded { made = q ∷ loaded.made }) purpose (c.number q)

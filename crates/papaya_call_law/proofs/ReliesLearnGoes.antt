@@ -1,4 +1,4 @@
--- When a search ends, the machine relies on what the search has found.
+-- When a search ends, the machine relies on the outcome of the search.
 use Rattle.std.proofs.Common.{◌≡◌, ◌⊎◌, inl, inr, ⊎_elim, ℕ, true, false, cond, None, Some, List, ◌++◌, refl, sym, ap, ◌∙◌, subst}
 use Rattle.papaya_words.specs.Word.{kind_of, pair_of}
 use Rattle.papaya_words.specs.declared.word.Kind.TheVariants as kinds
@@ -32,15 +32,15 @@ module _ {K P : Type 0} (g : Setting K P) (c : Coding K P) (hashed : IsHashed g 
   now = run (begun ++ since) start
 
   module _ (at : Place) (word : ℕ) (p : P) (h : HasMet g c begun since k at word p) (same : g.same k (g.key p) ≡ true) where
-    -- a pair of the key that stood Live shows so
+    -- the key's search finds a pair of the key that was Live
     shows_live : h.was ≡ Live p → view g k h.was ≡ Here p
     shows_live e = ap (view g k) e ∙ ap (λ b. cond b (Here p) Foreign) same
 
-    -- one that stood Marked too
+    -- and one that was Marked
     shows_marked : h.was ≡ Marked p → view g k h.was ≡ Leaving p
     shows_marked e = ap (view g k) e ∙ ap (λ b. cond b (Leaving p) Foreign) same
 
-    -- the map had the pair at a moment
+    -- the map had the pair at some point
     pub had_pair : (h.was ≡ Live p) ⊎ (h.was ≡ Marked p) → HadPair g c begun since k (pair_of word)
     had_pair e = (
       p,
@@ -48,7 +48,7 @@ module _ {K P : Type 0} (g : Setting K P) (c : Coding K P) (hashed : IsHashed g 
       h.had (⊎_elim (λ l. ap held (shows_live l)) (λ m. ap held (shows_marked m)) e),
     )
 
-    -- where it stood Marked the pair is being copied, or was
+    -- if it was Marked the pair is being copied, or was
     moving : h.was ≡ Marked p → IsMovingFrom g c begun since k at.table at.probe.i
     moving e =
         ⊎_elim
@@ -70,11 +70,11 @@ module _ {K P : Type 0} (g : Setting K P) (c : Coding K P) (hashed : IsHashed g 
         ))
         (became_of g c hashed begun since may k at word p h (Marked p) e)
 
-    -- the number says how the word stood
+    -- the number determines the kind of the word at that point
     live_kind : h.was ≡ Live p → kind_of word ≡ kinds.Live
     live_kind e = ap kind_of (h.as_loaded ∙ ap (code g c) e) ∙ code_kind g c (Live p)
 
-    -- of a Marked one too
+    -- and so it does for a Marked one
     marked_kind : h.was ≡ Marked p → kind_of word ≡ kinds.Marked
     marked_kind e = ap kind_of (h.as_loaded ∙ ap (code g c) e) ∙ code_kind g c (Marked p)
 
@@ -132,7 +132,7 @@ module _ {K P : Type 0} (g : Setting K P) (c : Coding K P) (hashed : IsHashed g 
 
   module _ (loaded : LoadedPairs P) (held : Remembered) (fill : ReliesFill g c begun since k loaded held.fill)
       (choice : ReliesChoice g c begun since k loaded held.choice) where
-    -- what the search saw leads where the machine relies on what holds
+    -- after the outcome of a search the machine relies on facts that hold
     pub goes_relies : (task : Task) (mode : ResizeMode) → IsModeOf mode g.blocking → (s : ProbeStep) → ReliesProbed g c hashed begun since k loaded s
         → ReliesStage g c begun since k loaded task (goes_as task mode held s)
     goes_relies task mode is (seen.On _) r = r

@@ -1,4 +1,5 @@
--- What the call has made stays as it is, with more pairs loaded and after other exchanges.
+-- The pairs that the call has made stay unchanged, with more pairs loaded and after other
+-- exchanges.
 use Rattle.std.proofs.Common.{◌≡◌, inl, inr, ⊎_elim, ℕ, Option, None, Some, List, ◌∷◌, refl, true, subst, sym}
 use Rattle.papaya_call.specs.declared.ask.OpKind.{OpKind}
 use Rattle.papaya_call.specs.declared.ask.OpKind.TheVariants as ops
@@ -40,13 +41,13 @@ module _ {K P : Type 0} (g : Setting K P) (c : Coding K P) (begun since : List (
     of_kept None r = r
     of_kept (Some of) r = at_kept of.pair of.table of.index r
 
-    -- the choice that is remembered of a pair
+    -- the remembered choice about a pair
     choice_kept : (choice : Option Choice) → ReliesChoice g c begun since k loaded choice → ReliesChoice g c begun since' k loaded' choice
     choice_kept None r = r
     choice_kept (Some (To_replace old new)) r = of_kept (Some new) r
     choice_kept (Some (To_remove old)) r = r
 
-    -- all of it, where each pair is still of the key's class
+    -- all of it, if each pair still has a key equal to the call's
     pub loaded_kept : ((q : P) → IsOneOf loaded'.made q → g.same k (g.key q) ≡ true) → (made : Made) (held : Remembered)
         → ReliesLoaded g c begun since k loaded made held → ReliesLoaded g c begun since' k loaded' made held
     loaded_kept keys made held r = record {
@@ -59,7 +60,7 @@ module _ {K P : Type 0} (g : Setting K P) (c : Coding K P) (begun since : List (
       choice_is = choice_kept held.choice r.choice_is;
     }
 
-  -- another exchange says nothing of what was made
+  -- another exchange changes nothing about the pairs made
   pub loaded_later : (since' : List (Exchange P)) → KeysLast since' → (loaded : LoadedPairs P) (made : Made) (held : Remembered)
       → ReliesLoaded g c begun since k loaded made held → ReliesLoaded g c begun since' k loaded made held
   loaded_later since' last loaded made held r = loaded_kept since' last loaded loaded (λ q one. one) r.keys made held r
@@ -69,14 +70,14 @@ module _ {K P : Type 0} (g : Setting K P) (c : Coding K P) (begun since : List (
     pub loaded_told : (last : Option P) → ReliesLoaded g c begun since k (record loaded { last = last }) made held
     loaded_told last = loaded_kept since (λ t x key h. h) loaded (record loaded { last = last }) (λ q one. one) r.keys made held r
 
-    -- one more pair of the class was made
+    -- one more pair with a key equal to the call's was made
     pub loaded_more : (q : P) → g.same k (g.key q) ≡ true → ReliesLoaded g c begun since k (record loaded { made = q ∷ loaded.made }) made held
     loaded_more q mine =
         loaded_kept since (λ t x key h. h) loaded (record loaded { made = q ∷ loaded.made }) (λ p one. inr one)
         (λ p one. ⊎_elim (λ (e : p ≡ q). subst (λ y. g.same k (g.key y) ≡ true) (sym e) mine) (λ (before : IsOneOf loaded.made p). r.keys p before) one)
         made held r
 
-    -- the number of the next pair is another, and the key or the value was logged
+    -- the number of the next pair is another, and the key or the value was stored in the arena
     pub loaded_number : (number : Number) → ReliesNumber g c begun since k number → ReliesLoaded g c begun since k loaded (record made { number = number }) held
     loaded_number number is = record {
       keys = r.keys;
@@ -110,7 +111,7 @@ module _ {K P : Type 0} (g : Setting K P) (c : Coding K P) (begun since : List (
       choice_is = r.choice_is;
     }
 
-    -- or a value was answered
+    -- or a closure returned a value
     pub loaded_answered : (kind : OpKind) → ReliesLoaded g c begun since k loaded (answered kind made) held
     loaded_answered ops.Insert = record {
       keys = r.keys;
@@ -149,7 +150,7 @@ module _ {K P : Type 0} (g : Setting K P) (c : Coding K P) (begun since : List (
     }
 
   module _ (loaded : LoadedPairs P) (q : P) where
-    -- the newest pair is the call's own, where it has its key
+    -- the newest pair is the call's own, if it has its key
     pub own_newest : g.key q ≡ k → IsOwnPair g c begun since k (record loaded { made = q ∷ loaded.made }) (c.number q)
     own_newest mine = (q, inl refl, refl, mine)
 

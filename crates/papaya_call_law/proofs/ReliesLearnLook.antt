@@ -1,5 +1,5 @@
--- What a search learns from the word at its place, and from comparing the key of the pair that it
--- met.
+-- The facts that a search gains from the word at its place, and from comparing the key of the pair
+-- that it met.
 use Rattle.std.proofs.Common.{◌≡◌, ◌⊎◌, inl, inr, ⊎_elim, ℕ, Bool, true, false, cond, Some, List, [], ◌++◌, append-nil, refl, sym, ap, ◌∙◌, subst}
 use Rattle.std.proofs.lemmas.Bool.{cond_both}
 use Rattle.papaya_words.specs.Word.{kind_of, may_hold}
@@ -25,11 +25,11 @@ use Rattle.papaya_call_law.proofs.ReliesLearnPlaces.{ReliesProbed, goes_on, sees
 use Rattle.papaya_words_law.specs.Hints.{IsHint}
 use Rattle.papaya_words_law.proofs.Hints.{hint_passes}
 
--- the machine was told of the pair that a word names
+-- the machine has loaded the pair that a word names
 abbrev pub told_word : {P : Type 0} → Word P → LoadedPairs P → LoadedPairs P
 told_word w loaded = record loaded { last = or_last (named w) loaded.last }
 
--- of two views the one that is held
+-- if a choice between a view and Foreign is held, it is the view
 one_held : {P : Type 0} → (b : Bool) (v : View P) → held (cond b v Foreign) ≡ true → cond b v Foreign ≡ v
 one_held true v h = refl
 one_held false v h = absurd cc
@@ -100,7 +100,7 @@ module _ {K P : Type 0} (g : Setting K P) (c : Coding K P) (hashed : IsHashed g 
     by_kind (Copied p) e loaded = compares (Copied p) p e refl (λ q. cc) loaded
     by_kind (Buried p) e loaded = passes (Buried p) e (past_buried g c k (Buried p) (code_kind g c (Buried p))) loaded
 
-    -- what the word that stands there tells
+    -- by the word that is there
     pub looks : (loaded : LoadedPairs P) → ReliesProbed g c hashed begun since k (told_word (now.slot at.table at.probe.i) loaded)
         (look_seen at (code g c (now.slot at.table at.probe.i)))
     looks loaded =
@@ -116,7 +116,7 @@ module _ {K P : Type 0} (g : Setting K P) (c : Coding K P) (hashed : IsHashed g 
     same_pair : (w : Word P) (q : P) → named w ≡ Some q → h.was ≡ w → q ≡ p
     same_pair w q n e = let names = h.names in let there : named h.was ≡ Some q = ap named e ∙ n in cc (names, there)
 
-    -- what stands there now came of it
+    -- the word that is there now came from it
     pub became_of : (w : Word P) → h.was ≡ w → Becomes g w (now.slot at.table at.probe.i)
     became_of w e = subst (λ v. Becomes g v (now.slot at.table at.probe.i)) e h.became
 
@@ -144,7 +144,7 @@ module _ {K P : Type 0} (g : Setting K P) (c : Coding K P) (hashed : IsHashed g 
         goes_on g c hashed begun since k at h.stands
         (ap beyond (sees g c hashed begun since k at h.stands (now.slot at.table at.probe.i) refl ∙ foreign)) loaded
 
-    -- what the comparison tells
+    -- by the comparison
     pub compared : (loaded : LoadedPairs P) → loaded.last ≡ Some p → (same : Bool) → g.same k (g.key p) ≡ same
         → ReliesProbed g c hashed begun since k loaded (at_yes (Comparing at word) same)
     compared loaded last true e = subst (λ y. ReliesProbed g c hashed begun since k loaded (match_at y at word)) (sym (kind_then h.was refl))

@@ -1,4 +1,4 @@
--- What a search finds in the table to which it has come is the map's at some moment of the call.
+-- A search's result in the table to which it has come is the map's at some point of the call.
 use Rattle.std.proofs.Common.{◌≡◌, ◌⊎◌, inl, inr, ⊎_elim, ℕ, ◌<◌, true, false, Option, None, Some}
 use Rattle.std.proofs.Common.{List, [], ◌++◌, append_assoc, append-nil, refl, sym, ap, ◌∙◌, subst}
 use Rattle.std.proofs.lemmas.Bool.{cases_Bool}
@@ -19,11 +19,11 @@ module _ {K P : Type 0} (g : Setting K P) (c : Coding K P) (law : IsLawful g) (b
   abbrev now : State P
   now = run (begun ++ since) start
 
-  -- what the map has now it has at a moment
+  -- the map's current value is its value at some point
   pub at_now : (v : Option P) → map_left g (begun ++ since) k ≡ v → WasAtMoment g c begun since k v
   at_now v e = record { so_far = since; rest = []; is = append-nil since; value_is = ap (λ m. m k) (sym (map_of-append g begun since (λ l. None))) ∙ e }
 
-  -- with blocking: the search stands in what was the root after es, and fs came since
+  -- with blocking: the search is in the table that was the root after es, and fs came since
   module _ (es fs : List (Exchange P)) (e : es ++ fs ≡ since) where
     -- the exchanges before the root was loaded, and since
     split : begun ++ since ≡ (begun ++ es) ++ fs
@@ -33,7 +33,7 @@ module _ {K P : Type 0} (g : Setting K P) (c : Coding K P) (law : IsLawful g) (b
     may-split : AllAllowed g start ((begun ++ es) ++ fs)
     may-split = subst (AllAllowed g start) split may
 
-    -- a moment of the later ones is one of all
+    -- a value that the map had at some point after es, it had at some point of the call
     at_deeper : (v : Option P) → IsAtMoment g (map_left g (begun ++ es)) fs k v → WasAtMoment g c begun since k v
     at_deeper v m = record {
       so_far = es ++ m.so_far;
@@ -52,7 +52,7 @@ module _ {K P : Type 0} (g : Setting K P) (c : Coding K P) (law : IsLawful g) (b
         (root_is_reached g law (begun ++ es) first k (subst (λ y. 0 < y) (sym root) some)) in
         subst (λ l. IsReached g (run l start) k t) (sym split) ((lasting g law (begun ++ es) fs may-split).reached k t at)
 
-  -- where a search has come to is reached, in both modes
+  -- a table to which a search has come is reached, in both modes
   pub come_reached : (t : ℕ) → HasComeTo g c begun since k t → IsReached g now k t
   come_reached t r = ⊎_elim (λ h. h.1) (λ h. let m = h.1 in root_then m.0 m.1 m.2 t r.some m.3) r.is
 
@@ -77,7 +77,7 @@ module _ {K P : Type 0} (g : Setting K P) (c : Coding K P) (law : IsLawful g) (b
       (subst (λ l. look g (run l start) k t j ≡ Free) (split m.0 m.1 m.2) h)))
       r.is
 
-  -- a pair of the key that stood Live in a slot at a moment, and is Buried there now
+  -- a pair of the key that was Live in a slot at some point, and is Buried there now
   pub buried_here : (es fs : List (Exchange P)) → es ++ fs ≡ since → (t x : ℕ) (p q : P) → (run (begun ++ es) start).slot t x ≡ Live p
       → g.same k (g.key p) ≡ true → now.slot t x ≡ Buried q → WasAtMoment g c begun since k None
   buried_here es fs e t x p q live same buried =
@@ -110,7 +110,7 @@ module _ {K P : Type 0} (g : Setting K P) (c : Coding K P) (law : IsLawful g) (b
     is = ⊎_elim (λ b. inr (b, (since, [], append-nil since, refl))) (λ b. inl (b, root_is_reached g law (begun ++ since) may k some)) (cases_Bool g.blocking);
   }
 
-  -- without blocking, it goes on from a passed table
+  -- without blocking, it continues from a passed table
   pub next_come : (t : ℕ) → HasComeTo g c begun since k t → g.blocking ≡ false → IsPassed g.places (look g now k) t → 0 < now.next t
       → HasComeTo g c begun since k (now.next t)
   next_come t r inc pass some = record { some = some; is = inl (inc, next_reached g now inc k t (come_reached t r) pass some) }

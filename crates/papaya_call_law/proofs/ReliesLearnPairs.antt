@@ -24,7 +24,8 @@ use Rattle.papaya_call_law.specs.TrueAnswers.{IsOfLast, LoadedPairs}
 use Rattle.papaya_call_law.specs.Relies.{IsPairAt, MayRemove, MayWrite, ReliesLoaded, ReliesNumber, ReliesWriting}
 use Rattle.papaya_call_law.proofs.ReliesLearnLoaded.{at_newest, loaded_more, loaded_number, loaded_of, loaded_own, own_newest}
 
--- what was logged, by the number and by what is logged already
+-- the part that was stored in the arena, by the number and by the parts that are stored there
+-- already
 abbrev pub grown_by : Bool → (keyed valued : Bool) → Made → Grown
 grown_by true keyed valued made = own_grown keyed valued made
 grown_by false keyed valued made = of_grown valued made
@@ -44,7 +45,7 @@ module _ {K P : Type 0} (g : Setting K P) (c : Coding K P) (begun since : List (
   wanted_relies (Some most) = tt
 
   module _ (loaded : LoadedPairs P) (made : Made) (held : Remembered) (r : ReliesLoaded g c begun since k loaded made held) where
-    -- so many numbers were taken
+    -- `count` numbers were taken
     abbrev pub ReliesTold : Option Made → Type 0
     ReliesTold None = Unit {0}
     ReliesTold (Some next) = ReliesLoaded g c begun since k loaded next held
@@ -84,12 +85,13 @@ module _ {K P : Type 0} (g : Setting K P) (c : Coding K P) (hashed : IsHashed g 
   abbrev now : State P
   now = run (begun ++ since) start
 
-  -- a pair that is made in place of a word has the call's key where the word is empty, and else that of the pair which it names
+  -- a pair that is made in place of a word has the call's key if the word is empty, and otherwise
+  -- that of the pair which it names
   abbrev pub IsNewFor : LoadedPairs P → ℕ → P → Type 0
   IsNewFor loaded old q = MatchBool (old == 0) (g.key q ≡ k) (IsOfLast g c k loaded (pair_of old) q)
 
   module _ (loaded : LoadedPairs P) (removal : Removal) (r : MayRemove g c begun since k loaded removal) where
-    -- the number that a word names is that of the pair last told of
+    -- the number that a word names is that of the pair last loaded
     pub removal_number : c.number r.pair ≡ pair_of removal.word
     removal_number = sym (ap pair_of r.met.as_loaded ∙ (code_pair g c hashed.coding r.met.was r.pair r.met.names))
 
@@ -101,7 +103,7 @@ module _ {K P : Type 0} (g : Setting K P) (c : Coding K P) (hashed : IsHashed g 
       kept : g.key q ≡ g.key r.pair
       kept = new r.pair r.last removal_number
 
-      -- so a pair of that key is of the class, and serves in the slot
+      -- so a pair of that key has a key equal to the call's, and may be used in the slot
       pub new_same : g.same k (g.key q) ≡ true
       new_same = subst (λ l. g.same k l ≡ true) (sym kept) r.same
 
@@ -109,7 +111,7 @@ module _ {K P : Type 0} (g : Setting K P) (c : Coding K P) (hashed : IsHashed g 
       new_at = at_newest g c begun since k loaded q removal.place.table removal.place.probe.i
           (subst (IsOfKey g (now.slot removal.place.table removal.place.probe.i)) (sym kept) removal_key)
 
-  -- a pair of the call's own key is of the class
+  -- a pair of the call's own key has an equal key
   pub own_same : (q : P) → g.key q ≡ k → g.same k (g.key q) ≡ true
   own_same q mine = subst (λ l. g.same k l ≡ true) (sym mine) (hashed.lawful.itself k)
 
@@ -126,7 +128,7 @@ module _ {K P : Type 0} (g : Setting K P) (c : Coding K P) (hashed : IsHashed g 
             (λ o. new_same loaded (record { place = write.place; word = write.old }) o.1 q h)
             w.old
 
-    -- it serves there
+    -- it may be used there
     pub write_paired : (made : Made) (held : Remembered) → ReliesLoaded g c begun since k loaded made held → IsNewFor loaded write.old q
         → ReliesLoaded g c begun since k (record loaded { made = q ∷ loaded.made }) (with_pair_at made write (c.number q)) held
     write_paired made held r new =
@@ -150,11 +152,11 @@ module _ {K P : Type 0} (g : Setting K P) (c : Coding K P) (hashed : IsHashed g 
     abbrev pub more_loaded : LoadedPairs P
     more_loaded = record loaded { made = q ∷ loaded.made }
 
-    -- a pair that was shown stays so
+    -- a pair that the closure was called with stays so
     pub removal_more : (removal : Removal) → MayRemove g c begun since k loaded removal → MayRemove g c begun since k more_loaded removal
     removal_more removal r = record { pair = r.pair; last = r.last; met = r.met; live = r.live; same = r.same }
 
-    -- and so does what a write takes the place of
+    -- and so does the word that a write replaces
     pub write_more : (replace : Bool) (write : Write) → MayWrite g c begun since k loaded replace write → MayWrite g c begun since k more_loaded replace write
     write_more replace write r = record {
       stands = r.stands;
@@ -169,7 +171,7 @@ module _ {K P : Type 0} (g : Setting K P) (c : Coding K P) (hashed : IsHashed g 
     writing_more RemoveIf write r = r
     writing_more Compute write r = r
 
-    -- the newest pair of an insertion serves where it writes
+    -- the newest pair of an insertion may be used where it writes
     pub writing_paired : (made : Made) (held : Remembered) → ReliesLoaded g c begun since k loaded made held → (task : Task) (write : Write)
         → ReliesWriting g c begun since k loaded task write → IsNewFor loaded write.old q
         → ReliesLoaded g c begun since k more_loaded (with_pair_at made write (c.number q)) held

@@ -21,7 +21,8 @@ module _ {K P : Type 0} (g : Setting K P) (c : Coding K P) (hashed : IsHashed g 
   abbrev now : State P
   now = run (begun ++ since) start
 
-  -- what a search saw: the Empty slot that it came to, or a pair of the key that was not copied
+  -- the outcome of a probe: the Empty slot that it came to, or a pair of the key that was not
+  -- copied
   abbrev pub ReliesProbed : LoadedPairs P → ProbeStep → Type 0
   ReliesProbed loaded (seen.On search) = ReliesSearch g c begun since k loaded search
   ReliesProbed loaded (seen.Empty at) = IsAt g c begun since k at × (now.slot at.table at.probe.i ≡ Empty)
@@ -42,7 +43,7 @@ module _ {K P : Type 0} (g : Setting K P) (c : Coding K P) (hashed : IsHashed g 
   }
 
   module _ (at : Place) (r : IsAt g c begun since k at) where
-    -- what the key sees at the place is what stands there
+    -- a search of the key sees at the place the word that is there
     pub sees : (w : Word P) → now.slot at.table at.probe.i ≡ w → look g now k at.table at.probe.len ≡ view g k w
     sees w e = ap (view g k) (ap (now.slot at.table) (sym r.slot) ∙ e)
 
@@ -63,7 +64,7 @@ module _ {K P : Type 0} (g : Setting K P) (c : Coding K P) (hashed : IsHashed g 
           ∙ place-next (c.hash k) (g.size at.table) at.probe.len
           ∙ sym (hashed.places k at.table (at.probe.len + 1))
 
-      -- the search stands there
+      -- the search is at that place
       next : at.probe.len < at.limit → IsAt g c begun since k (next_place at)
       next lt = record {
         come = r.come;
@@ -78,7 +79,7 @@ module _ {K P : Type 0} (g : Setting K P) (c : Coding K P) (hashed : IsHashed g 
       over : at.limit ≤ at.probe.len → IsPassed g.places (look g now k) at.table
       over le = inr (λ j lt. passed j (let e = r.limit in omega arith))
 
-      -- the search goes on
+      -- the search continues
       pub goes_on : (loaded : LoadedPairs P) → ReliesProbed loaded (go_on at)
       goes_on loaded =
           cond_both (nat_lt at.probe.len at.limit) (seen.On (Looking (next_place at))) (seen.Over at.table) (ReliesProbed loaded)

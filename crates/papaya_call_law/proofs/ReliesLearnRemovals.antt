@@ -1,6 +1,6 @@
 -- A removal: the pair with which its closure was called may be removed. If it is kept, the map had
--- it, and if another call removed it, the map had none for a moment. A compute that was to remove
--- the pair goes on in that case.
+-- it, and if another call removed it, the map had none at some point. A compute that was to remove
+-- the pair continues in that case.
 use Rattle.std.proofs.Common.{◌≡◌, inl, ℕ, Bool, true, false, None, Some, List, ◌++◌, refl, sym, ap, ◌∙◌, subst}
 use Rattle.papaya_words.specs.Word.{kind_of}
 use Rattle.papaya_words.specs.declared.word.Kind.{Kind}
@@ -43,7 +43,7 @@ module _ {K P : Type 0} (g : Setting K P) (c : Coding K P) (hashed : IsHashed g 
   uncounted loaded Compute n is = tt
 
   module _ (loaded : LoadedPairs P) (removal : Removal) (r : MayRemove g c begun since k loaded removal) where
-    -- the word that was loaded stood Live
+    -- the word that was loaded was Live
     was_live : r.met.was ≡ Live r.pair
     was_live =
         let live : IsOfKind word_kinds.Live r.met.was = subst (λ y. IsOfKind y r.met.was) (ap kind_of (sym r.met.as_loaded) ∙ r.live)
@@ -52,7 +52,7 @@ module _ {K P : Type 0} (g : Setting K P) (c : Coding K P) (hashed : IsHashed g 
         let is : live.0 ≡ r.pair = cc names in
         live.1 ∙ ap Live is
 
-    -- what stands there now came of the pair
+    -- the word that is there now came from the pair
     became : Becomes g (Live r.pair) (now.slot removal.place.table removal.place.probe.i)
     became = became_of g c hashed begun since may k removal.place removal.word r.pair r.met (Live r.pair) was_live
 
@@ -60,7 +60,7 @@ module _ {K P : Type 0} (g : Setting K P) (c : Coding K P) (hashed : IsHashed g 
     same_now : (q : P) → now.slot removal.place.table removal.place.probe.i ≡ Live q → g.same k (g.key q) ≡ true
     same_now q is = let kept : g.key q ≡ g.key r.pair = subst (Becomes g (Live r.pair)) is became in subst (λ l. g.same k l ≡ true) (sym kept) r.same
 
-    -- the deletion that was asked for is allowed
+    -- the deletion that was requested is allowed
     pub buries : (new : ℕ) (es : List (Exchange P)) → IsSlotAsked g c hashed begun since may k (Some kinds.Bury) removal.place new loaded es
         → AllAllowed g start (begun ++ (since ++ es))
     buries new es h =
@@ -69,12 +69,12 @@ module _ {K P : Type 0} (g : Setting K P) (c : Coding K P) (hashed : IsHashed g 
         (may_bury g c hashed begun since may k removal.place r.met.stands p (h.1).1 (same_now p (h.1).1)) in
         subst (λ l. AllAllowed g start (begun ++ (since ++ l))) (sym h.2) (one_more g c hashed begun since may k h.0 allows)
 
-    -- where the closure agrees the pair is to be deleted, and where it doesn't, the map had the pair
+    -- if the closure returns `true` the pair is to be deleted, and otherwise the map had the pair
     agreed_relies : (agrees : Bool) → ReliesStage g c begun since k loaded RemoveIf (agreed removal agrees)
     agreed_relies true = (tt, r)
     agreed_relies false = had_pair g c hashed begun since may k removal.place removal.word r.pair r.met r.same (inl was_live)
 
-    -- the closure of a compute isn't asked for such an answer
+    -- the closure of a compute has no such result
     pub judged_relies : (task : Task) → HasClosure task → (agrees : Bool) → ReliesStage g c begun since k loaded task (judged task removal agrees)
     judged_relies Get is agrees = absurd is
     judged_relies (Insert replace) is agrees = absurd is
@@ -89,7 +89,8 @@ module _ {K P : Type 0} (g : Setting K P) (c : Coding K P) (hashed : IsHashed g 
         ((m.1).2 ∙ was_live) r.same b.1
 
     module _ (m : Machine) (loaded' : LoadedPairs P) (word : ℕ) (is : word ≡ code g c (now.slot removal.place.table removal.place.probe.i)) where
-      -- so where another word stands, a removal is over if that is Buried, and else goes on as its search does
+      -- so if another word is there, a removal is over if that is Buried, and otherwise continues
+      -- as its search does
       by_kind : ReliesStage g c begun since k loaded' RemoveIf (goes m (look_seen removal.place word)) → (y : Kind) → kind_of word ≡ y
           → ReliesStage g c begun since k loaded' RemoveIf (beaten_by y m removal.place word)
       by_kind on word_kinds.Buried e = buried_absent
@@ -101,7 +102,7 @@ module _ {K P : Type 0} (g : Setting K P) (c : Coding K P) (hashed : IsHashed g 
       by_kind on word_kinds.Copied e = on
       by_kind on word_kinds.Closed e = on
 
-      -- and a compute goes on in any case
+      -- and a compute continues in any case
       pub beaten_relies : (task : Task) → HasClosure task → ReliesStage g c begun since k loaded' task (goes m (look_seen removal.place word))
           → ReliesStage g c begun since k loaded' task (beaten_as task m removal.place word)
       beaten_relies Get closure on = absurd closure

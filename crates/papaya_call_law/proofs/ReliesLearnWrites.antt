@@ -1,4 +1,5 @@
--- After an exchange of its own what a machine relies on holds again, and the exchange was allowed.
+-- After its own exchange the facts that a machine relies on hold again, and the exchange was
+-- allowed.
 use Rattle.std.proofs.Common.{◌≡◌, ⊎_elim, ℕ, ◌<◌, ◌==◌, eqb-true, eq-eqb, Bool, true, false, cond}
 use Rattle.std.proofs.Common.{MatchBool, Option, Some, List, [], ◌∷◌, ◌++◌, append_assoc, refl, sym}
 use Rattle.std.proofs.Common.{ap, ◌∙◌, subst}
@@ -43,7 +44,7 @@ module _ {K P : Type 0} (g : Setting K P) (c : Coding K P) (hashed : IsHashed g 
   pub after_more : (e : Exchange P) → run (begun ++ (since ++ e ∷ [])) start ≡ after now e
   after_more e = ap (λ l. run l start) (sym (append_assoc begun since (e ∷ []))) ∙ run-append (begun ++ since) (e ∷ []) start
 
-  -- the root that was put in is come to
+  -- a search comes to the root that was put in
   opened : (t : ℕ) → 0 < t → now.root ≡ 0 → (e : Exchange P) → e ≡ Open t → AllAllowed g start (begun ++ (since ++ e ∷ []))
       × HasComeTo g c begun (since ++ e ∷ []) k t
   opened t some none e is =
@@ -53,7 +54,7 @@ module _ {K P : Type 0} (g : Setting K P) (c : Coding K P) (hashed : IsHashed g 
       (root_come g c hashed.lawful begun (since ++ Open t ∷ []) all k (subst (λ y. 0 < y) (sym root) some)) in
       subst (λ y. AllAllowed g start (begun ++ (since ++ y ∷ [])) × HasComeTo g c begun (since ++ y ∷ []) k t) (sym is) (all, come)
 
-  -- what was asked for at the root
+  -- the exchange that was asked for at the root
   pub opens : (t : ℕ) → 0 < t → now.root ≡ 0 → (loaded : LoadedPairs P) (es : List (Exchange P))
       → ((e : Exchange P) × IsAsked g c k (Some kinds.Open) Root t now loaded e × (es ≡ e ∷ []))
       → AllAllowed g start (begun ++ (since ++ es)) × HasComeTo g c begun (since ++ es) k t
@@ -64,13 +65,13 @@ module _ {K P : Type 0} (g : Setting K P) (c : Coding K P) (hashed : IsHashed g 
   abbrev word_at : Place → ℕ
   word_at at = code g c (now.slot at.table at.probe.i)
 
-  -- what was exchanged there is what was asked for
+  -- the exchange that was made there is the one that was asked for
   abbrev pub IsSlotAsked : Option StepKind → Place → ℕ → LoadedPairs P → List (Exchange P) → Type 0
   IsSlotAsked kind at new loaded es = (e : Exchange P) × IsAsked g c k kind (Slot at.table at.probe.i) new now loaded e × (es ≡ e ∷ [])
 
   module _ (loaded : LoadedPairs P) (new : ℕ) (replace : Bool) (write : Write) (r : MayWrite g c begun since k loaded replace write)
       (old : word_at write.place ≡ write.old) where
-    -- an exchange of a slot that was asked for where a machine writes is allowed
+    -- an exchange of a slot that was asked for by a write is allowed
     allowed_write : (b : Bool) → (write.old == 0) ≡ b → (e : Exchange P)
         → IsAsked g c k (Some (cond b kinds.Claim kinds.Replace)) (Slot write.place.table write.place.probe.i) new now loaded e → Allows g now e
     allowed_write true is e h = subst (Allows g now) (sym h.3)
@@ -82,11 +83,11 @@ module _ {K P : Type 0} (g : Setting K P) (c : Coding K P) (hashed : IsHashed g 
         (live_same g c hashed begun since may k loaded (record { place = write.place; word = write.old }) o.1 h.0 h.2) h.4))
         r.old
 
-    -- so it may follow what was exchanged
+    -- so it may follow the exchanges so far
     allowed_slot : (es : List (Exchange P)) → IsSlotAsked (Some (write_kind write)) write.place new loaded es → AllAllowed g start (begun ++ (since ++ es))
     allowed_slot es h = subst (λ l. AllAllowed g start (begun ++ (since ++ l))) (sym h.2) (one_more h.0 (allowed_write (write.old == 0) refl h.0 h.1))
 
-  -- the new pair stands where it was claimed, and is of the key
+  -- the new pair is where it was claimed, and is of the key
   claimed_there : (loaded : LoadedPairs P) (new : ℕ) (write : Write) → (es : List (Exchange P)) → IsSlotAsked (Some kinds.Claim) write.place new loaded es
       → IsHint g c (run (begun ++ (since ++ es)) start) write.place.table write.place.probe.i (hint_of (c.hash k))
   claimed_there loaded new write es (e, (q, own, mine, is), one) =
@@ -126,7 +127,7 @@ module _ {K P : Type 0} (g : Setting K P) (c : Coding K P) (hashed : IsHashed g 
       (λ o. absurd (let replaces = o.0 in cc replaces))
       r.old
 
-  -- what was asked for at a slot
+  -- the exchange that was asked for at a slot
   pub writes : (loaded : LoadedPairs P) → (n new : ℕ) → (task : Task) (write : Write) → IsPairFor g c begun since k loaded write n
       → ReliesWriting g c begun since k loaded task write
       → word_at write.place ≡ write.old → (es : List (Exchange P)) → IsSlotAsked (Some (write_kind write)) write.place new loaded es
@@ -149,7 +150,7 @@ module _ {K P : Type 0} (g : Setting K P) (c : Coding K P) (hashed : IsHashed g 
   has_put loaded Compute is n new write r es all true own h = (tt, has_claimed loaded n new own true write r es all h)
   has_put loaded Compute is n new write r es all false own h = (own.0, own.1, own.2)
 
-  -- where it puts the pair that it made
+  -- it puts the pair that it made
   pub puts : (loaded : LoadedPairs P) → (task : Task) → IsComputer task → (put : Put) → IsPairFor g c begun since k loaded put.write put.pair
       → (new : ℕ) → MayWrite g c begun since k loaded true put.write
       → word_at put.write.place ≡ put.write.old → (es : List (Exchange P)) → IsSlotAsked (Some (write_kind put.write)) put.write.place new loaded es

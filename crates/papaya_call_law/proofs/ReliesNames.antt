@@ -46,7 +46,7 @@ module _ {K P : Type 0} (g : Setting K P) (c : Coding K P) (h : IsHashed g c) (b
       subst OnChain r.is (walk_on (now g c begun since k).next s.rises (now g c begun since k).first r.from r.links (s.was r.from r.was).0
       (subst (λ y. 0 < y) (sym r.is) r.made))
 
-  -- where a search has come to is reached, in both modes
+  -- a table to which a search has come is reached, in both modes
   pub come_reached : (t : ℕ) → HasComeTo g c begun since k t → IsReached g (now g c begun since k) k t
   come_reached t r = ⊎_elim (λ h. h.1) (λ h. let m = h.1 in was_root m.0 m.1 m.2 m.3) r.is
     where
@@ -63,14 +63,14 @@ module _ {K P : Type 0} (g : Setting K P) (c : Coding K P) (h : IsHashed g c) (b
   pub come_on : (t : ℕ) → HasComeTo g c begun since k t → OnChain t
   come_on t r = reached_on t (come_reached t r)
 
-  -- what a call leaves is on the chain
+  -- a table that a call leaves is on the chain
   leaving_on : (task : Task) (t : ℕ) → ReliesLeaving g c begun since k task t → OnChain t
   leaving_on Get t r = come_on t r.1
   leaving_on (Insert replace) t r = absurd r
   leaving_on RemoveIf t r = come_on t r.1
   leaving_on Compute t r = come_on t r.1
 
-  -- and what it is to grow from
+  -- and so is one from which it is to grow
   growing_on : (need : Need) → ReliesNeed g c begun since k need → OnChain (needed need)
   growing_on (Room t) r = come_on t r.0
   growing_on (Pair_at t x) r = come_on t r.0
@@ -79,7 +79,7 @@ module _ {K P : Type 0} (g : Setting K P) (c : Coding K P) (h : IsHashed g c) (b
   abbrev pub HasSlot : ℕ → ℕ → Type 0
   HasSlot t x = OnChain t × (x < g.size t)
 
-  -- what an ask names is on the chain, and within
+  -- the table that an ask names is on the chain, and has the slot
   abbrev pub IsNamed : Ask → Type 0
   IsNamed (SizeOf t) = OnChain t
   IsNamed (Load (Next t)) = OnChain t
@@ -89,7 +89,7 @@ module _ {K P : Type 0} (g : Setting K P) (c : Coding K P) (h : IsHashed g c) (b
   IsNamed (WriteHint t x hint) = HasSlot t x
   IsNamed _ = Unit {0}
 
-  -- what is asked for a pair names no table
+  -- the asks for a pair name no table
   pair_named : HoldsOfPairAsks IsNamed
   pair_named = record { loads = tt; takes = λ count. tt; key = tt; value = tt; pair = tt; pair_of = λ n. tt }
 
@@ -106,7 +106,7 @@ module _ {K P : Type 0} (g : Setting K P) (c : Coding K P) (h : IsHashed g c) (b
   write_within loaded Compute write r = absurd r
 
   module _ (loaded : LoadedPairs P) (task : Task) (hash : ℕ) where
-    -- of each stage's ask
+    -- for each stage's ask
     pub ask_named : (made : Made) (stage : Stage) → ReliesStage g c begun since k loaded task stage → IsNamed (asks made hash stage)
     ask_named made AtRoot r = tt
     ask_named made Making r = tt

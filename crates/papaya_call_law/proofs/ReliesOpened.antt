@@ -53,11 +53,11 @@ abbrev opening_of : Ask → Option ℕ
 opening_of (Ask_exchange Root old t) = Some t
 opening_of _ = None
 
--- what is asked for a pair opens nothing
+-- the asks for a pair open nothing
 pairs_open_none : HoldsOfPairAsks (λ ask. opening_of ask ≡ None)
 pairs_open_none = record { loads = refl; takes = λ count. refl; key = refl; value = refl; pair = refl; pair_of = λ n. refl }
 
--- its ask tells
+-- its ask states it
 opening_asked : (made : Made) (hash : ℕ) (stage : Stage) → opening_of (asks made hash stage) ≡ opening_in stage
 opening_asked made hash AtRoot = refl
 opening_asked made hash Making = refl
@@ -101,7 +101,7 @@ leads_open_none = record {
   growing = λ t. refl;
 }
 
--- nor does what a search saw
+-- nor does the outcome of a probe
 goes_open_none : (task : Task) (mode : ResizeMode) (held : Remembered) (s : ProbeStep) → OpensNone (goes_as task mode held s)
 goes_open_none task mode held s = goes_leads OpensNone leads_open_none task mode held s
 
@@ -110,7 +110,7 @@ written_opens_none : (write : Write) (n : ℕ) → OpensNone (written write n)
 written_opens_none write n = cond_both (write.old == 0) (Counting (claimed_by write n)) (Ended (Replaced (pair_of write.old) n)) OpensNone (λ _. refl)
     (λ _. refl)
 
--- nor what a closure answers
+-- nor a result of a closure
 judged_opens_none : (task : Task) (removal : Removal) (agrees : Bool) → OpensNone (judged task removal agrees)
 judged_opens_none Get removal agrees = refl
 judged_opens_none (Insert replace) removal agrees = refl
@@ -127,7 +127,7 @@ decided_opens_none Compute removal ops.Insert = refl
 decided_opens_none Compute removal ops.Remove = refl
 decided_opens_none Compute removal (ops.Abort with) = refl
 
--- where it was shown None
+-- for None
 offered_opens_none : (gap : Gap) (kind : OpKind) → OpensNone (offered gap kind)
 offered_opens_none gap ops.Insert = refl
 offered_opens_none gap ops.Remove = refl
@@ -138,7 +138,7 @@ module _ (m : Machine) (t : ℕ) where
   abbrev IsOpened : Stage → Answer → Type 0
   IsOpened stage answer = ((answer ≡ Made_number t) × (stage ≡ Making)) ⊎ (stage ≡ Opening t)
 
-  -- where nothing is opened
+  -- if nothing is opened
   none_opened : (stage : Stage) (answer : Answer) (o : Option ℕ) → o ≡ None → o ≡ Some t → IsOpened stage answer
   none_opened stage answer o none some = let no : None ≡ Some t = sym none ∙ some in absurd cc
 
@@ -211,7 +211,7 @@ module _ (m : Machine) (t : ℕ) where
   opened_in made (Ended reply) Exchanged e = absurd cc
   opened_in made (Ended reply) answer e = absurd cc
 
-  -- of the machine
+  -- for the whole machine
   pub machine_opened : (answer : Answer) → ask_of (after m answer) ≡ Ask_exchange Root 0 t
       → ((answer ≡ Made_number t) × ((slots : ℕ) × (limit : ℕ) × (ask_of m ≡ MakeTable slots limit 0))) ⊎ (ask_of m ≡ Ask_exchange Root 0 t)
   machine_opened answer e =

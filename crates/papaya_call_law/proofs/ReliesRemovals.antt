@@ -1,4 +1,5 @@
--- While no table has a next one, a removal is never refused: it makes nothing, and it needs no next table.
+-- While no table has a next one, a removal never fails: it makes nothing, and it needs no next
+-- table.
 use Rattle.std.proofs.Common.{◌≡◌, ⊎_elim, ℕ, ◌<◌, List, ◌++◌, subst, arith}
 use Rattle.papaya_words.specs.declared.refused.Refused.{Refused}
 use Rattle.papaya_words.specs.declared.refused.Refused.TheVariants.{Capacity, Limit, RemoveNothing}
@@ -66,17 +67,17 @@ module _ {K P : Type 0} (g : Setting K P) (c : Coding K P) (law : IsLawful g) (b
     nothing_made (Growing t) r making = making
     nothing_made (Ended reply) r making = making
 
-    -- and shows no closure that its key is absent
+    -- and calls no closure with None
     nothing_offered : (gap : Gap) → ReliesStage g c begun since k loaded RemoveIf (Offering gap) → ⊥
     nothing_offered gap r = r.0
 
     module _ (alone : (t : ℕ) → now.next t ≡ 0) where
-      -- and needs a next table only where there is one
+      -- and needs a next table only if there is one
       nothing_needed : (need : Need) → ReliesStage g c begun since k loaded RemoveIf (Growing need) → ⊥
       nothing_needed (Room t) r = r.0
       nothing_needed (Pair_at t x) r = let some = moving_further t x (r.1).1 in let none = alone t in omega (arith, some, none)
 
-      -- so no reason for a refusal is there
+      -- so there is no reason for a failure
       pub removal_unrefused : (m : Machine) → Relies g c begun since k m loaded → m.task ≡ RemoveIf
           → ((reply : Reply) → ask_of m ≡ Ask_done reply → ⊥) → (answer : Answer) (refused : Refused)
           → ask_of (after m answer) ≡ Ask_done (Reply_refused refused) → ⊥

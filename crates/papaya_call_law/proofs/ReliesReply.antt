@@ -1,4 +1,4 @@
--- What a call has changed after each answer.
+-- The changes that a call has made after each answer.
 use Rattle.std.proofs.Common.{◌≡◌, inl, inr, ⊎_elim, ℕ, ◌+◌, ◌==◌, Bool, true, false, cond, Option, None, Some, List, [], ◌∷◌, refl, sym, ap, ◌∙◌, subst}
 use Rattle.papaya_words.specs.Word.{pair_of, live_word}
 use Rattle.papaya_words.specs.declared.refused.Refused.{Refused}
@@ -48,11 +48,11 @@ use Rattle.papaya_call.specs.Write.{claimed_by, served_ask, serves}
 use Rattle.papaya_call.specs.declared.ask.Ask.TheVariants.{Exchange as Ask_exchange, Done as Ask_done}
 use Rattle.std.proofs.lemmas.Bool.{cond_both}
 
--- nothing is changed yet
+-- nothing has been changed yet
 abbrev IsUnchanged : Stage → Type 0
 IsUnchanged stage = change_in stage ≡ None
 
--- nothing is where a load or a search leads
+-- nothing is changed by a load or a search
 leads_unchanged : HoldsOfLeads IsUnchanged
 leads_unchanged = record {
   ended_absent = refl;
@@ -70,11 +70,11 @@ leads_unchanged = record {
   growing = λ t. refl;
 }
 
--- nor where what a search saw does
+-- nor by a probe
 goes_unchanged : (task : Task) (mode : ResizeMode) (held : Remembered) (s : ProbeStep) → change_in (goes_as task mode held s) ≡ None
 goes_unchanged task mode held s = goes_leads IsUnchanged leads_unchanged task mode held s
 
--- nor where the closure of a removal answered
+-- nor by a result of a removal's closure
 judged_unchanged : (task : Task) (removal : Removal) (agrees : Bool) → change_in (judged task removal agrees) ≡ None
 judged_unchanged Get removal agrees = refl
 judged_unchanged (Insert replace) removal agrees = refl
@@ -82,7 +82,7 @@ judged_unchanged RemoveIf removal true = refl
 judged_unchanged RemoveIf removal false = refl
 judged_unchanged Compute removal agrees = refl
 
--- nor where that of a compute did
+-- nor by one of a compute's closure
 decided_unchanged : (task : Task) (removal : Removal) (kind : OpKind) → change_in (decided task removal kind) ≡ None
 decided_unchanged Get removal kind = refl
 decided_unchanged (Insert replace) removal kind = refl
@@ -91,13 +91,13 @@ decided_unchanged Compute removal ops.Insert = refl
 decided_unchanged Compute removal ops.Remove = refl
 decided_unchanged Compute removal (ops.Abort t) = refl
 
--- nor where it was shown that its key is absent
+-- nor by one for None
 offered_unchanged : (gap : Gap) (kind : OpKind) → change_in (offered gap kind) ≡ None
 offered_unchanged gap ops.Insert = refl
 offered_unchanged gap ops.Remove = refl
 offered_unchanged gap (ops.Abort t) = refl
 
--- a pair that was written is in the map: it was claimed, or took the place of another
+-- a pair that was written is in the map: it was claimed, or replaced another
 written_changes : (b : Bool) (write : Write) (n : ℕ)
     → change_in (cond b (Counting (claimed_by write n)) (Ended (Replaced (pair_of write.old) n))) ≡ change_of_kind
     (Some (cond b kinds.Claim kinds.Replace)) write.old (live_word n)
@@ -106,19 +106,19 @@ written_changes false write n = ap (λ y. Some (Some (pair_of write.old), Some y
 
 module _ {K P : Type 0} (g : Setting K P) (c : Coding K P) (hashed : IsHashed g c) (k : K) (s : State P) (m : Machine) (hash : m.hash ≡ c.hash k)
     (loaded : LoadedPairs P) (es : List (Exchange P)) (loaded' : LoadedPairs P) where
-  -- what an answer changes in a stage
+  -- the change by an answer in a stage
   abbrev Changes : Made → Stage → Answer → Type 0
   Changes made stage answer = change_in (after (record m { made = made; state = stage }) answer).state ≡ change_after (kind_asked made stage)
       (asks made m.hash stage) answer (change_in stage)
 
-  -- nothing changes by what a closure answers
+  -- nothing changes by a closure's result
   said_changes : (made : Made) (stage : Stage) (answer : Answer) → IsClosureAnswer g c k answer → ((agrees : Bool) → Changes made stage (Yes agrees))
       → ((kind : OpKind) → Changes made stage (Op kind)) → Changes made stage Ok_done → Changes made stage answer
   said_changes made stage answer (inl (agrees, e)) agreed op ok = subst (Changes made stage) (sym e) (agreed agrees)
   said_changes made stage answer (inr (inl (kind, e))) agreed op ok = subst (Changes made stage) (sym e) (op kind)
   said_changes made stage answer (inr (inr e)) agreed op ok = subst (Changes made stage) (sym e) ok
 
-  -- nothing changes where there is nothing to make
+  -- nothing changes if there is nothing to make
   unmade_changes : (made : Made) (stage : Stage) (answer : Answer) → IsUnmade g c k answer
       → ((refused : Refused) → Changes made stage (Was_refused refused)) → Changes made stage Ok_done → Changes made stage answer
   unmade_changes made stage answer h refused ok =
@@ -132,7 +132,7 @@ module _ {K P : Type 0} (g : Setting K P) (c : Coding K P) (hashed : IsHashed g 
   compared_changes made at word (Yes same) = goes_unchanged m.task m.mode m.remembered (search_compared (Comparing at word) same)
   compared_changes made at word answer = refl
 
-  -- nothing changes by what is asked for a pair
+  -- nothing changes by an ask for a pair
   taken_changes : (count : ℕ) (answer : Answer) → change_after (Some kinds.Take) (Ask_exchange Made_word count (count + 1)) answer None ≡ None
   taken_changes count Exchanged = refl
   taken_changes count answer = refl
@@ -233,12 +233,12 @@ module _ {K P : Type 0} (g : Setting K P) (c : Coding K P) (hashed : IsHashed g 
   changes_in made (Growing t) answer h = subst (Changes made (Growing t)) (sym h.0) refl
   changes_in made (Ended reply) answer h = subst (Changes made (Ended reply)) (sym h.0) refl
 
-  -- of the machine
+  -- for the whole machine
   pub machine_changes : (answer : Answer) → IsTrueOf g c k s (kind_of_ask m) loaded (ask_of m) answer es loaded'
       → change_in (after m answer).state ≡ change_after (kind_of_ask m) (ask_of m) answer (change_in m.state)
   machine_changes answer h = changes_in m.made m.state answer h
 
--- a call that is over says what it relies on, and what it has changed
+-- the reply of a call that is over states the facts that it relies on, and its change
 pub machine_replies : {K P : Type 0} (g : Setting K P) (c : Coding K P) (begun since : List (Exchange P)) (k : K) (m : Machine)
     (loaded : LoadedPairs P) → Relies g c begun since k m loaded → (reply : Reply) → ask_of m ≡ Ask_done reply
     → IsReply g c begun since k loaded m.task reply × (change_in m.state ≡ change_of_reply reply)

@@ -1,5 +1,5 @@
--- A refusal is the one in the answer, that of a call that needs a next table, or that of a closure
--- that would remove an absent entry.
+-- The cause of a failure is the one in the answer, that of a call that needs a next table, or that
+-- of a closure that would remove an absent entry.
 use Rattle.std.proofs.Common.{◌≡◌, ◌⊎◌, inl, inr, ℕ, ◌≤◌, ◌==◌, nat_lt, ltb-false, Bool, true, false, cond, Option, None, Some, refl, sym, ap}
 use Rattle.std.proofs.lemmas.Bool.{cond_both}
 use Rattle.papaya_words.specs.Word.{pair_of}
@@ -55,24 +55,24 @@ use Rattle.papaya_call_law.proofs.Leads.{HoldsOfLeads, beaten_leads, goes_leads,
 use Rattle.papaya_call.specs.declared.need.Need.{Need}
 use Rattle.papaya_call.specs.Machine.{needed}
 
--- the refusal that a call ends with
+-- the failure that a call ends with
 abbrev refusal_of_reply : Reply → Option Refused
 refusal_of_reply (Reply_refused refused) = Some refused
 refusal_of_reply _ = None
 
--- the refusal that an ask ends a call with
+-- the failure that an ask ends a call with
 abbrev refusal_of : Ask → Option Refused
 refusal_of (Ask_done reply) = refusal_of_reply reply
 refusal_of _ = None
 
--- a search refuses nothing
+-- a search never fails
 search_unrefused : (search : Search) → refusal_of (search_ask search) ≡ None
 search_unrefused (Sizing t) = refl
 search_unrefused (Looking at) = refl
 search_unrefused (Reading at) = refl
 search_unrefused (Comparing at word) = refl
 
--- nor does what is asked for a pair
+-- nor does an ask for a pair
 pairs_unrefused : HoldsOfPairAsks (λ ask. refusal_of ask ≡ None)
 pairs_unrefused = record { loads = refl; takes = λ count. refl; key = refl; value = refl; pair = refl; pair_of = λ n. refl }
 
@@ -80,16 +80,16 @@ pairs_unrefused = record { loads = refl; takes = λ count. refl; key = refl; val
 write_unrefused : (made : Made) (write : Write) → refusal_of (write_ask write made) ≡ None
 write_unrefused made write = write_holds (λ ask. refusal_of ask ≡ None) pairs_unrefused write (λ n. refl) made
 
--- nor what is made for a compute
+-- nor making a pair for a compute
 pairing_unrefused : (made : Made) (purpose : Purpose) → refusal_of (pair_ask made (in_place_of purpose)) ≡ None
 pairing_unrefused made purpose = pair_holds (λ ask. refusal_of ask ≡ None) pairs_unrefused made (in_place_of purpose)
 
 module _ (made : Made) (hash : ℕ) where
-  -- a call in this stage isn't refused
+  -- a call in this stage has not failed
   abbrev IsUnrefused : Stage → Type 0
   IsUnrefused stage = refusal_of (asks made hash stage) ≡ None
 
-  -- none is where a load or a search leads
+  -- it has not after a load or a search
   leads_unrefused : HoldsOfLeads IsUnrefused
   leads_unrefused = record {
     ended_absent = refl;
@@ -107,16 +107,16 @@ module _ (made : Made) (hash : ℕ) where
     growing = λ t. refl;
   }
 
-  -- nor where what a search saw does
+  -- nor after a probe
   goes_unrefused : (task : Task) (mode : ResizeMode) (held : Remembered) (s : ProbeStep) → IsUnrefused (goes_as task mode held s)
   goes_unrefused task mode held s = goes_leads IsUnrefused leads_unrefused task mode held s
 
-  -- nor a pair that was written
+  -- nor after a pair was written
   written_unrefused : (write : Write) (n : ℕ) → IsUnrefused (written write n)
   written_unrefused write n = cond_both (write.old == 0) (Counting (claimed_by write n)) (Ended (Replaced (pair_of write.old) n)) IsUnrefused
       (λ _. refl) (λ _. refl)
 
-  -- nor what the closure of a removal answers
+  -- nor after a result of a removal's closure
   judged_unrefused : (task : Task) (removal : Removal) (agrees : Bool) → IsUnrefused (judged task removal agrees)
   judged_unrefused Get removal agrees = refl
   judged_unrefused (Insert replace) removal agrees = refl
@@ -124,7 +124,7 @@ module _ (made : Made) (hash : ℕ) where
   judged_unrefused RemoveIf removal false = refl
   judged_unrefused Compute removal agrees = refl
 
-  -- nor what that of a compute does, where it is shown a pair
+  -- nor after one of a compute's, if it was called with a pair
   decided_unrefused : (task : Task) (removal : Removal) (kind : OpKind) → IsUnrefused (decided task removal kind)
   decided_unrefused Get removal kind = refl
   decided_unrefused (Insert replace) removal kind = refl
@@ -157,25 +157,26 @@ over_by made Taken count e = absurd cc
 over_by made Wanted count e = over_limit made made.limit count refl e
 over_by made (Free n) count e = over_limit made made.limit count refl e
 
--- and so their count was asked for
+-- and so the ask was for their count
 over_asked : (made : Made) (number : Number) (old count : ℕ) → told_as made number count ≡ None → IsNumberAsk (number_ask number made old)
 over_asked made Taken old count e = absurd cc
 over_asked made Wanted old count e = tt
 over_asked made (Free n) old count e = tt
 
 module _ (m : Machine) (refused : Refused) where
-  -- as many numbers were taken for pairs as the limit says, or more
+  -- at least as many numbers were taken for pairs as the limit permits
   abbrev pub IsOver : Made → Stage → Answer → Type 0
   IsOver made stage answer = (most : ℕ) × (count : ℕ) × (made.limit ≡ Some most) × (most ≤ count) × IsNumberAsk (asks made m.hash stage)
       × ((answer ≡ Word_read count) ⊎ (answer ≡ Found_instead count))
 
-  -- what was to be made was refused so, the call needs a next table, its closure would remove nothing, or no number is left
+  -- making a part failed with this cause, the call needs a next table, its closure would remove
+  -- nothing, or no number is left
   abbrev pub IsReason : Made → Stage → Answer → Type 0
   IsReason made stage answer = ((answer ≡ Was_refused refused) × IsMaking stage) ⊎ ((refused ≡ Capacity) × ((need : Need) × (stage ≡ Growing need)))
       ⊎ ((refused ≡ Limit) × IsOver made stage answer × IsMaking stage)
       ⊎ ((refused ≡ RemoveNothing) × ((gap : Gap) × (stage ≡ Offering gap)) × (answer ≡ Op ops.Remove))
 
-  -- what was answered so
+  -- the answer states the cause
   answered : (made : Made) (stage : Stage) → IsMaking stage → (refused' : Refused) → Some refused' ≡ Some refused → IsReason made stage (Was_refused refused')
   answered made stage making refused' e = let is : refused' ≡ refused = cc e in inl (ap Was_refused is, making)
 
@@ -184,11 +185,11 @@ module _ (m : Machine) (refused : Refused) where
       → IsReason made stage answer
   at_limit made stage making answer over e = let is : Limit ≡ refused = cc e in inr (inr (inl (sym is, over, making)))
 
-  -- nothing has two refusals
+  -- a stage without a failure has no cause
   unrefused : (made : Made) (stage : Stage) (answer : Answer) (o : Option Refused) → o ≡ None → o ≡ Some refused → IsReason made stage answer
   unrefused made stage answer o none some = absurd (cc (none, some))
 
-  -- a call that makes a pair, where it is told how many numbers were taken
+  -- a call that makes a pair, if it receives how many numbers were taken
   numbered_refused : (made : Made) (stage : Stage) → IsMaking stage → (answer : Answer) (count : ℕ)
       → ((answer ≡ Word_read count) ⊎ (answer ≡ Found_instead count))
       → (told made count ≡ None → IsNumberAsk (asks made m.hash stage)) → ((next : Made) → refusal_of (asks next m.hash stage) ≡ None)
@@ -198,7 +199,7 @@ module _ (m : Machine) (refused : Refused) where
   numbered_refused made stage making answer count says number goes (Some next) is e = unrefused made stage answer
       (refusal_of (asks next m.hash stage)) (goes next) e
 
-  -- an insertion is told so
+  -- an insertion receives it
   module _ (made : Made) (write : Write) where
     write_asked : (count : ℕ) (served : Option ℕ) → told made count ≡ None → served ≡ None → IsNumberAsk (served_ask served write made)
     write_asked count None is none = over_asked made made.number write.old count is
@@ -323,12 +324,12 @@ module _ (m : Machine) (refused : Refused) where
   refused_in made (Growing t) answer open_still e = absurd cc
   refused_in made (Ended reply) answer open_still e = absurd (open_still reply refl)
 
-  -- of the machine
+  -- for the whole machine
   pub machine_reason : (answer : Answer) → ((reply : Reply) → ask_of m ≡ Ask_done reply → ⊥)
       → ask_of (after m answer) ≡ Ask_done (Reply_refused refused) → IsReason m.made m.state answer
   machine_reason answer open_still e = refused_in m.made m.state answer open_still (ap refusal_of e)
 
-  -- why an ask's answer ends a call refused
+  -- the reason why the answer to an ask makes a call fail
   abbrev IsRefusal : Answer → Type 0
   IsRefusal answer = (answer ≡ Was_refused refused) ⊎ ((refused ≡ Capacity) × ((t : ℕ) × (ask_of m ≡ Load (Next t))))
       ⊎ ((refused ≡ Limit) × IsAtLimit m answer) ⊎ ((refused ≡ RemoveNothing) × (ask_of m ≡ ShowNone) × (answer ≡ Op ops.Remove))
@@ -340,7 +341,8 @@ module _ (m : Machine) (refused : Refused) where
   refusal answer (inr (inr (inl (limit, over, making)))) = inr (inr (inl (limit, over)))
   refusal answer (inr (inr (inr (none, (gap, offers), removes)))) = inr (inr (inr (none, ap (asks m.made m.hash) offers, removes)))
 
-  -- so it was answered, the machine loads the number of a next table, or it showed that its key is absent
+  -- so the answer states the cause, the machine loads the number of a next table, or its closure
+  -- was called with None
   pub machine_refused : (answer : Answer) → ((reply : Reply) → ask_of m ≡ Ask_done reply → ⊥)
       → ask_of (after m answer) ≡ Ask_done (Reply_refused refused) → IsRefusal answer
   machine_refused answer open_still e = refusal answer (machine_reason answer open_still e)

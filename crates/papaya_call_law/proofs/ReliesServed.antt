@@ -1,5 +1,5 @@
--- A pair that an insertion made and that serves at a place was made for it: with the call's own key
--- if the place is empty, and otherwise with the key that is there.
+-- A pair that an insertion made and uses at a place was made for it: with the call's own key if the
+-- place is empty, and otherwise with the key that is there.
 use Rattle.std.proofs.Common.{◌≡◌, ℕ, ◌==◌, eqb-true, Bool, true, false, cond, MatchBool, Option, None, Some, List, refl, subst}
 use Rattle.std.proofs.lemmas.Bool.{and_parts}
 use Rattle.papaya_call.specs.declared.search.Place.{Place}
@@ -20,7 +20,7 @@ module _ {K P : Type 0} (g : Setting K P) (c : Coding K P) (begun since : List (
   own_pair None r n e = absurd cc
   own_pair (Some i) r n e = let is : i ≡ n = cc e in subst (IsOwnPair g c begun since k loaded) is r
 
-  -- the pair that was made for a place serves there
+  -- the pair that was made for a place is used there
   pub placed_pair : (of : Of) (at : Place) → IsPairAt g c begun since k loaded of.pair of.table of.index → serves_at of at.table at.probe.i ≡ true
       → IsPairAt g c begun since k loaded of.pair at.table at.probe.i
   placed_pair of at r e =
@@ -40,7 +40,7 @@ module _ {K P : Type 0} (g : Setting K P) (c : Coding K P) (begun since : List (
           subst (λ i. IsPairAt g c begun since k loaded i at.table at.probe.i) same (placed_pair of at r there)
       by_place false there is = absurd cc
 
-  -- so it is with what serves a write
+  -- so it is with the pair that a write uses
   pub served_pair : (made : Made) (held : Remembered) → ReliesLoaded g c begun since k loaded made held → (write : Write) (n : ℕ)
       → serves made write ≡ Some n → IsPairFor g c begun since k loaded write n
   served_pair made held r write n e = by_old (write.old == 0) e

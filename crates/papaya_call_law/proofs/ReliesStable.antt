@@ -1,4 +1,4 @@
--- What a machine relies on stays true, whatever others exchange.
+-- The facts that a machine relies on stay true, whatever others exchange.
 use Rattle.std.proofs.Common.{◌≡◌, inl, inr, ⊎_elim, ℕ, Option, Some, List, ◌++◌, append_assoc, refl, sym, ap, ◌∙◌, subst}
 use Rattle.papaya_call.specs.declared.call.Task.{Task}
 use Rattle.papaya_call.specs.declared.call.Task.TheVariants.{Get, Insert, RemoveIf, Compute}
@@ -24,7 +24,7 @@ use Rattle.papaya_call.specs.declared.write.Claimed.{Claimed}
 
 module _ {K P : Type 0} (g : Setting K P) (c : Coding K P) (h : IsHashed g c) (begun since es : List (Exchange P))
     (may : AllAllowed g start (begun ++ (since ++ es))) (k : K) where
-  -- the exchanges in two lists, those of before and those since then
+  -- the exchanges in two lists, the earlier ones and those since then
   split : (begun ++ since) ++ es ≡ begun ++ (since ++ es)
   split = append_assoc begun since es
 
@@ -36,24 +36,24 @@ module _ {K P : Type 0} (g : Setting K P) (c : Coding K P) (h : IsHashed g c) (b
   reaches : run ((begun ++ since) ++ es) start ≡ now g c begun (since ++ es) k
   reaches = ap (λ l. run l start) split
 
-  -- it is later than the one of before
+  -- it is later than the earlier one
   pub state_later : IsLater g (now g c begun since k) (now g c begun (since ++ es) k)
   state_later = subst (IsLater g (now g c begun since k)) reaches (later g h.lawful (begun ++ since) es may_split)
 
-  -- so each fact that a caller gathered lasts
+  -- so each fact that a caller relies on stays true
   state_lasts : IsLasting g (now g c begun since k) (now g c begun (since ++ es) k)
   state_lasts = subst (IsLasting g (now g c begun since k)) reaches (lasting g h.lawful (begun ++ since) es may_split)
 
-  -- what the key saw at a place may have changed as a word may
+  -- the word that the key's search sees at a place may have changed as a word may
   sees_next : (t j : ℕ) → Sees (look g (now g c begun since k) k t j) (look g (now g c begun (since ++ es) k) k t j)
   sees_next t j = let x : ℕ = g.place k t j in
       sees_later g h.lawful k ((now g c begun since k).slot t x) ((now g c begun (since ++ es) k).slot t x) (state_later.words t x)
 
-  -- a moment of the call has the new exchanges behind it too
+  -- a state during the call is followed by the new exchanges too
   more_behind : (so_far rest : List (Exchange P)) → so_far ++ rest ≡ since → so_far ++ (rest ++ es) ≡ since ++ es
   more_behind so_far rest is = sym (append_assoc so_far rest es) ∙ ap (λ l. l ++ es) is
 
-  -- a moment of the call is one of it for good
+  -- a value that the map had at some point of the call, it had at some point for good
   moment_stable : (value : Option P) → WasAtMoment g c begun since k value → WasAtMoment g c begun (since ++ es) k value
   moment_stable value m = record { so_far = m.so_far; rest = m.rest ++ es; is = more_behind m.so_far m.rest m.is; value_is = m.value_is }
 
@@ -67,7 +67,7 @@ module _ {K P : Type 0} (g : Setting K P) (c : Coding K P) (h : IsHashed g c) (b
         r.is;
   }
 
-  -- it stands at the place
+  -- it is at the place
   pub at_stable : (at : Place) → IsAt g c begun since k at → IsAt g c begun (since ++ es) k at
   at_stable at r = record {
     come = come_stable at.table r.come;
@@ -92,24 +92,24 @@ module _ {K P : Type 0} (g : Setting K P) (c : Coding K P) (h : IsHashed g c) (b
     had = λ e. moment_stable (Some p) (r.had e);
   }
 
-  -- a pair that was being copied is so still, or it is copied
+  -- a pair that was being copied still is, or it is copied
   moving_stable : (t x : ℕ) → IsMovingFrom g c begun since k t x → IsMovingFrom g c begun (since ++ es) k t x
   moving_stable t x (j, p, lt, here, inl e) = (j, p, lt, here, subst (λ v. Sees v (look g (now g c begun (since ++ es) k) k t j)) e (sees_next t j))
   moving_stable t x (j, p, lt, here, inr e) = (j, p, lt, here, inr (subst (λ v. Sees v (look g (now g c begun (since ++ es) k) k t j)) e (sees_next t j)))
 
-  -- what a call leaves
+  -- the table that a call leaves
   leaving_stable : (task : Task) (t : ℕ) → ReliesLeaving g c begun since k task t → ReliesLeaving g c begun (since ++ es) k task t
   leaving_stable Get t r = (r.0, come_stable t r.1, state_lasts.passed k t r.2)
   leaving_stable (Insert replace) t r = r
   leaving_stable RemoveIf t r = (r.0, come_stable t r.1, state_lasts.passed k t r.2)
   leaving_stable Compute t r = (r.0, come_stable t r.1, state_lasts.passed k t r.2)
 
-  -- where it needs a next table
+  -- the table or slot for which it needs a next table
   need_stable : (need : Need) → ReliesNeed g c begun since k need → ReliesNeed g c begun (since ++ es) k need
   need_stable (Room t) r = (come_stable t r.0, state_lasts.passed k t r.1)
   need_stable (Pair_at t x) r = (come_stable t r.0, moving_stable t x r.1)
 
-  -- a claimed pair stands there, or what came of it, and its hint is its own
+  -- a claimed pair, or a word that came from it, is there, and its hint is its own
   claimed_stable : (loaded : LoadedPairs P) (claimed : Claimed) → HasClaimed g c begun since k loaded claimed
       → HasClaimed g c begun (since ++ es) k loaded claimed
   claimed_stable loaded claimed r = record {
@@ -119,7 +119,7 @@ module _ {K P : Type 0} (g : Setting K P) (c : Coding K P) (h : IsHashed g c) (b
         (hint_of (c.hash k)) r.hint;
   }
 
-  -- the machine relies on what it relied on
+  -- the machine relies on the same facts
   pub relies_stable : (m : Machine) (loaded : LoadedPairs P) → Relies g c begun since k m loaded → Relies g c begun (since ++ es) k m loaded
   relies_stable m loaded r =
       relies_carried g g c begun since (since ++ es) k loaded

@@ -1,4 +1,4 @@
--- What a machine relies on stays true, whatever tables are made later.
+-- The facts that a machine relies on stay true, whatever tables are made later.
 use Rattle.std.proofs.Common.{◌≡◌, ◌⊎◌, inl, inr, ⊎_elim, ℕ, ◌<◌, Option, None, Some, List, ◌++◌, refl, sym, ap, ◌∙◌, subst}
 use Rattle.papaya_words.specs.Word.{hint_of}
 use Rattle.papaya_call.specs.declared.call.Task.{Task}
@@ -30,11 +30,11 @@ use Rattle.papaya_call.specs.declared.write.Claimed.{Claimed}
 module _ {K P : Type 0} (g g' : Setting K P) (c : Coding K P) (h : IsHashed g c) (begun since : List (Exchange P))
     (may : AllAllowed g start (begun ++ since)) (k : K)
     (agrees : Agrees (IsOn (now g c begun since k).first (now g c begun since k).next) g g') where
-  -- what is kept of the words
+  -- the words are sound
   kept : IsSound g (now g c begun since k)
   kept = sound g h.lawful (begun ++ since) may
 
-  -- the key sees the same
+  -- the key's search sees the same
   sees_same : look g' (now g c begun since k) k ≡ look g (now g c begun since k) k
   sees_same = look_agrees g g' (now g c begun since k) kept agrees k
 
@@ -42,7 +42,7 @@ module _ {K P : Type 0} (g g' : Setting K P) (c : Coding K P) (h : IsHashed g c)
   map_same : (m : K → Option P) (es : List (Exchange P)) → map_of g' m es ≡ map_of g m es
   map_same m es = map_of_carries g g' (IsOn (now g c begun since k).first (now g c begun since k).next) agrees es m
 
-  -- a moment of the call is one
+  -- a value that the map had at some point, it had at that point in the further setting
   moment_carries : (value : Option P) → WasAtMoment g c begun since k value → WasAtMoment g' c begun since k value
   moment_carries value m = record {
     so_far = m.so_far;
@@ -59,7 +59,7 @@ module _ {K P : Type 0} (g g' : Setting K P) (c : Coding K P) (h : IsHashed g c)
         (λ h. inr (agrees.blocking ∙ h.0, h.1)) r.is;
   }
 
-  -- it stands at the place
+  -- it is at the place
   at_carries : (at : Place) → IsAt g c begun since k at → IsAt g' c begun since k at
   at_carries at r =
       let on : OnChain g c h begun since may k at.table = come_on g c h begun since may k at.table r.come in
@@ -95,7 +95,7 @@ module _ {K P : Type 0} (g g' : Setting K P) (c : Coding K P) (h : IsHashed g c)
     had = λ e. moment_carries (Some p) (r.had (ap held (sym (view_agrees g g' (now g c begun since k) kept agrees k r.was)) ∙ e));
   }
 
-  -- the key that is in a slot
+  -- the key in a slot
   of_key_carries : (t x : ℕ) (key : K) → IsOfKey g ((now g c begun since k).slot t x) key → IsOfKey g' ((now g c begun since k).slot t x) key
   of_key_carries t x key r = (r.0, r.1, agrees.key r.0 ∙ r.2)
 
@@ -105,7 +105,7 @@ module _ {K P : Type 0} (g g' : Setting K P) (c : Coding K P) (h : IsHashed g c)
   table_passed t r pass = passed_carries g g' (now g c begun since k) kept agrees (look g (now g c begun since k) k)
       (look g' (now g c begun since k) k) sees_same t (come_on g c h begun since may k t r) pass
 
-  -- a table from where the pair is copied
+  -- a table from which the pair is copied
   moving_carries : (t x : ℕ) → HasComeTo g c begun since k t → IsMovingFrom g c begun since k t x → IsMovingFrom g' c begun since k t x
   moving_carries t x r (j, p, lt, here, e) = (
     j,
@@ -115,14 +115,14 @@ module _ {K P : Type 0} (g g' : Setting K P) (c : Coding K P) (h : IsHashed g c)
     subst (λ V. (V t j ≡ View_leaving p) ⊎ (V t j ≡ Gone p)) (sym sees_same) e,
   )
 
-  -- what a call leaves
+  -- the table that a call leaves
   leaving_carries : (task : Task) (t : ℕ) → ReliesLeaving g c begun since k task t → ReliesLeaving g' c begun since k task t
   leaving_carries Get t r = (agrees.blocking ∙ r.0, come_carries t r.1, table_passed t r.1 r.2)
   leaving_carries RemoveIf t r = (agrees.blocking ∙ r.0, come_carries t r.1, table_passed t r.1 r.2)
   leaving_carries Compute t r = (agrees.blocking ∙ r.0, come_carries t r.1, table_passed t r.1 r.2)
   leaving_carries (Insert replace) t r = absurd r
 
-  -- what a call that needs a next table leaves
+  -- the table that a call leaves if it needs a next one
   need_carries : (need : Need) → ReliesNeed g c begun since k need → ReliesNeed g' c begun since k need
   need_carries (Room t) r = (come_carries t r.0, table_passed t r.0 r.1)
   need_carries (Pair_at t x) r = (come_carries t r.0, moving_carries t x r.0 r.1)
@@ -135,7 +135,7 @@ module _ {K P : Type 0} (g g' : Setting K P) (c : Coding K P) (h : IsHashed g c)
     hint = hint_agrees g g' c agrees.key ((now g c begun since k).slot claimed.place.table claimed.place.probe.i) (hint_of (c.hash k)) r.hint;
   }
 
-  -- the machine relies on what it relied on
+  -- the machine relies on the same facts
   pub relies_carries : (m : Machine) (loaded : LoadedPairs P) → Relies g c begun since k m loaded → Relies g' c begun since k m loaded
   relies_carries m loaded r =
       relies_carried g g' c begun since since k loaded

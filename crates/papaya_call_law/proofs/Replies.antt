@@ -1,4 +1,5 @@
--- What an answer changes and counts, and on which results of the closure the call acts after it.
+-- The change and the count by an answer, and the results of the closure on which the call acts
+-- after it.
 use Rattle.std.proofs.Common.{◌≡◌, ◌⊎◌, inl, inr, ⊎_elim, ℕ, pos, ◌==◌, Option, None, Some, List, refl, sym, ap, ◌∙◌, subst}
 use Rattle.std.proofs.lemmas.Bool.{cond_both}
 use Rattle.papaya_words.specs.declared.refused.Refused.{Refused}
@@ -51,7 +52,7 @@ aside_unchanged (Leaving u) t e = refl
 aside_unchanged (Growing need) t e = refl
 aside_unchanged stage t e = absurd cc
 
--- it stands on what it remembers alone
+-- it relies only on the results that it remembers
 aside_silent : (task : Task) (stage : Stage) (t : ℕ) → left_by stage ≡ Some t → result_in task stage ≡ None
 aside_silent task (Leaving u) t e = refl
 aside_silent task (Growing need) t e = refl
@@ -63,7 +64,7 @@ refused_silent (Insert replace) refused = refl
 refused_silent RemoveIf refused = refl
 refused_silent Compute refused = refl
 
--- what holds where a call that was told of the root stands
+-- a property of each state of a call that received the root
 pub anew : (Holds : Stage → Type 0) → Holds (Ended Absent) → Holds Making → Holds (Offering NoRoot) → ((t : ℕ) → Holds (Searching (Sizing t)))
     → (task : Task) (fill : Option ℕ) (root : ℕ) → Holds (at_root task fill root)
 anew Holds absent making offering searching Get fill root = cond_both (root == 0) (Ended Absent) (Searching (Sizing root)) Holds (λ _. absent)
@@ -83,7 +84,7 @@ absent_silent (Insert replace) = refl
 absent_silent RemoveIf = refl
 absent_silent Compute = refl
 
--- the call as it is told of the root
+-- the call after it received the root
 abbrev begun : Call_machine → ℕ → Call_machine
 begun call root = call_machine.after (record call { state = AtRoot }) (Word_read root)
 
@@ -119,7 +120,7 @@ owes_none call (Linking link) e = refl
 owes_none call (Copying_root copying) e = refl
 
 module _ (m : Machine) (answer : Answer) (t : ℕ) (left : left_by m.call.state ≡ Some t) (call : Call_machine) (is : (after m answer).call ≡ call) where
-  -- what a call that was set aside has changed, where it is this one now, and has yet to count
+  -- the changes of a call that was set aside, if it is this one now, and its count that is due
   aside_changes : change_in call.state ≡ None → change_in (after m answer).call.state ≡ change_by (kind_of_ask m) (ask_of m) answer (change_in m.call.state)
   aside_changes none = ap (λ (d : Call_machine). change_in d.state) is ∙ none ∙ sym (idle_in m answer t left m.phase)
 
@@ -130,7 +131,7 @@ module _ (m : Machine) (answer : Answer) (t : ℕ) (left : left_by m.call.state 
 module _ {K P : Type 0} (g : Setting K P) (c : Coding K P) (k : K) (s : State P) (m : Machine) (loaded : LoadedPairs P) (answer : Answer)
     (es : List (Exchange P)) (loaded' : LoadedPairs P) (order : IsInOrder m answer m.phase)
     (tells : IsTrueOf g c k s (kind_of_ask m) (follows_of m) loaded (ask_of m) answer es loaded') where
-  -- what the call itself was told
+  -- the answer to the call itself
   pub own_told : (own : IsOwnStep m answer) → (call' : call_told.LoadedPairs P)
       × call_told.IsTrueOf g c k s (call_machine.kind_of_ask m.call) loaded.call (call_machine.ask_of m.call) own.told es call'
   own_told own =
@@ -138,7 +139,7 @@ module _ {K P : Type 0} (g : Setting K P) (c : Coding K P) (k : K) (s : State P)
       let same : own.told ≡ h.told = cc (own.is, h.is) in
       (h.call, subst (λ a. call_told.IsTrueOf g c k s (call_machine.kind_of_ask m.call) loaded.call (call_machine.ask_of m.call) a es h.call) (sym same) h.tells)
 
-  -- what the machine asks where its call went a step of its own
+  -- the change and the growth by an answer, if the call took a step of its own
   asks_own : (own : IsOwnStep m answer) → (change_by (kind_of_ask m) (ask_of m) answer (change_in m.call.state) ≡ change_after
       (call_machine.kind_of_ask m.call) (call_machine.ask_of m.call) own.told (change_in m.call.state))
       × (grown_by (kind_of_ask m) (ask_of m) answer ≡ grows_by (call_machine.kind_of_ask m.call) (call_machine.ask_of m.call) own.told)
@@ -149,7 +150,7 @@ module _ {K P : Type 0} (g : Setting K P) (c : Coding K P) (k : K) (s : State P)
         ∙ ap (λ a. grown_by (call_machine.kind_of_ask m.call) (asked.Call (call_machine.ask_of m.call)) a) own.is,
   )
 
-  -- what the machine has changed after the answer
+  -- the change of the machine after the answer
   pub chain_changes : IsHashed g c → m.call.hash ≡ c.hash k
       → change_in (after m answer).call.state ≡ change_by (kind_of_ask m) (ask_of m) answer (change_in m.call.state)
   chain_changes hashed hash = elim (machine_goes m answer order) [
@@ -164,7 +165,7 @@ module _ {K P : Type 0} (g : Setting K P) (c : Coding K P) (k : K) (s : State P)
     | inr (inr (inr (inr ends))) ↦ aside_changes m answer ends.from ends.left (record m.call { state = Ended (Reply_refused ends.refused) }) ends.call refl
   ]
 
-  -- and what it has yet to count
+  -- and its count that is due
   pub chain_owes : owed_in (ask_of (after m answer)) ≡ grown_by (kind_of_ask m) (ask_of m) answer
   chain_owes = elim (machine_goes m answer order) [
     | inl waits ↦ aside_owes m answer waits.from waits.left m.call waits.call
@@ -181,7 +182,7 @@ module _ {K P : Type 0} (g : Setting K P) (c : Coding K P) (k : K) (s : State P)
   ]
 
 module _ (m : Machine) (answer : Answer) (order : IsInOrder m answer m.phase) where
-  -- an answer leaves what a call is for, and of which key
+  -- an answer leaves the task and the key of a call
   pub chain_task : ((after m answer).call.task ≡ m.call.task) × ((after m answer).call.hash ≡ m.call.hash)
   chain_task = elim (machine_goes m answer order) [
     | inl waits ↦ (ap (λ (d : Call_machine). d.task) waits.call, ap (λ (d : Call_machine). d.hash) waits.call)
@@ -195,7 +196,7 @@ module _ (m : Machine) (answer : Answer) (order : IsInOrder m answer m.phase) wh
     | inr (inr (inr (inr ends))) ↦ (ap (λ (d : Call_machine). d.task) ends.call, ap (λ (d : Call_machine). d.hash) ends.call)
   ]
 
-  -- a call that showed pairs that are there shows such pairs
+  -- a call whose closure was called with pairs that are there calls it with such pairs
   pub chain_shows : NamesPairs m.call → NamesPairs (after m answer).call
   chain_shows shows = elim (machine_goes m answer order) [
     | inl waits ↦ subst NamesPairs (sym waits.call) shows
@@ -206,7 +207,7 @@ module _ (m : Machine) (answer : Answer) (order : IsInOrder m answer m.phase) wh
     | inr (inr (inr (inr ends))) ↦ subst NamesPairs (sym ends.call) tt
   ]
 
-  -- a call that was set aside stands on what it remembers, and says nothing new
+  -- a call that was set aside relies only on the results that it remembers, and on no new one
   aside_said : (call : Call_machine) → (after m answer).call ≡ call → result_in call.task call.state ≡ None → call.remembered ≡ m.call.remembered
       → (said : ClosureResult) → ActsOn (after m answer).call said → ActsOn m.call said
   aside_said call is silent same said stands = remembers (subst (λ d. ActsOn d said) is stands)
@@ -216,7 +217,7 @@ module _ (m : Machine) (answer : Answer) (order : IsInOrder m answer m.phase) wh
       remembers (inr (inl e)) = inr (inl (ap (λ (h : Remembered). result_to_fill h.fill) (sym same) ∙ e))
       remembers (inr (inr e)) = inr (inr (ap (λ (h : Remembered). result_to_choose h.choice) (sym same) ∙ e))
 
-  -- the call stands on what it stood on, or on what its closure says with this answer
+  -- the call relies on a result that it relied on before, or on its closure's new one
   pub chain_said : IsValid m.call → NamesPairs m.call → (said : ClosureResult) → ActsOn (after m answer).call said → ActsOn m.call said
       ⊎ ((own : IsOwnStep m answer) × IsResultBy m.call own.told said)
   chain_said valid shows said stands = elim (machine_goes m answer order) [

@@ -1,4 +1,4 @@
--- Why a call that resizes the map is refused.
+-- The causes with which a call that resizes the map fails.
 use Rattle.std.proofs.Common.{◌≡◌, inl, inr, ⊎_elim, ℕ, ◌+◌, ◌==◌, ◌<◌, ◌^◌, Bool, true, false}
 use Rattle.std.proofs.Common.{nat_le, cond, eqb-true, leb-false, max, Option, None, Some, List, []}
 use Rattle.std.proofs.Common.{◌∷◌, refl, sym, ap, ◌∙◌, subst, arith}
@@ -43,7 +43,7 @@ use Rattle.papaya_call_law.specs.ChainAnswers.{IsTrueOfCopy, LoadedPairs, Quiet}
 use Rattle.papaya_call_law.proofs.CopyRefusals.{copying_asks, of_copied, of_link, of_linked}
 use Rattle.papaya_call_law.proofs.LinkRefusals.{HasCountedTooMany, HasNotMade, copying_ends, link_why}
 
--- there is no room for so many pairs where its table would be longer than a table may be
+-- there is no room for `pairs` pairs if its table would be longer than a table may be
 no_room_long : (pairs : ℕ) → room_of pairs ≡ None → 2 ^ 32 < entries_of pairs
 no_room_long pairs none = by_length (nat_le (entries_of pairs) (2 ^ 32)) refl none
   where
@@ -52,7 +52,7 @@ no_room_long pairs none = by_length (nat_le (entries_of pairs) (2 ^ 32)) refl no
     by_length true is e = absurd cc
     by_length false is e = leb-false (entries_of pairs) (2 ^ 32) is
 
--- a reply that is no refusal
+-- a reply other than a failure
 abbrev HasNone : Stage → Type 0
 HasNone stage = (refused : Refused) → reply_in stage ≡ Some (Reply_refused refused) → ⊥
 
@@ -69,7 +69,7 @@ next_none : (mode : ResizeMode) (root len : ℕ) (room : Option TableSize) (next
 next_none mode root len room next = cond_both (next == 0) (at_last mode root len room) (copies root) HasNone (λ _. last_none mode root len room)
     (λ _ refused e. absurd cc)
 
--- what was made ends refused as it does
+-- it fails when the making of its table does
 linked_ends : (root : ℕ) (end : Linked) (refused : Refused) → reply_in (linked root end) ≡ Some (Reply_refused refused) → of_linked end ≡ Some refused
 linked_ends root (linked_to.On link) refused e = absurd cc
 linked_ends root (linked_to.Table table) refused e = absurd cc
@@ -84,7 +84,7 @@ copied_ends resize from copied_to.Chunk refused e = absurd (over_none resize ref
 copied_ends resize from (copied_to.Refused other) refused e = let same : other ≡ refused = cc e in ap Some same
 
 module _ (resizer : Resizer) (answer : Answer) (refused : Refused) where
-  -- the making of a table is refused by an answer, or by a count
+  -- the making of a table fails by an answer, or by a count
   made_why : (made : Link) → HasLink resizer.state made → asks_in resizer.state ≡ Some (link_ask made)
       → of_linked (link_after made resizer.mode resizer.initial answer) ≡ Some refused → IsResizeCause resizer answer refused
   made_why made stands says e =
@@ -111,7 +111,7 @@ module _ (resizer : Resizer) (answer : Answer) (refused : Refused) where
   held_why from copying stage (Some made) holds e = made_why made (subst (λ y. HasLink y made) (sym stage) holds)
       (ap asks_in stage ∙ ap Some (copying_asks copying made holds)) e
 
-  -- no table has the room that is asked for
+  -- no table has the requested room
   room_why : (more count : ℕ) → resizer.resize ≡ Reserve more → IsTrueOfCount answer count → room_of (count + more) ≡ None → Capacity ≡ refused
       → IsResizeCause resizer answer refused
   room_why more count wants counts none is = inr
@@ -136,7 +136,7 @@ module _ (resizer : Resizer) (answer : Answer) (refused : Refused) where
       (λ none e. makes_why more wants (told ∙ ap (λ r. answers.Call (Word_read r)) (eqb-true root 0 none)) (room_of more) refl e)
       (λ _ e. absurd cc)
 
-  -- and where it counted
+  -- and at the count
   judges_why : (root len more count : ℕ) → resizer.resize ≡ Reserve more → answer ≡ answers.Count count → (room : Option TableSize)
       → room_of (count + more) ≡ room → reply_in (judges root len room) ≡ Some (Reply_refused refused) → IsResizeCause resizer answer refused
   judges_why root len more count wants told None none e = let is : Capacity ≡ refused = cc e in room_why more count wants (inr told) none is
@@ -151,12 +151,12 @@ module _ (resizer : Resizer) (answer : Answer) (refused : Refused) where
 
 module _ {K P : Type 0} (g : Setting K P) (c : Coding K P) (s : State P) (resizer : Resizer) (loaded : LoadedPairs P) (answer : Answer)
     (es : List (Exchange P)) (loaded' : LoadedPairs P) where
-  -- where the stage goes, after this answer
+  -- the next stage, after this answer
   abbrev Goes : Answer → Stage → Stage
   Goes = after_in resizer.resize resizer.mode resizer.initial resizer.number
 
   module _ (refused : Refused) where
-    -- why it goes there refused
+    -- the cause with which it then fails
     abbrev Why : Stage → Type 0
     Why stage = resizer.state ≡ stage → reply_in (Goes answer stage) ≡ Some (Reply_refused refused) → IsResizeCause resizer answer refused
 
@@ -209,7 +209,7 @@ module _ {K P : Type 0} (g : Setting K P) (c : Coding K P) (s : State P) (resize
     stage_why Done told at e = let no = told.1 in absurd cc
     stage_why (Ended_refused other) told at e = let no = told.1 in absurd cc
 
-  -- of the resizer
+  -- for the whole resizer
   pub resizer_why : IsTrueOfStage g c s resizer.state loaded answer es loaded' → (refused : Refused)
       → reply_in (Goes answer resizer.state) ≡ Some (Reply_refused refused) → IsResizeCause resizer answer refused
   resizer_why told refused e = stage_why refused resizer.state told refl e

@@ -1,4 +1,4 @@
--- What a call that resizes the map relies on.
+-- The facts that a call that resizes the map relies on.
 use Rattle.std.proofs.Common.{◌≡◌, inl, ⊎_elim, ℕ, ◌+◌, ◌==◌, ◌<◌, nat_le, eqb-true, true, Option, None, Some, List, [], ◌∷◌, refl, sym, ◌∙◌, subst}
 use Rattle.std.proofs.lemmas.Bool.{cond_both, eqb-false}
 use Rattle.papaya_words.specs.declared.refused.Refused.{Refused}
@@ -60,7 +60,7 @@ use Rattle.papaya_call_law.proofs.Making.{link_learns}
 use Rattle.papaya_call_law.proofs.CopierCarries.{no_note}
 use Rattle.papaya_words_law.specs.Hints.{IsHint}
 
--- it goes on copying a chunk, or all
+-- it continues to copy a chunk, or all
 still_own : (aim aim' : Aim) → IsOwnAim aim → IsStillAimed aim aim' → IsOwnAim aim'
 still_own aims.Chunk aim' own still = subst IsOwnAim (sym still) tt
 still_own (aims.All met) aim' own still = subst IsOwnAim (sym still.1) tt
@@ -112,7 +112,7 @@ module _ {K P : Type 0} (g : Setting K P) (c : Coding K P) where
   stage_carries g' s m keeps agrees loaded (Ended_refused refused) r = tt
 
   module _ (hashed : IsHashed g c) (s : State P) (m : K → Option P) (keeps : IsKeeping g s m) (loaded : LoadedPairs P) where
-    -- what it names is there
+    -- the words that it names are there
     abbrev There : CopyAsk → Type 0
     There = AreThere g c s loaded.call.last loaded.kept
 
@@ -131,12 +131,12 @@ module _ {K P : Type 0} (g : Setting K P) (c : Coding K P) where
     stage_there Done r ask e = absurd cc
     stage_there (Ended_refused refused) r ask e = absurd cc
 
-    -- what it exchanges is allowed
+    -- its exchange is allowed
     abbrev May : Stage → At → (old new : ℕ) → Type 0
     May stage at old new = word_of g c s at ≡ old → (e : Exchange P) × IsStageAsked g c s stage at new loaded e × Allows g s e
         × IsWritten g c s at new (state_after s e)
 
-    -- a table is opened where there is no root
+    -- a table is opened if there is no root
     opens : (table : ℕ) → ReliesStage g c s loaded (Opening table) → May (Opening table) Root 0 table
     opens table r none = (Open table, refl, (none, r), record { here = refl; others = others })
       where
@@ -167,14 +167,14 @@ module _ {K P : Type 0} (g : Setting K P) (c : Coding K P) where
     stage_may_hint mode moded stage r t x n e = absurd cc
 
   module _ (s : State P) (loaded : LoadedPairs P) where
-    -- what it is told, where it asks as a copy does
+    -- the answer is true of its ask, if that is one of a copy
     pub told_of_ask : (stage : Stage) (is : CopyAsk) → asks_in stage ≡ Some is → (answer : Answer) (es : List (Exchange P)) (loaded' : LoadedPairs P)
         → (ask : CopyAsk) × (asks_in stage ≡ Some ask) × IsTrueOfCopy g c s (kind_in stage) (follows_in stage) loaded ask answer es loaded'
         → IsTrueOfCopy g c s (kind_in stage) (follows_in stage) loaded is answer es loaded'
     told_of_ask stage is asks answer es loaded' (ask, asked, told) = let same : ask ≡ is = cc (asks, asked) in
         subst (λ a. IsTrueOfCopy g c s (kind_in stage) (follows_in stage) loaded a answer es loaded') same told
 
-    -- where a copy is over, or a first table is made
+    -- after a copy, or after a first table was made
     over_relies : (resize : Resize) → ReliesStage g c s loaded (over resize)
     over_relies Chunk = tt
     over_relies CopyAll = tt
@@ -184,7 +184,7 @@ module _ {K P : Type 0} (g : Setting K P) (c : Coding K P) where
     makes_relies None = tt
     makes_relies (Some room) = tt
 
-    -- where the root led
+    -- after the root was read
     root_relies : (root : ℕ) → ((root ≡ 0 → ⊥) → IsOn s.first s.next root × (s.was_root root ≡ true)) → (resize : Resize)
         → ReliesStage g c s loaded (at_root resize root)
     root_relies root on Chunk = cond_both (root == 0) Done (Looking root 0 None) (ReliesStage g c s loaded) (λ _. tt) (λ some. (on (eqb-false root 0 some)).0)
@@ -192,7 +192,7 @@ module _ {K P : Type 0} (g : Setting K P) (c : Coding K P) where
     root_relies root on (Reserve more) = cond_both (root == 0) (makes (room_of more)) (Sizing root) (ReliesStage g c s loaded)
         (λ _. makes_relies (room_of more)) (λ some. on (eqb-false root 0 some))
 
-    -- and a count
+    -- and after a count
     judges_relies : (root len : ℕ) → ReliesStage g c s loaded (Counting root len) → (room : Option TableSize) → ReliesStage g c s loaded (judges root len room)
     judges_relies root len r None = tt
     judges_relies root len r (Some room) = cond_both (nat_le room.len len) Done (Looking root len (Some room)) (ReliesStage g c s loaded) (λ _. tt) (λ _. r)
@@ -203,7 +203,7 @@ module _ {K P : Type 0} (g : Setting K P) (c : Coding K P) where
     count_relies root len count r CopyAll = tt
     count_relies root len count r (Reserve more) = judges_relies root len r (room_of (count + more))
 
-    -- and the next table
+    -- and after the next table was read
     last_relies : (mode : ResizeMode) → IsCutAs mode g.chunk_of → (root len : ℕ) (room : Option TableSize)
         → ReliesStage g c s loaded (Looking root len room) → ReliesStage g c s loaded (at_last mode root len room)
     last_relies mode cut root len None r = tt
@@ -220,13 +220,13 @@ module _ {K P : Type 0} (g : Setting K P) (c : Coding K P) where
     next_relies mode cut root len room r next = cond_both (next == 0) (at_last mode root len room) (copies root) (ReliesStage g c s loaded)
         (λ _. last_relies mode cut root len room r) (λ _. (tt, (tt, tt)))
 
-    -- where the making of a table led
+    -- after the making of a table
     linked_relies : (root : ℕ) (end : Linked) → ReliesLinked g c s loaded.call.last loaded.kept root end → ReliesStage g c s loaded (linked root end)
     linked_relies root (linked_to.On link) r = r.1
     linked_relies root (linked_to.Table table) r = (tt, (tt, tt))
     linked_relies root (linked_to.Refused refused) r = tt
 
-    -- and the copy
+    -- and after the copy
     copied_relies : (resize : Resize) (from : ℕ) (aim : Aim) → IsOwnAim aim → (end : Copied) → ReliesCopied g c s loaded.call.last loaded.kept aim end
         → ReliesStage g c s loaded (copied resize from end)
     copied_relies resize from aim own (copied_to.On copying) is = (still_own aim (aim_of copying) own is.0, is.1)
@@ -237,16 +237,16 @@ module _ {K P : Type 0} (g : Setting K P) (c : Coding K P) where
 
   module _ (hashed : IsHashed g c) (s : State P) (m : K → Option P) (keeps : IsKeeping g s m) (resize : Resize) (mode : ResizeMode)
       (initial number : ℕ) (loaded : LoadedPairs P) where
-    -- what was exchanged was allowed, and it relies on what holds where the answer led it
+    -- the exchange was allowed, and it relies on facts that hold in the state after the answer
     abbrev HasGone : Stage → Answer → List (Exchange P) → LoadedPairs P → Type 0
     HasGone stage answer es loaded' = AllAllowed g s es × ReliesStage g c (run es s) loaded' (after_in resize mode initial number answer stage)
 
-    -- where nothing was exchanged
+    -- if nothing was exchanged
     quiet : (stage : Stage) (answer answer' : Answer) (es : List (Exchange P)) (loaded' : LoadedPairs P) → answer ≡ answer' → es ≡ []
         → ReliesStage g c s loaded' (after_in resize mode initial number answer' stage) → HasGone stage answer es loaded'
     quiet stage answer answer' es loaded' a e r = subst (λ y. HasGone stage y es loaded') (sym a) (subst (λ y. HasGone stage answer' y loaded') (sym e) (tt, r))
 
-    -- the root is on the chain, where there is one
+    -- the root is on the chain, if there is one
     on_root : (s.root ≡ 0 → ⊥) → IsOn s.first s.next s.root × (s.was_root s.root ≡ true)
     on_root some =
         let sound = keeping_sound g s m keeps in

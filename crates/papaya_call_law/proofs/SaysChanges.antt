@@ -1,4 +1,4 @@
--- A change of the map is what the closure returned, and a call is aborted only by its closure.
+-- A change of the map is the closure's result, and a call is aborted only by its closure.
 use Rattle.std.proofs.Common.{◌≡◌, inl, ℕ, ◌==◌, Bool, true, false, cond, Option, None, Some, refl, sym, ap, ◌∙◌, subst}
 use Rattle.std.proofs.lemmas.Bool.{cond_both}
 use Rattle.papaya_words.specs.Word.{pair_of}
@@ -63,11 +63,11 @@ abbrev abort_of : Ask → Option ℕ
 abort_of (Ask_done reply) = abort_of_reply reply
 abort_of _ = None
 
--- what is asked for a pair aborts nothing
+-- the asks for a pair abort nothing
 pairs_unaborted : HoldsOfPairAsks (λ ask. abort_of ask ≡ None)
 pairs_unaborted = record { loads = refl; takes = λ count. refl; key = refl; value = refl; pair = refl; pair_of = λ n. refl }
 
--- its ask tells
+-- its ask states it
 abort_asked : (made : Made) (hash : ℕ) (stage : Stage) → abort_of (asks made hash stage) ≡ abort_in stage
 abort_asked made hash AtRoot = refl
 abort_asked made hash Making = refl
@@ -93,7 +93,7 @@ abort_asked made hash (Ended reply) = refl
 abbrev IsIdle : Stage → Type 0
 IsIdle stage = (change_in stage ≡ None) × (abort_in stage ≡ None)
 
--- a load or a search leads nowhere else
+-- this holds after a load or a search
 leads_idle : HoldsOfLeads IsIdle
 leads_idle = record {
   ended_absent = (refl, refl);
@@ -111,11 +111,11 @@ leads_idle = record {
   growing = λ t. (refl, refl);
 }
 
--- nor does what a search saw
+-- and after a probe
 goes_idle : (task : Task) (mode : ResizeMode) (held : Remembered) (s : ProbeStep) → IsIdle (goes_as task mode held s)
 goes_idle task mode held s = goes_leads IsIdle leads_idle task mode held s
 
--- a pair that was written takes the place of what its old word names
+-- a pair that was written replaces the one that its old word names
 put_change : (write : Write) (n : ℕ) (old new : Option ℕ) (Holds : Option ℕ → Option ℕ → Type 0) → Holds (shown_by write.old) (Some n)
     → change_in (written write n) ≡ Some (old, new) → Holds old new
 put_change write n old new Holds = by_old (write.old == 0)
@@ -135,11 +135,11 @@ module _ (m : Machine) where
   abbrev on : Task → Made → Stage → Machine
   on task made stage = record m { task = task; made = made; state = stage }
 
-  -- the closure aborts the call by its answer
+  -- the closure aborts the call by its result
   abbrev IsAbort : Made → Stage → Answer → ℕ → Type 0
   IsAbort made stage answer with = (shown : Option ℕ) × (asks made m.hash stage ≡ show shown) × (answer ≡ Op (ops.Abort with))
 
-  -- where the answer leads from this stage, a change is what the closure said, and an abort its answer
+  -- in the state after the answer a change is the closure's result, and so is an abort
   record IsRight (task : Task) (made : Made) (stage : Stage) (answer : Answer) (then : Stage) : Type 0 where
     pub change : (old new : Option ℕ) → IsValidState task stage → change_in stage ≡ None → change_in then ≡ Some (old, new)
         → IsResultChange task (on task made stage) old new
@@ -205,7 +205,7 @@ module _ (m : Machine) where
     abort = λ with open_still e. absurd cc;
   }
 
-  -- a closure has answered
+  -- a closure has returned
   offered_right : (task : Task) (made : Made) (gap : Gap) (kind : OpKind) → IsRight task made (Offering gap) (Op kind) (offered gap kind)
   offered_right task made gap ops.Insert = idle task made (Offering gap) (Op ops.Insert) (Pairing (Fill gap)) (refl, refl)
   offered_right task made gap ops.Remove = idle task made (Offering gap) (Op ops.Remove) (offered gap ops.Remove) (refl, refl)
@@ -214,7 +214,7 @@ module _ (m : Machine) where
     abort = λ with open_still e. let is : t ≡ with = cc e in (None, refl, ap (λ n. Op (ops.Abort n)) is);
   }
 
-  -- to a pair that it was shown
+  -- for a pair that it was called with
   chosen_right : (made : Made) (removal : Removal) (kind : OpKind) → IsRight Compute made (Showing removal) (Op kind) (chosen removal kind)
   chosen_right made removal ops.Insert = idle Compute made (Showing removal) (Op ops.Insert) (chosen removal ops.Insert) (refl, refl)
   chosen_right made removal ops.Remove = idle Compute made (Showing removal) (Op ops.Remove) (Burying removal) (refl, refl)
@@ -223,7 +223,7 @@ module _ (m : Machine) where
     abort = λ with open_still e. let is : t ≡ with = cc e in (Some (pair_of removal.word), refl, ap (λ n. Op (ops.Abort n)) is);
   }
 
-  -- a pair was made of its answer
+  -- a pair was made from its result
   provided_right : (task : Task) (made : Made) (purpose : Purpose) (n : ℕ) → IsRight task made (Pairing purpose) (Made_number n) (provides purpose n)
   provided_right task made purpose n = idle task made (Pairing purpose) (Made_number n) (provides purpose n) (provides_leads IsIdle leads_idle purpose n)
 
@@ -310,12 +310,12 @@ module _ (m : Machine) where
   right_in task made (Ended reply) Exchanged = ended_right task made reply Exchanged
   right_in task made (Ended reply) answer = ended_right task made reply answer
 
-  -- of the machine
+  -- for the whole machine
   pub machine_changed : (answer : Answer) (old new : Option ℕ) → IsValid m → change_in m.state ≡ None
       → change_in (after m answer).state ≡ Some (old, new) → IsResultChange m.task m old new
   machine_changed answer old new valid before e = (right_in m.task m.made m.state answer).change old new valid.state before e
 
-  -- and aborts only where its closure did
+  -- and aborts only if its closure did
   pub machine_aborted : (answer : Answer) (with : ℕ) → ((reply : Reply) → ask_of m ≡ Ask_done reply → ⊥)
       → ask_of (after m answer) ≡ Ask_done (Aborted with) → (shown : Option ℕ) × (ask_of m ≡ show shown) × (answer ≡ Op (ops.Abort with))
   machine_aborted answer with open_still e =

@@ -53,7 +53,7 @@ use Rattle.papaya_call_law.specs.Says.{HasCalledNone, IsFilled}
 use Rattle.papaya_call_law.proofs.Leads.{occupies_leads}
 use Rattle.papaya_call.specs.Write.{claimed_by, serves}
 
--- a machine that has shown None asks to show it no more
+-- a machine whose closure was called with None does not ask to call it so again
 asks_other : (made : Made) (hash : ℕ) (fill : Option ℕ) (stage : Stage) → HasCalledNone fill stage → asks made hash stage ≡ ShowNone → ⊥
 asks_other made hash fill AtRoot h e = cc e
 asks_other made hash fill Making h e = cc e
@@ -75,13 +75,13 @@ asks_other made hash fill (Leaving t) h e = cc e
 asks_other made hash fill (Growing t) h e = cc e
 asks_other made hash fill (Ended reply) h e = cc e
 
--- once the insertion is remembered it is shown None nowhere
+-- once the insertion is remembered the closure is called with None nowhere
 fills_shown : (gap : Gap) (n : ℕ) → HasCalledNone (Some n) (fills gap n)
 fills_shown NoRoot n = tt
 fills_shown (At place) n = tt
 fills_shown (After t) n = tt
 
--- so an absent key leads to no showing
+-- so an absent key leads to no such call
 absent_shown : (task : Task) (fill : Option ℕ) (gap : Gap) → IsFilled fill → HasCalledNone fill (absent task fill gap)
 absent_shown Get fill gap h = tt
 absent_shown (Insert replace) fill gap h = tt
@@ -187,17 +187,17 @@ module _ (m : Machine) where
   beaten_task_shown RemoveIf made removal word h = beaten_shown (kind_of word) (on RemoveIf made (Burying removal)) removal.place word h
   beaten_task_shown Compute made removal word h = goes_shown Compute m.mode m.remembered (look_seen removal.place word) h
 
-  -- a machine has shown None
+  -- the closure of a machine was called with None
   abbrev HasCalled : Machine → Type 0
   HasCalled then = HasCalledNone then.remembered.fill then.state
 
-  -- after what a closure answered to a pair
+  -- after a closure's result for a pair
   chosen_shown : (made : Made) (removal : Removal) (kind : OpKind) → IsFilled m.remembered.fill → HasCalled (after (on Compute made (Showing removal)) (Op kind))
   chosen_shown made removal ops.Insert h = h
   chosen_shown made removal ops.Remove h = h
   chosen_shown made removal (ops.Abort with) h = tt
 
-  -- after something was made for a compute
+  -- after a part was made for a compute
   pairing_shown : (purpose : Purpose) (n : ℕ) → HasCalledNone m.remembered.fill (Pairing purpose) → (G : Grown)
       → HasCalledNone (paired_held G m.remembered purpose n).fill (paired G purpose n)
   pairing_shown purpose n h (On next) = h
@@ -259,7 +259,7 @@ module _ (m : Machine) where
   shown_in task made (Ended reply) Exchanged h = h
   shown_in task made (Ended reply) answer h = h
 
-  -- of the machine
+  -- for the whole machine
   pub machine_shown : (answer : Answer) → HasCalledNone m.remembered.fill m.state → (ask_of m ≡ ShowNone → ⊥)
       × HasCalledNone (after m answer).remembered.fill (after m answer).state
   machine_shown answer h = (asks_other m.made m.hash m.remembered.fill m.state h, shown_in m.task m.made m.state answer h)

@@ -1,5 +1,5 @@
--- Which results of its closure a compute no longer acts on after an answer, and on which its
--- exchanges are based.
+-- The results of its closure on which a compute no longer acts after an answer, and those on which
+-- its exchanges are based.
 use Rattle.std.proofs.Common.{◌≡◌, ◌⊎◌, inl, inr, ⊎_elim, ℕ, ◌<◌, ◌^◌, ◌==◌, Bool, true, false, cond, Option, None, Some, refl, sym, ap, ◌∙◌, subst}
 use Rattle.papaya_words.specs.Word.{pair_of, live_word}
 use Rattle.papaya_call.specs.declared.ask.At.TheVariants.{Slot}
@@ -43,19 +43,19 @@ use Rattle.papaya_call_law.specs.Says.{result_to_fill, shown_by}
 use Rattle.papaya_call_law.proofs.NewWords.{pair_of-live_word}
 use Rattle.papaya_call_law.proofs.SaysSaid.{shown_pair}
 
--- the pair for an absent key was made of what was answered to None
+-- the pair for an absent key was made from the closure's result for None
 fill_makes : (fill : Option ℕ) (said : ClosureResult) → result_to_fill fill ≡ Some said → (i : ℕ) × (said ≡ Makes None i)
 fill_makes None said e = absurd cc
 fill_makes (Some i) said e = let is : Makes None i ≡ said = cc e in (i, sym is)
 
--- a pair that goes to its place is the pair for an absent key
+-- a pair that is put in its place is the pair for an absent key
 fills_makes : (gap : Gap) (n : ℕ) (said : ClosureResult) → result_in Compute (fills gap n) ≡ Some said → said ≡ Makes None n
 fills_makes NoRoot n said e = absurd cc
 fills_makes (At place) n said e = let is : Makes None n ≡ said = cc e in sym is
 fills_makes (After t) n said e = absurd cc
 
 module _ (n : ℕ) (agrees : Bool) where
-  -- no reply of a compute stands on an agreement
+  -- no reply of a compute relies on a result `true` or `false`
   agrees_no_reply : (reply : Reply) → result_in_reply Compute reply ≡ Some (Agrees n agrees) → ⊥
   agrees_no_reply Absent e = cc e
   agrees_no_reply (Found i) e = cc e
@@ -76,23 +76,23 @@ module _ (n : ℕ) (agrees : Bool) where
   agrees_no_stage (Ended reply) e = agrees_no_reply reply e
   agrees_no_stage stage e = cc e
 
-  -- no call remembers an agreement with the pair for an absent key
+  -- no call remembers such a result with the pair for an absent key
   agrees_no_fill : (fill : Option ℕ) → result_to_fill fill ≡ Some (Agrees n agrees) → ⊥
   agrees_no_fill None e = cc e
   agrees_no_fill (Some i) e = cc e
 
-  -- nor with the answer to the pair last shown
+  -- nor with the result for the pair last passed to the closure
   agrees_no_choice : (choice : Option Choice) → result_to_choose choice ≡ Some (Agrees n agrees) → ⊥
   agrees_no_choice None e = cc e
   agrees_no_choice (Some (To_replace old new)) e = cc e
   agrees_no_choice (Some (To_remove old)) e = cc e
 
-  -- so what a machine stands on that its closure agreed to, its state does
+  -- so a machine that relies on such a result does so by its state
   stage_agrees : (m : Machine) → ActsOn m (Agrees n agrees) → result_in m.task m.state ≡ Some (Agrees n agrees)
   stage_agrees m stands = ⊎_elim (λ h. h) (λ o.
       absurd (⊎_elim (λ h. agrees_no_fill m.remembered.fill h) (λ h. agrees_no_choice m.remembered.choice h) o)) stands
 
-  -- nor does the state of one that shows a pair
+  -- nor does the state of a machine that calls its closure with a pair
   showing_unsaid : (task : Task) (made : Made) (hash : ℕ) (stage : Stage) (shown : ℕ) → asks made hash stage ≡ ShowPair shown
       → result_in task stage ≡ Some (Agrees n agrees) → ⊥
   showing_unsaid task made hash (Searching (Sizing t)) shown e said = cc e
@@ -104,12 +104,12 @@ module _ (n : ℕ) (agrees : Bool) where
   showing_unsaid task made hash (Showing removal) shown e said = cc said
   showing_unsaid task made hash stage shown e said = cc e
 
--- a compute stands on no agreement
+-- a compute relies on no result `true` or `false`
 pub computed_unsaid : (m : Machine) (n : ℕ) (agrees : Bool) → m.task ≡ Compute → ActsOn m (Agrees n agrees) → ⊥
 computed_unsaid m n agrees is stands = agrees_no_stage n agrees m.state
     (subst (λ t. result_in t m.state ≡ Some (Agrees n agrees)) is (stage_agrees n agrees m stands))
 
--- a machine that shows a pair stands on no agreement to one
+-- a machine that calls its closure with a pair relies on no such result for one
 pub unsaid : (m : Machine) (shown n : ℕ) (agrees : Bool) → ask_of m ≡ ShowPair shown → ActsOn m (Agrees n agrees) → ⊥
 unsaid m shown n agrees e stands = showing_unsaid n agrees m.task m.made m.hash m.state shown e (stage_agrees n agrees m stands)
 
@@ -142,14 +142,14 @@ module _ (m : Machine) where
   removes_over_in made (Pairing purpose) n said e stands = absurd (subst IsPairAsk e (pairing_asks made purpose))
   removes_over_in made stage n said e stands = absurd cc
 
-  -- of the machine
+  -- for the whole machine
   pub machine_chosen : (n : ℕ) (said : ClosureResult) → m.task ≡ Compute → ask_of m ≡ ShowPair n → ActsOn (after m (Op ops.Remove)) said → (said ≡ Removes n)
       ⊎ KeepsFill m said
   machine_chosen n said is e stands =
       subst (λ t. ActsOn (after (record m { task = t }) (Op ops.Remove)) said → (said ≡ Removes n) ⊎ KeepsFill (record m { task = t }) said)
       (sym is) (removes_over_in m.made m.state n said e) stands
 
-  -- the parts of what a machine stands on
+  -- the results that a machine relies on, by its parts
   abbrev IsOf : Stage → Option ℕ → Option Choice → ClosureResult → Type 0
   IsOf stage fill choice said = (result_in Compute stage ≡ Some said) ⊎ (result_to_fill fill ≡ Some said) ⊎ (result_to_choose choice ≡ Some said)
 
@@ -161,7 +161,7 @@ module _ (m : Machine) where
       (λ o. ⊎_elim (λ e. let is : Makes None n ≡ said = cc e in sym is) (λ e. absurd cc) o)
       stands
 
-  -- one in the place of another
+  -- a pair that replaces another
   replace_over : (made : Made) (purpose : Purpose) (write : Write) (n : ℕ) (said : ClosureResult) → 0 < write.old
       → IsOf (Putting (record { write = write; pair = n })) m.remembered.fill (Some (To_replace (pair_of write.old) (made_of write n))) said
       → (said ≡ Makes (Some (pair_of write.old)) n) ⊎ KeepsFill (on made (Pairing purpose)) said
@@ -171,7 +171,7 @@ module _ (m : Machine) where
       (λ o. ⊎_elim (λ e. inr (keeps_fill made (Pairing purpose) said e)) (λ e. let is : Makes (Some (pair_of write.old)) n ≡ said = cc e in inl (sym is)) o)
       stands
 
-  -- what a compute stands on once its pair was made, where that leads here
+  -- the results that a compute relies on once its pair was made, in the state after it
   abbrev WasPaired : Made → Purpose → ℕ → Made → Remembered → Stage → Type 0
   WasPaired made purpose n next held stage =
       (ActsOn (on made (Pairing purpose)) (Inserts None)
@@ -180,7 +180,7 @@ module _ (m : Machine) where
       × ((said : ClosureResult) → ActsOn (record m { task = Compute; made = next; remembered = held; state = stage }) said → (said ≡ Makes (Some i) n)
       ⊎ KeepsFill (on made (Pairing purpose)) said))
 
-  -- by what it is made for
+  -- by its purpose
   pairs_over : (made : Made) (purpose : Purpose) (n : ℕ) → (G : Grown) → grown made (in_place_of purpose) ≡ G → G ≡ Pair (pair_done made)
       → NamesPairIn m.remembered.choice (Pairing purpose)
       → WasPaired made purpose n (made_to_pair G) (paired_held G m.remembered purpose n) (paired G purpose n)
@@ -204,13 +204,13 @@ module _ (m : Machine) where
   pairs_over_in made (Searching (Comparing at word)) n is shows e = absurd e
   pairs_over_in made stage n is shows e = absurd e
 
-  -- of the machine
+  -- for the whole machine
   pub machine_paired : (n : ℕ) → m.task ≡ Compute → IsValid m → NamesPairs m → MakesPair (ask_of m) → IsPaired m n
   machine_paired n is valid shows e =
       subst (λ t. IsValidState t m.state → IsPaired (record m { task = t }) n) (sym is)
       (λ standing'. pairs_over_in m.made m.state n standing' shows e) valid.state
 
-  -- a pair that is put was made of what the closure answered
+  -- a pair that is put was made from the closure's result
   puts_said : (made : Made) (put : Put) → IsResultExchange (on made (Putting put)) (pair_of put.write.old) put.pair
   puts_said made put = ⊎_elim (λ h. inl (h.0, inl h.1)) (λ h. inr (inl (h.0, inl h.1))) (by_old (put.write.old == 0))
     where
@@ -241,7 +241,7 @@ module _ (m : Machine) where
   exchanges_said_in made (Pairing purpose) t x old new fits is e = absurd (subst IsPairAsk e (pairing_asks made purpose))
   exchanges_said_in made stage t x old new fits is e = absurd cc
 
-  -- of the machine
+  -- for the whole machine
   pub machine_exchanges : (t x old new : ℕ) → m.task ≡ Compute → m.hash < 2 ^ 64 → IsValid m → ask_of m ≡ Exchange (Slot t x) old new
       → IsResultExchange m (pair_of old) (pair_of new)
   machine_exchanges t x old new is fits valid e =

@@ -1,5 +1,5 @@
--- A machine acts only on what its closure returned: it remembers it, it acted on it before, or its
--- closure has just returned it.
+-- A machine acts only on results of its closure: it remembers the result, it acted on it before, or
+-- its closure has just returned it.
 use Rattle.std.proofs.Common.{◌≡◌, ◌⊎◌, inl, inr, ⊎_elim, ℕ, ◌<◌, ◌==◌, Bool, true, false, cond, Option, None, Some, refl, sym, ap, ◌∙◌, subst, arith}
 use Rattle.std.proofs.lemmas.Bool.{cond_both, eqb-true}
 use Rattle.papaya_words.specs.Word.{kind_of, pair_of}
@@ -63,21 +63,21 @@ pub shown_pair : (word : ℕ) → 0 < word → shown_by word ≡ Some (pair_of w
 shown_pair word some = cond_both (word == 0) None (Some (pair_of word)) (λ o. o ≡ Some (pair_of word))
     (λ none. let zero : word ≡ 0 = eqb-true word 0 none in absurd (omega (arith, zero, some))) (λ _. refl)
 
--- it is remembered
+-- the result is remembered
 abbrev IsHeldSaid : Option ℕ → Option Choice → ClosureResult → Type 0
 IsHeldSaid fill choice said = (result_to_fill fill ≡ Some said) ⊎ (result_to_choose choice ≡ Some said)
 
--- what a stage stands on is remembered
+-- the result that a stage relies on is remembered
 abbrev IsHeld : Task → Option ℕ → Option Choice → Stage → Type 0
 IsHeld task fill choice stage = (said : ClosureResult) → result_in task stage ≡ Some said → IsHeldSaid fill choice said
 
--- a pair that is remembered goes to its place
+-- a pair that is remembered is put in its place
 fills_held : (task : Task) (choice : Option Choice) (gap : Gap) (n : ℕ) → IsHeld task (Some n) choice (fills gap n)
 fills_held task choice NoRoot n said e = absurd cc
 fills_held task choice (At place) n said e = inl e
 fills_held task choice (After t) n said e = absurd cc
 
--- where its key is absent a call stands on what it remembers
+-- if its key is absent a call relies on a result that it remembers
 absent_held : (task : Task) (fill : Option ℕ) (choice : Option Choice) (gap : Gap) → IsHeld task fill choice (absent task fill gap)
 absent_held Get fill choice gap said e = absurd cc
 absent_held (Insert replace) fill choice gap said e = absurd cc
@@ -85,7 +85,7 @@ absent_held RemoveIf fill choice gap said e = absurd cc
 absent_held Compute None choice gap said e = absurd cc
 absent_held Compute (Some n) choice gap said e = fills_held Compute choice gap n said e
 
--- an answer that is remembered was given to the pair that is met
+-- a result that is remembered was returned for the pair that is met
 recalls_held : (fill : Option ℕ) (choice : Option Choice) (at : Place) (word : ℕ) → 0 < word
     → IsHeld Compute fill choice (recalls choice at word (pair_of word))
 recalls_held fill None at word some = λ said e. absurd cc
@@ -105,7 +105,7 @@ recalls_held fill (Some (To_remove old)) at word some =
     (λ same said e. inr (ap (λ n. Some (Removes n)) (eqb-true old (pair_of word) same) ∙ e))
     (λ _ said e. absurd cc)
 
--- so a compute that met a pair stands on what it remembers
+-- so a compute that met a pair relies on a result that it remembers
 computes_held : (kd : Kind) (held : Remembered) (at : Place) (word : ℕ) → kind_of word ≡ kd → IsHeld Compute held.fill held.choice (computes kd held at word)
 computes_held word_kinds.Empty held at word is said e = absurd cc
 computes_held word_kinds.Live held at word is said e = recalls_held held.fill held.choice at word (live_is_some word is) said e
@@ -114,7 +114,7 @@ computes_held word_kinds.Copied held at word is said e = absurd cc
 computes_held word_kinds.Buried held at word is said e = absurd cc
 computes_held word_kinds.Closed held at word is said e = absurd cc
 
--- an insertion and a removal stand on nothing before an answer of their own
+-- a removal relies on no result before its closure returns
 removes_silent : (kd : Kind) (at : Place) (word : ℕ) (said : ClosureResult) → result_in RemoveIf (removes kd at word) ≡ Some said → ⊥
 removes_silent word_kinds.Empty at word said e = cc e
 removes_silent word_kinds.Live at word said e = cc e
@@ -123,7 +123,7 @@ removes_silent word_kinds.Copied at word said e = cc e
 removes_silent word_kinds.Buried at word said e = cc e
 removes_silent word_kinds.Closed at word said e = cc e
 
--- an insertion stands on nothing at all
+-- an insertion relies on no result at all
 replaces_silent : (kd : Kind) (at : Place) (word : ℕ) (said : ClosureResult) → result_in (Insert true) (replaces kd at word) ≡ Some said → ⊥
 replaces_silent word_kinds.Empty at word said e = cc e
 replaces_silent word_kinds.Live at word said e = cc e
@@ -132,7 +132,7 @@ replaces_silent word_kinds.Copied at word said e = cc e
 replaces_silent word_kinds.Buried at word said e = cc e
 replaces_silent word_kinds.Closed at word said e = cc e
 
--- what a search leads to
+-- the state after a search
 goes_held : (task : Task) (mode : ResizeMode) (held : Remembered) (s : ProbeStep) → IsHeld task held.fill held.choice (goes_as task mode held s)
 goes_held task mode held (seen.On way) said e = absurd cc
 goes_held Get mode held (seen.Here at word) said e = absurd cc
@@ -153,7 +153,7 @@ goes_held Compute (Incremental chunk) held (seen.Over t) said e = absurd cc
 goes_held Compute Blocking held (seen.Over t) said e = absent_held Compute held.fill held.choice (After t) said e
 goes_held (Insert replace) mode held (seen.Over t) said e = absurd cc
 
--- and the words of tables
+-- and after the words of tables
 root_held : (task : Task) (held : Remembered) (word : ℕ) → IsHeld task held.fill held.choice (at_root task held.fill word)
 root_held Get held word = cond_both (word == 0) (Ended Absent) (Searching (Sizing word)) (IsHeld Get held.fill held.choice) (λ _ said e. absurd cc)
     (λ _ said e. absurd cc)
@@ -169,42 +169,42 @@ next_held : (task : Task) (held : Remembered) (t word : ℕ) → IsHeld task hel
 next_held task held t word = cond_both (word == 0) (absent task held.fill (After t)) (Searching (Sizing word)) (IsHeld task held.fill held.choice)
     (λ _. absent_held task held.fill held.choice (After t)) (λ _ said e. absurd cc)
 
--- a refusal and an abort stand on nothing
+-- a failure relies on no result
 refusal_silent : (task : Task) (refused : Refused) → result_in_reply task (Reply_refused refused) ≡ None
 refusal_silent Get refused = refl
 refusal_silent (Insert replace) refused = refl
 refusal_silent RemoveIf refused = refl
 refusal_silent Compute refused = refl
 
--- an abort says nothing that a change could stand on
+-- an abort relies on no result that a change could be based on
 abort_silent : (task : Task) (with : ℕ) → result_in_reply task (Aborted with) ≡ None
 abort_silent Get with = refl
 abort_silent (Insert replace) with = refl
 abort_silent RemoveIf with = refl
 abort_silent Compute with = refl
 
--- and an absent key is no answer of a closure
+-- and an absent key is no result of a closure
 absent_silent : (task : Task) → result_in_reply task Absent ≡ None
 absent_silent Get = refl
 absent_silent (Insert replace) = refl
 absent_silent RemoveIf = refl
 absent_silent Compute = refl
 
--- a reply stands on what its count stood on
+-- a reply relies on the result that its count relied on
 claim_replies : (task : Task) (n : ℕ) → result_in_reply task (Inserted n) ≡ result_to_claim task n
 claim_replies Get n = refl
 claim_replies (Insert replace) n = refl
 claim_replies RemoveIf n = refl
 claim_replies Compute n = refl
 
--- a removal that was counted stands on what it stood on
+-- a removal that was counted relies on the result that it relied on
 removal_replies : (task : Task) (n : ℕ) → result_in_reply task (Removed n) ≡ result_to_remove task n
 removal_replies Get n = refl
 removal_replies (Insert replace) n = refl
 removal_replies RemoveIf n = refl
 removal_replies Compute n = refl
 
--- an insertion that has written its pair stands on nothing
+-- an insertion that has written its pair relies on no result
 writer_silent : (task : Task) (write : Write) (n : ℕ) → IsWriter task → (said : ClosureResult) → result_in task (written write n) ≡ Some said → ⊥
 writer_silent Get write n is said = absurd is
 writer_silent (Insert replace) write n is said =
@@ -213,7 +213,7 @@ writer_silent (Insert replace) write n is said =
 writer_silent RemoveIf write n is said = absurd is
 writer_silent Compute write n is said = absurd is
 
--- a compute that has put its pair stands on what it stood on
+-- a compute that has put its pair relies on the result that it relied on
 put_replies : (write : Write) (n : ℕ) → result_in Compute (written write n) ≡ Some (Makes (shown_by write.old) n)
 put_replies write n = by_old (write.old == 0)
   where
@@ -227,17 +227,18 @@ module _ (m : Machine) (held : Remembered) where
   abbrev on : Task → Made → Stage → Machine
   on task made stage = record m { task = task; made = made; remembered = held; state = stage }
 
-  -- the answer leads to this stage, and its closure said what that stands on where the machine did not before
+  -- the answer leads to this stage, and its closure returned the result that the stage relies on,
+  -- if the machine did not rely on it before
   abbrev IsSaidIn : Task → Made → Stage → Answer → Stage → Type 0
   IsSaidIn task made stage answer then = (said : ClosureResult) → result_in task then ≡ Some said → ActsOn (on task made stage) said
       ⊎ IsResultBy (on task made stage) answer said
 
-  -- what is remembered
+  -- by a result that is remembered
   by_held : (task : Task) (made : Made) (stage : Stage) (answer : Answer) (then : Stage) → IsHeld task held.fill held.choice then
       → IsSaidIn task made stage answer then
   by_held task made stage answer then h said e = ⊎_elim (λ f. inl (inr (inl f))) (λ c. inl (inr (inr c))) (h said e)
 
-  -- nothing
+  -- by no result
   by_silence : (task : Task) (made : Made) (stage : Stage) (answer : Answer) (then : Stage) → result_in task then ≡ None → IsSaidIn task made stage answer then
   by_silence task made stage answer then none said e = let nothing_is : None ≡ Some said = sym none ∙ e in absurd cc
 
@@ -259,16 +260,16 @@ module _ (m : Machine) (held : Remembered) where
   beaten_task_held RemoveIf made removal word = beaten_held (kind_of word) RemoveIf made removal.place (Burying removal) word
   beaten_task_held Compute made removal word = goes_held Compute m.mode held (look_seen removal.place word)
 
-  -- a pair is asked for, for this
+  -- a pair is asked for, for this purpose
   abbrev AsksPair : Made → Purpose → Type 0
   AsksPair made purpose = MakesPair (pair_ask made (in_place_of purpose))
 
-  -- what a pair is made of again is remembered
+  -- the result from which a pair is made again is remembered
   was_said : (task : Task) (made : Made) (write : Write) → IsToPair held.choice (Again write)
       → WasReturned (on task made (Pairing (Again write))) (Some (pair_of write.old))
   was_said task made write shows = let new = shows.1 in inr (new.0.pair, inr (inr (ap result_to_choose new.1)))
 
-  -- a pair was made of what the closure answered
+  -- a pair was made from the closure's result
   provided : (task : Task) (made : Made) (purpose : Purpose) (n : ℕ) → AsksPair made purpose → IsToPair held.choice purpose
       → IsSaidIn task made (Pairing purpose) (Made_number n) (provides purpose n)
   provided task made (Fill NoRoot) n ask shows said e = absurd cc
@@ -295,7 +296,7 @@ module _ (m : Machine) (held : Remembered) where
   provided_fill task made (Replace write) n ask said e = inl (inr (inl e))
   provided_fill task made (Again write) n ask said e = inl (inr (inl e))
 
-  -- where it is to take the place of a pair
+  -- if it is to replace a pair
   provided_choice : (task : Task) (made : Made) (purpose : Purpose) (n : ℕ) → AsksPair made purpose → IsToPair held.choice purpose → (said : ClosureResult)
       → result_to_choose (with_pair held purpose n).choice ≡ Some said
       → ActsOn (on task made (Pairing purpose)) said ⊎ IsResultBy (on task made (Pairing purpose)) (Made_number n) said
@@ -307,7 +308,7 @@ module _ (m : Machine) (held : Remembered) where
       let is : Makes (Some (pair_of write.old)) n ≡ said = cc e in
       inr (subst (IsResultBy (on task made (Pairing (Again write))) (Made_number n)) is (was_said task made write shows, ask, refl))
 
-  -- a closure that is shown a pair
+  -- a closure that is called with a pair
   chosen_said : (made : Made) (removal : Removal) (kind : OpKind) → IsSaidIn Compute made (Showing removal) (Op kind) (chosen removal kind)
   chosen_said made removal ops.Insert said e = let is : Inserts (Some (pair_of removal.word)) ≡ said = cc e in
       inr (subst (IsResultBy (on Compute made (Showing removal)) (Op ops.Insert)) is (refl, refl))
@@ -315,7 +316,7 @@ module _ (m : Machine) (held : Remembered) where
       inr (subst (IsResultBy (on Compute made (Showing removal)) (Op ops.Remove)) is (refl, refl))
   chosen_said made removal (ops.Abort with) said e = absurd cc
 
-  -- a removal that it answers is remembered
+  -- its result to remove the pair is remembered
   chosen_choice : (made : Made) (removal : Removal) (kind : OpKind) (said : ClosureResult) → result_to_choose (with_choice held removal kind).choice ≡ Some said
       → ActsOn (on Compute made (Showing removal)) said ⊎ IsResultBy (on Compute made (Showing removal)) (Op kind) said
   chosen_choice made removal ops.Insert said e = inl (inr (inr e))
@@ -323,14 +324,14 @@ module _ (m : Machine) (held : Remembered) where
       inr (subst (IsResultBy (on Compute made (Showing removal)) (Op ops.Remove)) is (refl, refl))
   chosen_choice made removal (ops.Abort with) said e = inl (inr (inr e))
 
-  -- what it answered to None is remembered as before
+  -- its result for None is remembered as before
   chosen_fill : (made : Made) (removal : Removal) (kind : OpKind) (said : ClosureResult) → result_to_fill (with_choice held removal kind).fill ≡ Some said
       → ActsOn (on Compute made (Showing removal)) said
   chosen_fill made removal ops.Insert said e = inr (inl e)
   chosen_fill made removal ops.Remove said e = inr (inl e)
   chosen_fill made removal (ops.Abort with) said e = inr (inl e)
 
-  -- a closure that is shown that there is none
+  -- a closure that is called with None
   offered_said : (task : Task) (made : Made) (gap : Gap) (kind : OpKind) → IsSaidIn task made (Offering gap) (Op kind) (offered gap kind)
   offered_said task made gap ops.Insert said e = let is : Inserts None ≡ said = cc e in
       inr (subst (IsResultBy (on task made (Offering gap)) (Op ops.Insert)) is (refl, refl))
@@ -339,7 +340,7 @@ module _ (m : Machine) (held : Remembered) where
   offered_said task made gap (ops.Abort with) said e = by_silence task made (Offering gap) (Op (ops.Abort with)) (Ended (Aborted with))
       (abort_silent task with) said e
 
-  -- something was made for a compute
+  -- a part was made for a compute
   paired_said : (task : Task) (made : Made) (purpose : Purpose) (n : ℕ) → IsToPair held.choice purpose → (G : Grown)
       → grown made (in_place_of purpose) ≡ G → IsSaidIn task made (Pairing purpose) (Made_number n) (paired G purpose n)
   paired_said task made purpose n shows (On next) is said e = inl (inl e)
@@ -435,7 +436,7 @@ module _ (m : Machine) (held : Remembered) where
   said_in_stage task made (Ended reply) Exchanged is shows said e = inl (inl e)
   said_in_stage task made (Ended reply) answer is shows said e = inl (inl e)
 
-  -- what is remembered after an answer
+  -- the machine relied on the result before, or the closure has just returned it
   abbrev FollowsResult : Task → Made → Stage → Answer → ClosureResult → Type 0
   FollowsResult task made stage answer said = ActsOn (on task made stage) said ⊎ IsResultBy (on task made stage) answer said
 
@@ -450,7 +451,7 @@ module _ (m : Machine) (held : Remembered) where
   fill_made task made (Pairing purpose) n said e = fill_grown task made purpose n (grown made (in_place_of purpose)) refl said e
   fill_made task made stage n said e = inl (inr (inl e))
 
-  -- after an answer of a closure
+  -- after a result of a closure
   fill_op : (task : Task) (made : Made) (stage : Stage) (kind : OpKind) (said : ClosureResult)
       → result_to_fill (after (on task made stage) (Op kind)).remembered.fill ≡ Some said → FollowsResult task made stage (Op kind) said
   fill_op Compute made (Showing removal) kind said e = inl (chosen_fill made removal kind said e)
@@ -473,13 +474,13 @@ module _ (m : Machine) (held : Remembered) where
   choice_grown task made purpose n shows (Pair next) is said e = provided_choice task made purpose n (makes_pair made (in_place_of purpose) next is)
       shows said e
 
-  -- the answer to the pair last shown, after a pair was made
+  -- the result for the pair last passed to the closure, after a pair was made
   choice_made : (task : Task) (made : Made) (stage : Stage) (n : ℕ) → NamesPairIn held.choice stage → (said : ClosureResult)
       → result_to_choose (after (on task made stage) (Made_number n)).remembered.choice ≡ Some said → FollowsResult task made stage (Made_number n) said
   choice_made task made (Pairing purpose) n shows said e = choice_grown task made purpose n shows (grown made (in_place_of purpose)) refl said e
   choice_made task made stage n shows said e = inl (inr (inr e))
 
-  -- after an answer of a closure
+  -- after a result of a closure
   choice_op : (task : Task) (made : Made) (stage : Stage) (kind : OpKind) (said : ClosureResult)
       → result_to_choose (after (on task made stage) (Op kind)).remembered.choice ≡ Some said → FollowsResult task made stage (Op kind) said
   choice_op Compute made (Showing removal) kind said e = chosen_choice made removal kind said e
@@ -495,7 +496,7 @@ module _ (m : Machine) (held : Remembered) where
   choice_said task made stage (Op kind) shows said e = choice_op task made stage kind said e
   choice_said task made stage answer shows said e = inl (inr (inr e))
 
--- of the machine
+-- for the whole machine
 pub machine_said : (m : Machine) (answer : Answer) (said : ClosureResult) → IsValid m → NamesPairs m → ActsOn (after m answer) said → ActsOn m said
     ⊎ IsResultBy m answer said
 machine_said m answer said valid shows stands =

@@ -38,7 +38,7 @@ use Rattle.papaya_call.specs.Write.{made_of, made_to_write, serves, write_grown}
 use Rattle.papaya_call_law.specs.Says.{HasValue, IsAnswered}
 use Rattle.papaya_call_law.proofs.Makings.{numbered_leads}
 
--- a value that was logged stays so
+-- a value that was stored in the arena stays there
 limit_valued : (made : Made) → made.valued ≡ true → (limit : Option ℕ) (count : ℕ) → (number_told (told_limit made limit count) made).valued ≡ true
 limit_valued made v None count = v
 limit_valued made v (Some most) count = cond_both (nat_lt count most) (Some (record made { number = Free count })) None
@@ -69,7 +69,7 @@ grown_valued made v (Free n) old = v
 grown_valued made v Taken old = cond_both (old == 0) (own_grown made.keyed made.valued made) (of_grown made.valued made)
     (λ G. (made_to_pair G).valued ≡ true) (λ _. own_valued made v made.keyed made.valued) (λ _. of_valued made v made.valued)
 
--- a pair is made of a value that was logged
+-- a pair is made from a value that is stored in the arena
 own_pair_valued : (made next : Made) (keyed valued : Bool) → made.valued ≡ valued → own_grown keyed valued made ≡ Pair next → made.valued ≡ true
 own_pair_valued made next false valued v e = absurd cc
 own_pair_valued made next true false v e = absurd cc
@@ -92,7 +92,7 @@ write_valued write n (Pair made) v = cond_both (write.old == 0) (record made { o
     (λ (m : Made). m.valued ≡ true) (λ _. v) (λ _. v)
 
 module _ (m : Machine) where
-  -- of the value that was logged last
+  -- a value is stored in the arena, or a newer result of the closure waits
   abbrev Value : Made → Stage → Type 0
   Value made stage = (made.valued ≡ true) ⊎ IsAnswered stage
 
@@ -150,7 +150,7 @@ module _ (m : Machine) where
     word_waits (Leaving t) count a = absurd a
     word_waits (Growing need) count a = absurd a
 
-  -- what holds of a call that waits for a value's pair, or is over
+  -- a property of a call that waits for a value's pair, or is over
   waiting : (Holds : Stage → Type 0) → ((gap : Gap) → Holds (Pairing (Fill gap))) → ((write : Write) → Holds (Pairing (Replace write)))
       → ((reply : _) → Holds (Ended reply)) → (stage : Stage) → IsAnswered stage → Holds stage
   waiting Holds fill replace ended (Pairing (Fill gap)) a = fill gap
@@ -176,13 +176,13 @@ module _ (m : Machine) where
   abbrev on : Made → Stage → Machine
   on made stage = record m { made = made; state = stage }
 
-  -- where nothing is remembered anew
+  -- if no new pair is remembered
   kept_value : (made : Made) (stage : Stage) (answer : Answer) → HasValue (on made stage) → (after (on made stage) answer).remembered ≡ m.remembered
       → (made.valued ≡ true → (after (on made stage) answer).made.valued ≡ true)
       → (IsAnswered stage → Value (after (on made stage) answer).made (after (on made stage) answer).state) → HasValue (after (on made stage) answer)
   kept_value made stage answer h same valued waits old new e = ⊎_elim (λ v. inl (valued v)) waits (h old new (ap (λ (r : Remembered). r.choice) (sym same) ∙ e))
 
-  -- something was made for a compute
+  -- a part was made for a compute
   paired_value : (made : Made) (purpose : Purpose) (n : ℕ) → HasValue (on made (Pairing purpose)) → (G : Grown) → grown made (in_place_of purpose) ≡ G
       → (old : ℕ) (new : Of) → (paired_held G m.remembered purpose n).choice ≡ Some (To_replace old new) → Value (made_to_pair G) (paired G purpose n)
   paired_value made purpose n h (On next) is old new e =
@@ -213,7 +213,7 @@ module _ (m : Machine) where
   made_value made (Leaving t) n h old new e = ⊎_elim (λ v. inl v) (λ a. absurd a) (h old new e)
   made_value made (Growing need) n h old new e = ⊎_elim (λ v. inl v) (λ a. absurd a) (h old new e)
 
-  -- a closure answered: a value that it answered waits, and else nothing does
+  -- a closure returned: a value that it returned waits, and otherwise nothing does
   shown_value : (task : Task) (made : Made) (removal : Removal) (kind : OpKind) → HasValue (on made (Showing removal))
       → HasValue (after (record m { task = task; made = made; state = Showing removal }) (Op kind))
   shown_value Compute made removal ops.Insert h old new e = inr tt
@@ -266,6 +266,6 @@ module _ (m : Machine) where
   values_in made stage (Was_refused refused) h = kept_value made stage (Was_refused refused) h refl (λ v. v)
       (λ a. inr (waiting (λ s. IsAnswered (after (on made s) (Was_refused refused)).state) (λ gap. tt) (λ write. tt) (λ reply. tt) stage a))
 
-  -- of the machine
+  -- for the whole machine
   pub machine_values : (answer : Answer) → HasValue m → HasValue (after m answer)
   machine_values answer h = values_in m.made m.state answer h

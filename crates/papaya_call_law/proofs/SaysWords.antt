@@ -57,13 +57,13 @@ live_is_some word live =
     let empty : word_kinds.Empty ≡ word_kinds.Live = subst (λ w. kind_of w ≡ word_kinds.Live) zero live in absurd cc)
     (cases_lt 0 word)
 
--- nothing is shown on the way of a pair to its place
+-- no closure is called while a pair is put in its place
 fills_shows : (choice : Option Choice) (gap : Gap) (n : ℕ) → NamesPairIn choice (fills gap n)
 fills_shows choice NoRoot n = tt
 fills_shows choice (At place) n = tt
 fills_shows choice (After t) n = tt
 
--- nor that the key is absent to be a pair
+-- nor does an absent key lead to a call with a pair
 absent_shows : (choice : Option Choice) (task : Task) (fill : Option ℕ) (gap : Gap) → NamesPairIn choice (absent task fill gap)
 absent_shows choice Get fill gap = tt
 absent_shows choice (Insert replace) fill gap = tt
@@ -71,7 +71,7 @@ absent_shows choice RemoveIf fill gap = tt
 absent_shows choice Compute None gap = tt
 absent_shows choice Compute (Some n) gap = fills_shows choice gap n
 
--- a word that is met is shown
+-- the closure is called with the pair of a word that is met
 recalls_shows : (choice : Option Choice) (at : Place) (word : ℕ) → 0 < word → NamesPairIn choice (recalls choice at word (pair_of word))
 recalls_shows None at word some = some
 recalls_shows (Some (To_replace old new)) at word some =
@@ -86,7 +86,7 @@ recalls_shows (Some (To_remove old)) at word some =
     cond_both (old == pair_of word) (Burying (record { place = at; word = word })) (Showing (record { place = at; word = word }))
     (NamesPairIn (Some (To_remove old))) (λ _. tt) (λ _. some)
 
--- nor does a compute show an empty word
+-- nor does a compute call it with the pair of an empty word
 computes_shows : (kd : Kind) (held : Remembered) (at : Place) (word : ℕ) → kind_of word ≡ kd → NamesPairIn held.choice (computes kd held at word)
 computes_shows word_kinds.Empty held at word e = tt
 computes_shows word_kinds.Live held at word e = recalls_shows held.choice at word (live_is_some word e)
@@ -104,7 +104,7 @@ removes_shows choice word_kinds.Copied at word e = tt
 removes_shows choice word_kinds.Buried at word e = tt
 removes_shows choice word_kinds.Closed at word e = tt
 
--- and an insertion shows nothing
+-- and an insertion calls no closure
 replaces_shows : (choice : Option Choice) (kd : Kind) (at : Place) (word : ℕ) → NamesPairIn choice (replaces kd at word)
 replaces_shows choice word_kinds.Empty at word = tt
 replaces_shows choice word_kinds.Live at word = tt
@@ -113,7 +113,7 @@ replaces_shows choice word_kinds.Copied at word = tt
 replaces_shows choice word_kinds.Buried at word = tt
 replaces_shows choice word_kinds.Closed at word = tt
 
--- what a search leads to
+-- the state after a search
 goes_shows : (task : Task) (mode : ResizeMode) (held : Remembered) (s : ProbeStep) → NamesPairIn held.choice (goes_as task mode held s)
 goes_shows task mode held (seen.On way) = tt
 goes_shows Get mode held (seen.Here at word) = tt
@@ -133,7 +133,7 @@ goes_shows Compute (Incremental chunk) held (seen.Over t) = tt
 goes_shows Compute Blocking held (seen.Over t) = absent_shows held.choice Compute held.fill (After t)
 goes_shows (Insert replace) mode held (seen.Over t) = tt
 
--- and the words of tables
+-- and after the words of tables
 root_shows : (choice : Option Choice) (task : Task) (fill : Option ℕ) (word : ℕ) → NamesPairIn choice (at_root task fill word)
 root_shows choice Get fill word = cond_both (word == 0) (Ended Absent) (Searching (Sizing word)) (NamesPairIn choice) (λ _. tt) (λ _. tt)
 root_shows choice RemoveIf fill word = cond_both (word == 0) (Ended Absent) (Searching (Sizing word)) (NamesPairIn choice) (λ _. tt) (λ _. tt)
@@ -173,7 +173,7 @@ module _ (m : Machine) where
   beaten_task_shows RemoveIf made removal word = beaten_shows (kind_of word) (on RemoveIf made (Burying removal)) removal.place word
   beaten_task_shows Compute made removal word = goes_shows Compute m.mode m.remembered (look_seen removal.place word)
 
-  -- something was made for a compute
+  -- a part was made for a compute
   pairing_shows : (task : Task) (made : Made) (purpose : Purpose) (n : ℕ) → NamesPairIn m.remembered.choice (Pairing purpose) → (G : Grown)
       → grown made (in_place_of purpose) ≡ G → NamesPairIn (paired_held G m.remembered purpose n).choice (paired G purpose n)
   pairing_shows task made purpose n h (On next) is = h
@@ -239,6 +239,6 @@ module _ (m : Machine) where
   shows_in task made (Ended reply) Exchanged h = tt
   shows_in task made (Ended reply) answer h = tt
 
-  -- of the machine
+  -- for the whole machine
   pub machine_shows : (answer : Answer) → NamesPairs m → NamesPairs (after m answer)
   machine_shows answer h = shows_in m.task m.made m.state answer h

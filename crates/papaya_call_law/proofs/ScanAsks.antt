@@ -1,4 +1,4 @@
--- What a scan names is there, and what it exchanges is allowed.
+-- Each word that a scan names is there, and its exchanges are allowed.
 use Rattle.std.proofs.Common.{◌≡◌, ℕ, ◌<◌, true, Option, None, Some, List, ◌++◌, append_assoc, refl, sym, ap, ◌∙◌, subst}
 use Rattle.papaya_words.specs.Word.{kind_of, pair_of, buried_word}
 use Rattle.papaya_words.specs.declared.word.Kind.TheVariants as kinds
@@ -58,7 +58,7 @@ module _ {K P : Type 0} (g : Setting K P) (c : Coding K P) (hashed : IsHashed g 
   abbrev now : Words P
   now = run since s
 
-  -- they keep the map
+  -- they preserve the map
   pub keeps_since : IsKeeping g now (map_of g m since)
   keeps_since = run_keeps g hashed.lawful since s m keeps may
 
@@ -90,7 +90,7 @@ module _ {K P : Type 0} (g : Setting K P) (c : Coding K P) (hashed : IsHashed g 
     table_reached k = subst (λ w. IsReached g w k table) now_is
         (reached_now g hashed.lawful (run es s) (map_of g m es) keeps_then table taken.root taken.some taken.last fs may_then k)
 
-    -- a moment since then is one of the call
+    -- a value that the map had at some point since then, it had at some point of the call
     moment_of : (k : K) (v : Option P) → IsAtMoment g (map_of g m es) fs k v → IsAtMoment g m since k v
     moment_of k v r = record {
       so_far = es ++ r.so_far;
@@ -113,11 +113,11 @@ module _ {K P : Type 0} (g : Setting K P) (c : Coding K P) (hashed : IsHashed g 
   }
 
   module _ (scan : Scan) (loaded : LoadedPairs P) where
-    -- what is named is there
+    -- the words that are named are there
     abbrev Named : ScanAsk → Type 0
     Named = IsNamed g c s m since loaded
 
-    -- what the copy names
+    -- the words that the copy names
     copy_named : (stage : Stage) → ReliesStage g c now loaded.copy stage → (o : Option CopyAsk) → resizers.asks_in stage ≡ o → (ask : ScanAsk)
         → copy_asks o ≡ Some ask → Named ask
     copy_named stage r None is ask e = absurd cc
@@ -146,7 +146,7 @@ module _ {K P : Type 0} (g : Setting K P) (c : Coding K P) (hashed : IsHashed g 
     state_named Done r ask e = absurd cc
     state_named (Refused refused) r ask e = absurd cc
 
-    -- an exchange whose old word stands there
+    -- an exchange whose old word is there
     abbrev May : ScannerState → At → (old new : ℕ) → Type 0
     May state at old new = word_of g c now at ≡ old → (e : Exchange P) × IsScanAsked g c s m since scan state at new loaded e × Allows g now e
         × IsWritten g c now at new (state_after now e)
@@ -155,7 +155,7 @@ module _ {K P : Type 0} (g : Setting K P) (c : Coding K P) (hashed : IsHashed g 
     grave_code : (p : P) (word : ℕ) → code g c (Live p) ≡ word → code g c (Buried p) ≡ grave_word word
     grave_code p word e = ap buried_word (sym (code_pair g c hashed.coding (Live p) p refl)) ∙ ap grave_word e
 
-    -- the pair that stands in the slot is deleted
+    -- the pair in the slot is deleted
     pub bury_may : (spot : Spot) (word : ℕ) → ReliesState g c s m since scan loaded (Burying spot word) → (p : P)
         → now.slot spot.table spot.slot ≡ Live p → Allows g now (Bury spot.table spot.slot p)
     bury_may spot word r p live = let v = r.3 in record { live = live; reached = table_reached spot.table loaded v.es v.fs v.taken (g.key p) }

@@ -1,4 +1,4 @@
--- What holds once each slot was scanned.
+-- The facts once each slot was scanned.
 use Rattle.std.proofs.Common.{◌≡◌, ◌⊎◌, inl, inr, ⊎_elim, ℕ, ◌<◌, ◌≤◌, true, false, Option, None}
 use Rattle.std.proofs.Common.{Some, List, [], ◌∷◌, ◌++◌, append-nil, refl, sym, ap, ◌∙◌, subst}
 use Rattle.std.proofs.Common.{arith}
@@ -25,11 +25,11 @@ use Rattle.papaya_call_law.specs.Scans.{HasScanned, IsHeldIn, IsScannedTo, IsTak
 use Rattle.papaya_call_law.proofs.ScanTaken.{first_taken, later_taken, taken_behind, taken_stable}
 
 module _ {K P : Type 0} (g : Setting K P) (law : IsLawful g) where
-  -- equal keys have no pair together
+  -- if a key has no pair, no equal key has one
   none_same : (s : Words P) (m : K → Option P) → IsKeeping g s m → (k l : K) → g.same k l ≡ true → m l ≡ None → m k ≡ None
   none_same s m keeps k l same none = by_value (m k) refl
     where
-      -- what one key sees held the other does
+      -- if one key's search holds a pair at a place, so does the other's
       seen : (t j : ℕ) (p : P) → held (look g s k t j) ≡ true → held (look g s l t j) ≡ true
       seen t j p = subst (λ (V : ℕ → ℕ → View P). held (V t j) ≡ true) (look_same g law s k l same)
 
@@ -48,7 +48,7 @@ module _ {K P : Type 0} (g : Setting K P) (law : IsLawful g) where
           absurd (no o.at o.within (seen s.root o.at p (held_of (look g s k s.root o.at) p o.has))))
           keeps
 
-  -- what an exchange does to a key's pair
+  -- an exchange takes out a key's pair or leaves it, if the map had one
   abbrev LeavesPair : (K → Option P) → Exchange P → K → Type 0
   LeavesPair m e k = (m k ≡ None) ⊎ (takes_out g e k ≡ true) ⊎ (map_after g m e k ≡ m k)
 
@@ -79,7 +79,7 @@ module _ {K P : Type 0} (g : Setting K P) (law : IsLawful g) where
   one_leaves s m keeps (Abort n) legal k = inr (inr refl)
   one_leaves s m keeps (Take n) legal k = inr (inr refl)
 
-  -- where the map had a pair of the key, it was taken out, or it is there still
+  -- if the map had a pair of the key, it was taken out, or it is still there
   pub all_leave : (es : List (Exchange P)) (s : Words P) (m : K → Option P) → IsKeeping g s m → AllAllowed g s es → (k : K) → (m k ≡ None)
       ⊎ IsTakenOut g es k ⊎ (map_of g m es k ≡ m k)
   all_leave [] s m keeps may k = inr (inr refl)
@@ -101,9 +101,9 @@ module _ {K P : Type 0} (g : Setting K P) (law : IsLawful g) where
 
 module _ {K P : Type 0} (g : Setting K P) (c : Coding K P) (law : IsLawful g) (s : Words P) (m : K → Option P) (keeps : IsKeeping g s m)
     (since : List (Exchange P)) where
-  -- what is so of a key since the table was taken is so since the call began
+  -- facts about a key since the table was taken are facts since the call began
   module _ (es fs : List (Exchange P)) (is : es ++ fs ≡ since) (may : AllAllowed g s es) (k : K) where
-    -- of what was taken out
+    -- for pairs that were taken out
     out_behind : (map_of g m es k ≡ None) ⊎ IsTakenOut g fs k → (m k ≡ None) ⊎ IsTakenOut g since k
     out_behind (inl none) =
         ⊎_elim
@@ -114,7 +114,7 @@ module _ {K P : Type 0} (g : Setting K P) (c : Coding K P) (law : IsLawful g) (s
         (all_leave g law es s m keeps may k)
     out_behind (inr taken) = inr (subst (λ l. IsTakenOut g l k) is (taken_behind g es fs k taken))
 
-    -- and of what was kept
+    -- and for those that were kept
     kept_behind : (loaded : LoadedPairs P) → (p : P) × (map_of g m es k ≡ Some p) × IsLastAnswer loaded.shown p true → (m k ≡ None)
         ⊎ IsTakenOut g since k ⊎ ((p : P) × (m k ≡ Some p) × IsLastAnswer loaded.shown p true)
     kept_behind loaded (p, has, answer) =

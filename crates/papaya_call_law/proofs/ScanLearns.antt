@@ -1,4 +1,4 @@
--- What a scan learns from an answer.
+-- The facts that a scan relies on after an answer.
 use Rattle.std.proofs.Common.{◌≡◌, ◌⊎◌, inl, inr, ⊎_elim, ℕ, suc, ◌+◌, ◌<◌, ◌≤◌, ◌==◌, nat_lt}
 use Rattle.std.proofs.Common.{eqb-true, Bool, true, false, Option, None, Some, List, [], ◌∷◌, ◌++◌}
 use Rattle.std.proofs.Common.{append-nil, refl, sym, ap, ◌∙◌, subst, arith}
@@ -60,11 +60,11 @@ module _ {K P : Type 0} (g : Setting K P) (c : Coding K P) (hashed : IsHashed g 
   abbrev now : Words P
   now = run since s
 
-  -- where a scan stands
+  -- the facts that a scan relies on in a state
   abbrev Relies : LoadedPairs P → ScannerState → Type 0
   Relies = ReliesState g c s m since scan
 
-  -- a table is taken where the root was found, without a next table or with blocking
+  -- a table is taken if the root was found, without a next table or with blocking
   takes_root : (loaded : LoadedPairs P) → loaded.before ≡ since → loaded.given ≡ [] → (root : ℕ) → now.root ≡ root
       → (g.blocking ≡ false → now.next root ≡ 0) → Relies loaded (at_root root)
   takes_root loaded moment none root is last =
@@ -88,7 +88,7 @@ module _ {K P : Type 0} (g : Setting K P) (c : Coding K P) (hashed : IsHashed g 
         each = scan_begins g hashed.lawful now (map_of g m since) (keeps_since g c hashed s m keeps since may) root is low last [] tt scan loaded none;
       }
 
-  -- a slot is looked at, or all were
+  -- a slot is probed next, or all were
   looks_relies : (loaded : LoadedPairs P) (spot : Spot) → spot.len ≡ g.size spot.table → IsScanning g c s m since scan loaded spot.table spot.slot
       → Relies loaded (looks spot)
   looks_relies loaded spot len v =
@@ -98,14 +98,14 @@ module _ {K P : Type 0} (g : Setting K P) (c : Coding K P) (hashed : IsHashed g 
       table_over g c hashed.lawful s m keeps since loaded spot.table v.es v.fs v.taken
       (may_before g c hashed s m keeps since may spot.table loaded v.es v.fs v.taken) spot.slot whole scan v.each)
 
-  -- the next slot is
+  -- and after it the next slot
   next_relies : (loaded : LoadedPairs P) (spot : Spot) → IsSpot g c s m since spot → IsScanning g c s m since scan loaded spot.table (suc spot.slot)
       → Relies loaded (next spot)
   next_relies loaded spot there v =
       let one : suc spot.slot ≡ spot.slot + 1 = omega arith in
       looks_relies loaded (record spot { slot = spot.slot + 1 }) there.0 (subst (IsScanning g c s m since scan loaded spot.table) one v)
 
-  -- what was done does not depend on what the copy was told
+  -- the steps about a key's pair do not depend on the answers to the copy
   dealt_handed : (scan : Scan) (loaded : LoadedPairs P) (copy : copies.LoadedPairs P) (es fs : List (Exchange P)) (table slot upto : ℕ) (k : K)
       → IsDealtWith g (run es s) (map_of g m es) fs table scan loaded slot upto k
       → IsDealtWith g (run es s) (map_of g m es) fs table scan (record loaded { copy = copy }) slot upto k
@@ -127,22 +127,22 @@ module _ {K P : Type 0} (g : Setting K P) (c : Coding K P) (hashed : IsHashed g 
         inr (slot, there, dealt_handed scan loaded copy r.es r.fs table slot upto k dealt)) (r.each k);
   }
 
-  -- where the scan takes pairs out
+  -- if the scan takes pairs out
   not_walk : Takes g c s m since scan → scan ≡ Walk → ⊥
   not_walk takes is = subst (λ v. Takes g c s m since v) is takes
 
   -- the word of the slot was loaded, or found
   module _ (loaded : LoadedPairs P) (gives : GivesNone g c s m since scan loaded) (spot : Spot) (there : IsSpot g c s m since spot)
       (v : IsScanning g c s m since scan loaded spot.table spot.slot) where
-    -- what was told
+    -- the loaded pairs after the answer
     abbrev loaded_now : LoadedPairs P
     loaded_now = record loaded { copy = told_of (told_last now (Slot spot.table spot.slot) (last_of loaded)) loaded.copy }
 
-    -- the word that stands there
+    -- the word that is there
     abbrev word_now : ℕ
     word_now = code g c (now.slot spot.table spot.slot)
 
-    -- as of the moment of the taking
+    -- at the point when the table was taken
     slot_then : (w : Word P) → now.slot spot.table spot.slot ≡ w → (run v.fs (run v.es s)).slot spot.table spot.slot ≡ w
     slot_then w e = ap (λ a. a.slot spot.table spot.slot) (now_is g c hashed s m keeps since may spot.table loaded v.es v.fs v.taken) ∙ e
 
@@ -184,13 +184,13 @@ module _ {K P : Type 0} (g : Setting K P) (c : Coding K P) (hashed : IsHashed g 
             scan loaded spot.slot w p (slot_then w e) has live k (v.each k));
       }
 
-    -- no pair was given, where pairs are taken out
+    -- no pair was returned, if pairs are taken out
     none_given : (is : Scan) → scan ≡ is → Takes g c s m since is → loaded.given ≡ []
     none_given Walk e takes = absurd takes
     none_given Clear e takes = subst (λ a. GivesNone g c s m since a loaded) e gives
     none_given Retain e takes = subst (λ a. GivesNone g c s m since a loaded) e gives
 
-    -- by what stands there
+    -- by the word that is there
     by_word : (is : Scan) → scan ≡ is → (w : Word P) → now.slot spot.table spot.slot ≡ w → Relies loaded_now (meets is spot word_now (kind w))
     by_word Clear e Empty at = past_relies Empty at tt
     by_word Clear e Closed at = past_relies Closed at tt
@@ -224,13 +224,14 @@ module _ {K P : Type 0} (g : Setting K P) (c : Coding K P) (hashed : IsHashed g 
     meets_relies = subst (λ a. Relies loaded_now (meets scan spot word_now a)) (sym (code_kind g c (now.slot spot.table spot.slot)))
         (by_word scan refl (now.slot spot.table spot.slot) refl)
 
-  -- What an answer leads to: what was exchanged was allowed, and it relies on what holds there. The mode and the initial capacity are those of the scanner.
+  -- The state after an answer: the exchange was allowed, and the scan relies on facts that hold
+  -- there. The mode and the initial capacity are those of the scanner.
   module _ (mode : ResizeMode) (moded : IsModeOf mode g.blocking) (cut : IsCutAs mode g.chunk_of) (initial number : ℕ) where
     abbrev Learned : ScannerState → Answer → List (Exchange P) → LoadedPairs P → Type 0
     Learned state answer es loaded' = AllAllowed g s (since ++ es)
         × ReliesState g c s m (since ++ es) scan loaded' (after_in scan mode initial number answer state)
 
-    -- where nothing was exchanged
+    -- if nothing was exchanged
     quiet : (state : ScannerState) (answer answer' : Answer) (es : List (Exchange P)) (loaded' loaded'' : LoadedPairs P) → answer ≡ answer' → es ≡ []
         → loaded' ≡ loaded'' → Relies loaded'' (after_in scan mode initial number answer' state) → Learned state answer es loaded'
     quiet state answer answer' es loaded' loaded'' a e h r =
@@ -277,7 +278,7 @@ module _ {K P : Type 0} (g : Setting K P) (c : Coding K P) (hashed : IsHashed g 
           (loaded_now loaded gives spot r.0 r.1) told.0 told.1 (t.handed ∙ ap (λ y. record loaded { copy = y }) copy)
           (meets_relies loaded gives spot r.0 r.1)
 
-      -- a pair was given
+      -- a pair was returned
       give_learns : (spot : Spot) (word : ℕ) → Relies loaded (Giving spot word) → IsGiven g c now since loaded answer es loaded'
           → Learned (Giving spot word) answer es loaded'
       give_learns spot word (there, walks, r) t =
@@ -313,7 +314,7 @@ module _ {K P : Type 0} (g : Setting K P) (c : Coding K P) (hashed : IsHashed g 
               (keeps_then g c hashed s m keeps since may spot.table loaded r.es r.fs r.taken) spot.table r.taken.root r.taken.some r.taken.last r.fs
               (may_then g c hashed s m keeps since may spot.table loaded r.es r.fs r.taken) loaded spot.slot r.pair k met))
 
-      -- a pair was shown
+      -- the closure was called with a pair
       show_learns : (spot : Spot) (word : ℕ) → Relies loaded (Showing spot word) → IsShown g c now since loaded answer es loaded'
           → Learned (Showing spot word) answer es loaded'
       show_learns spot word (there, retains, live, r) t = by_answer t.stays refl
@@ -322,7 +323,7 @@ module _ {K P : Type 0} (g : Setting K P) (c : Coding K P) (hashed : IsHashed g 
           same : t.pair ≡ r.pair
           same = let a = t.last in let b = r.told in cc (a, b)
 
-          -- once it was shown
+          -- after the closure was called with it
           then' : Bool → LoadedPairs P
           then' stays = record loaded { shown = (r.pair, stays) ∷ loaded.shown }
 
@@ -413,12 +414,12 @@ module _ {K P : Type 0} (g : Setting K P) (c : Coding K P) (hashed : IsHashed g 
                 ),
               )))
 
-      -- the count was told
+      -- the count was received
       uncount_learns : (spot : Spot) → Relies loaded (Uncounting spot) → IsTrueOfScan g c now since (Uncounting spot) loaded answer es loaded'
           → Learned (Uncounting spot) answer es loaded'
       uncount_learns spot r told = quiet (Uncounting spot) answer (answers.Call Ok) es loaded' loaded told.0 told.1 told.2 (next_relies loaded spot r.0 r.2)
 
-      -- the copy of all: where it ended, and how it goes on
+      -- the copy of all: its end, and how it continues
       copied_all : (copy : copies.LoadedPairs P) → loaded.given ≡ [] → (from : ℕ) (copying : Root_copying) (end : Copied)
           → ReliesStage g c (run (since ++ es) s) copy (resizers.copied CopyAll from end)
           → ReliesState g c s m (since ++ es) scan (record loaded { copy = copy; before = since ++ es })
@@ -490,7 +491,7 @@ module _ {K P : Type 0} (g : Setting K P) (c : Coding K P) (hashed : IsHashed g 
       state_learns gives Done r words told = let e = told.asks in absurd (cc e)
       state_learns gives (Refused refused) r words told = let e = told.asks in absurd (cc e)
 
-      -- a call that takes pairs out gives none
+      -- a call that takes pairs out returns none
       gives_same : (is : Scan) → loaded'.given ≡ loaded.given → GivesNone g c s m since is loaded → GivesNone g c s m (since ++ es) is loaded'
       gives_same Walk same gives = tt
       gives_same Clear same gives = same ∙ gives

@@ -1,4 +1,4 @@
--- What an answer did to the map, and why it ended a scan with a refusal.
+-- The changes of the map by an answer, and the cause with which it ended a scan.
 use Rattle.std.proofs.Common.{◌≡◌, ◌⊎◌, inl, inr, ⊎_elim, ℕ, ◌+◌, ◌==◌, nat_lt, Bool, true, false}
 use Rattle.std.proofs.Common.{Option, None, Some, List, [], ◌∷◌, ◌++◌, refl, sym, ap, ◌∙◌, subst}
 use Rattle.std.proofs.lemmas.Bool.{cond_both}
@@ -46,7 +46,7 @@ use Rattle.papaya_call_law.specs.ScanAnswers.{IsCopyAnswer, IsBuried, IsFoundThe
 use Rattle.papaya_call_law.specs.Scans.{IsOfAll, MayTake, ReliesState}
 use Rattle.papaya_call_law.specs.ScanOutcomes.{IsScanCause, LeavesMap, owes_in}
 
--- It goes on, or is done: it is not refused, and owes nothing.
+-- It continues, or is done: it has not failed, and owes nothing.
 pub record Continues (state : ScannerState) : Type 0 where
   pub unrefused : (refused : Refused) → reply_in state ≡ Some (Reply_refused refused) → ⊥
   pub owes : owes_in state ≡ false
@@ -89,7 +89,7 @@ shown_on : (spot : Spot) (word : ℕ) (stays : Bool) → Continues (shown spot w
 shown_on spot word true = next_on spot
 shown_on spot word false = record { unrefused = λ refused e. absurd cc; owes = refl }
 
--- the copy of all ends the scan only where it is refused itself
+-- the copy of all ends the scan only if it fails itself
 copied_ends : (from to : Stage) (refused : Refused) → reply_in (copied from to) ≡ Some (Reply_refused refused)
     → resizers.reply_in to ≡ Some (Reply_refused refused)
 copied_ends from stages.Done refused e = absurd ((root_on (found_by from)).unrefused refused e)
@@ -130,7 +130,7 @@ module _ {K P : Type 0} (g : Setting K P) (c : Coding K P) where
   copy_leaves (Some steps.Abort) (Aborted n) new s kept e is = subst (LeavesMap g) (sym is) (λ m k. refl)
   copy_leaves kind at new s kept e is = absurd is
 
-  -- so does what a copy is told
+  -- so does an answer to a copy
   abbrev Left : List (Exchange P) → Type 0
   Left es = (es ≡ []) ⊎ ((e : Exchange P) × (es ≡ e ∷ []) × LeavesMap g e)
 
@@ -154,15 +154,15 @@ module _ {K P : Type 0} (g : Setting K P) (c : Coding K P) (s : Words P) (m : K 
   abbrev now : Words P
   now = run since s
 
-  -- where a state goes, after an answer
+  -- the next state, after an answer
   abbrev Goes : Answer → ScannerState → ScannerState
   Goes = after_in scanner.scan scanner.mode scanner.initial scanner.number
 
-  -- where the scan goes on after this answer, by the one that was given
+  -- the scan continues after this answer, since it does after an equal one
   goes_as : (state : ScannerState) (answer' : Answer) → answer ≡ answer' → Continues (Goes answer' state) → Continues (Goes answer state)
   goes_as state answer' is r = subst (λ a. Continues (Goes a state)) (sym is) r
 
-  -- a word or a size was told
+  -- a word or a size was received
   pub asked : (state : ScannerState) (before : List (Exchange P)) (is : CopyAsk) → asks_in state ≡ Some (Copy is)
       → (t : IsWordAnswer g c now since state before loaded answer es loaded') → IsTrueOfCopy g c now None 0 loaded.copy is answer es t.copy
   asked state before is asks t =
@@ -170,12 +170,12 @@ module _ {K P : Type 0} (g : Setting K P) (c : Coding K P) (s : Words P) (m : K 
       let same : t.ask ≡ is = cc (asks, first) in
       subst (λ a. IsTrueOfCopy g c now None 0 loaded.copy a answer es t.copy) same t.told
 
-  -- what an answer did in a state that exchanges nothing
+  -- the effect of an answer in a state that exchanges nothing
   pub record IsQuiet (state : ScannerState) : Type 0 where
     pub none : es ≡ []
     pub on : Continues (Goes answer state)
 
-  -- each state but the copy and a deletion that was made
+  -- each state except the copy and a deletion that was made
   root_quiet : IsWordAnswer g c now since AtRoot (since ++ es) loaded answer es loaded' → IsQuiet AtRoot
   root_quiet t = let h = asked AtRoot (since ++ es) (Load Root) refl t in
       record { none = h.1; on = goes_as AtRoot (answers.Call (Word_read now.root)) h.0 (root_on now.root) }
@@ -196,7 +196,7 @@ module _ {K P : Type 0} (g : Setting K P) (c : Coding K P) (s : Words P) (m : K 
       record { none = t.none; on = goes_as (Burying spot word) (answers.Call (Found other)) t.is (meets_on scanner.scan spot other (kind_of other)) }
 
   module _ (refused : Refused) where
-    -- why a state goes there refused
+    -- the cause with which it fails in a state
     abbrev Why : ScannerState → Type 0
     Why state = scanner.state ≡ state → reply_in (Goes answer state) ≡ Some (Reply_refused refused) → IsScanCause scanner answer refused
 
@@ -234,7 +234,8 @@ module _ {K P : Type 0} (g : Setting K P) (c : Coding K P) (s : Words P) (m : K 
     state_why Done told at e = let no = told.asks in absurd (cc no)
     state_why (Ended_refused other) told at e = let no = told.asks in absurd (cc no)
 
-  -- what was done in a state
+  -- the answer did nothing, made an exchange that leaves the map, or deleted a pair, which is then
+  -- owed
   abbrev DoneIn : ScannerState → Type 0
   DoneIn state = ((es ≡ []) × (owes_in (Goes answer state) ≡ false))
       ⊎ ((e : Exchange P) × (es ≡ e ∷ []) × LeavesMap g e × (owes_in (Goes answer state) ≡ false))
@@ -243,7 +244,7 @@ module _ {K P : Type 0} (g : Setting K P) (c : Coding K P) (s : Words P) (m : K 
   quiet_done : (state : ScannerState) → IsQuiet state → DoneIn state
   quiet_done state r = inl (r.none, r.on.owes)
 
-  -- where pairs are taken out it is no walk
+  -- a scan that takes pairs out is no iteration
   takes_none : (word : ℕ) → (scan : Scan) → MayTake g c s m since scan loaded word → scan ≡ Walk → ⊥
   takes_none word Walk takes is = takes
   takes_none word Clear takes is = cc is

@@ -1,4 +1,4 @@
--- What was done about each key's pair, slot by slot, since the table was taken.
+-- The steps about each key's pair, slot by slot, since the table was taken.
 use Rattle.std.proofs.Common.{◌≡◌, ◌⊎◌, inl, inr, ⊎_elim, ℕ, suc, ◌<◌, ◌≤◌, Bool, true, false}
 use Rattle.std.proofs.Common.{Option, None, Some, List, [], ◌∷◌, ◌++◌, append_assoc, append-nil}
 use Rattle.std.proofs.Common.{refl, sym, ap, ◌∙◌, subst, arith}
@@ -25,7 +25,7 @@ use Rattle.papaya_call_law.specs.ScanAnswers.{LoadedPairs, count_of}
 use Rattle.papaya_call_law.specs.Scans.{IsDealtWith, IsHeldIn, IsKept, IsMetIn, IsOut, IsPairOf, IsScannedTo}
 use Rattle.papaya_call_law.proofs.ScanTaken.{last_taken, live_or_taken, taken_same, taken_stable, buried_taken}
 
--- a moment is one for good
+-- a value that the map had at some point, it had at some point for good
 pub moment_stable : {K P : Type 0} (g : Setting K P) (m : K → Option P) (fs es : List (Exchange P)) (k : K) (v : Option P) → IsAtMoment g m fs k v
     → IsAtMoment g m (fs ++ es) k v
 moment_stable g m fs es k v r = record {
@@ -37,7 +37,7 @@ moment_stable g m fs es k v r = record {
 }
 
 module _ {K P : Type 0} (g : Setting K P) (s : Words P) (m : K → Option P) (table : ℕ) where
-  -- what is not owed any more is not owed later
+  -- a pair that is no longer owed is not owed later
   pub out_stable : (fs es : List (Exchange P)) (scan : Scan) (k : K) → IsOut g s m fs table scan k → IsOut g s m (fs ++ es) table scan k
   out_stable fs es Walk k r = moment_stable g m fs es k None r
   out_stable fs es Clear k (inl none) = inl none
@@ -45,7 +45,7 @@ module _ {K P : Type 0} (g : Setting K P) (s : Words P) (m : K → Option P) (ta
   out_stable fs es Retain k (inl none) = inl none
   out_stable fs es Retain k (inr taken) = inr (taken_stable g fs es k taken)
 
-  -- and what was done
+  -- and the steps so far stay
   pub dealt_stable : (fs es : List (Exchange P)) (scan : Scan) (loaded : LoadedPairs P) (slot upto : ℕ) (k : K)
       → IsDealtWith g s m fs table scan loaded slot upto k → IsDealtWith g s m (fs ++ es) table scan loaded slot upto k
   dealt_stable fs es Walk loaded slot upto k r = r
@@ -68,7 +68,7 @@ module _ {K P : Type 0} (g : Setting K P) (s : Words P) (m : K → Option P) (ta
   met_stable fs es scan loaded upto p k (inr (slot, r, dealt, here, only)) = inr
       (slot, r, dealt_stable fs es scan loaded slot upto k dealt, (λ e. pair_stable fs es scan p k (here e)), only)
 
--- no pair of a key is in these words: nothing stands there, or what stood there was deleted
+-- no pair of a key is in these words: there is nothing, or the pair was deleted
 abbrev pub IsPast : {P : Type 0} → Word P → Type 0
 IsPast Empty = Unit {0}
 IsPast Closed = Unit {0}
@@ -76,7 +76,7 @@ IsPast (Buried p) = Unit {0}
 IsPast _ = ⊥
 
 module _ {K P : Type 0} (g : Setting K P) (s : Words P) (m : K → Option P) (fs : List (Exchange P)) (table : ℕ) where
-  -- a slot that is not the one to which the scan has come
+  -- a slot other than the one to which the scan has come
   dealt_on : (scan : Scan) (loaded : LoadedPairs P) (slot upto : ℕ) (k : K) → (slot ≡ upto → ⊥) → IsDealtWith g s m fs table scan loaded slot upto k
       → IsDealtWith g s m fs table scan loaded slot (suc upto) k
   dealt_on Walk loaded slot upto k other (inl (le, count)) = inl (omega (arith, le, other), count)
@@ -85,19 +85,20 @@ module _ {K P : Type 0} (g : Setting K P) (s : Words P) (m : K → Option P) (fs
   dealt_on Retain loaded slot upto k other (inl le) = inl (omega (arith, le, other))
   dealt_on Retain loaded slot upto k other (inr (lt, kept)) = inr (omega (arith, lt), kept)
 
-  -- where the map had no pair of the key
+  -- if the map had no pair of the key
   out_none : (scan : Scan) (k : K) → m k ≡ None → IsOut g s m fs table scan k
   out_none Walk k e = record { so_far = []; rest = fs; is = refl; value_is = e }
   out_none Clear k e = inl e
   out_none Retain k e = inl e
 
-  -- where nothing was given yet
+  -- if no pair was returned yet
   dealt_first : (scan : Scan) (loaded : LoadedPairs P) → loaded.given ≡ [] → (slot : ℕ) (k : K) → IsDealtWith g s m fs table scan loaded slot 0 k
   dealt_first Walk loaded none slot k = inl (omega arith, ap (λ ps. count_of g ps k) none)
   dealt_first Clear loaded none slot k = omega arith
   dealt_first Retain loaded none slot k = inl (omega arith)
 
--- The words were s and the map m, which the words keep, as the table was taken: it was the root and, without blocking, had no next table.
+-- The words were s and the map was m, which the words keep, when the table was taken: it was the
+-- root and, without blocking, had no next table.
 module _ {K P : Type 0} (g : Setting K P) (law : IsLawful g) (s : Words P) (m : K → Option P) (keeps : IsKeeping g s m) (table : ℕ)
     (root : s.root ≡ table) (some : 0 < table) (last : g.blocking ≡ false → s.next table ≡ 0) (fs : List (Exchange P)) (may : AllAllowed g s fs) where
   -- the words after all exchanges
@@ -138,7 +139,7 @@ module _ {K P : Type 0} (g : Setting K P) (law : IsLawful g) (s : Words P) (m : 
   keeps_now : IsKeeping g now (map_of g m fs)
   keeps_now = run_keeps g law fs s m keeps may
 
-  -- what became of a word
+  -- the later form of a word
   became : (slot : ℕ) (u w : Word P) → s.slot table slot ≡ u → now.slot table slot ≡ w → Becomes g u w
   became slot u w a b = subst (λ v. Becomes g v w) a (subst (Becomes g (s.slot table slot)) b (later.words table slot))
 
@@ -153,7 +154,7 @@ module _ {K P : Type 0} (g : Setting K P) (law : IsLawful g) (s : Words P) (m : 
     still : (p q : P) → g.same k (g.key p) ≡ true → g.key q ≡ g.key p → g.same k (g.key q) ≡ true
     still p q same kept = subst (λ l. g.same k l ≡ true) (sym kept) same
 
-    -- what the slot has now names a pair of the key
+    -- the slot's current word names a pair of the key
     pub names_same : (w : Word P) → now.slot table slot ≡ w → (q : P) × (named w ≡ Some q) × (g.same k (g.key q) ≡ true)
     names_same w e = by_old was_held.0 was_held.2 was_held.1 w e
       where
@@ -167,7 +168,7 @@ module _ {K P : Type 0} (g : Setting K P) (law : IsLawful g) (s : Words P) (m : 
         by_old p same (inl h) (Buried q) e = (q, refl, still p q same (became slot (Live p) (Buried q) h e))
         by_old p same (inr h) w e = (p, ⊎_elim (λ a. ap named a) (λ a. ap named a) (became slot (Marked p) w h e), same)
 
-    -- where it was deleted since, its pair was taken out
+    -- if it was deleted since, its pair was taken out
     buried_out : (q : P) → now.slot table slot ≡ Buried q → IsTakenOut g fs k
     buried_out q e =
         let (p, h, same) = was_held in
@@ -176,7 +177,7 @@ module _ {K P : Type 0} (g : Setting K P) (law : IsLawful g) (s : Words P) (m : 
         (λ marked. absurd (⊎_elim (λ a. cc a) (λ a. cc a) (became slot (Marked p) (Buried q) marked e)))
         h
 
-    -- so where no pair is in the slot any more, nothing is owed
+    -- so if no pair is in the slot any longer, nothing is owed
     past_out : (scan : Scan) (w : Word P) → now.slot table slot ≡ w → IsPast w → IsOut g s m fs table scan k
     past_out scan Empty e past = let (q, n, same) = names_same Empty e in absurd (cc n)
     past_out scan Closed e past = let (q, n, same) = names_same Closed e in absurd (cc n)
@@ -199,7 +200,7 @@ module _ {K P : Type 0} (g : Setting K P) (law : IsLawful g) (s : Words P) (m : 
     past_out scan (Marked q) e past = absurd past
     past_out scan (Copied q) e past = absurd past
 
-  -- the scan goes past such a slot
+  -- the scan passes such a slot
   pub scan_passes : (scan : Scan) (loaded : LoadedPairs P) (upto : ℕ) (w : Word P) → now.slot table upto ≡ w → IsPast w → (k : K)
       → IsScannedTo g s m fs table scan loaded upto k → IsScannedTo g s m fs table scan loaded (suc upto) k
   scan_passes scan loaded upto w e past k (inl out) = inl out
@@ -210,7 +211,7 @@ module _ {K P : Type 0} (g : Setting K P) (law : IsLawful g) (s : Words P) (m : 
       in inr (slot, r, dealt_on g s m fs table scan loaded slot upto k other dealt))
       (cases_order slot upto)
 
-  -- and past one whose pair is deleted
+  -- and one whose pair is deleted
   pub scan_buries : (scan : Scan) (loaded : LoadedPairs P) (upto : ℕ) (p : P) → now.slot table upto ≡ Live p → (scan ≡ Walk → ⊥) → (k : K)
       → IsScannedTo g s m fs table scan loaded upto k → IsScannedTo g s m (fs ++ Bury table upto p ∷ []) table scan loaded (suc upto) k
   scan_buries scan loaded upto p live takes k (inl out) = inl (out_stable g s m table fs (Bury table upto p ∷ []) scan k out)
@@ -234,7 +235,7 @@ module _ {K P : Type 0} (g : Setting K P) (law : IsLawful g) (s : Words P) (m : 
       taken_out Clear takes same = inr (last_taken g (Bury table upto p) fs k same)
       taken_out Retain takes same = inr (last_taken g (Bury table upto p) fs k same)
 
-  -- at one moment a table has one slot in which a key's pair is, or was until it was copied
+  -- in each state a table has one slot in which a key's pair is, or was until it was copied
   one_slot : (k : K) (i j : ℕ) → i < g.places table → j < g.places table → active (look g now k table i) ≡ true → active (look g now k table j) ≡ true
       → g.place k table i ≡ g.place k table j
   one_slot k i j a b x y =
@@ -255,7 +256,7 @@ module _ {K P : Type 0} (g : Setting K P) (law : IsLawful g) (s : Words P) (m : 
   pair_named w p (inr (inl e)) = ap named e
   pair_named w p (inr (inr e)) = ap named e
 
-  -- a pair that was held in a slot is there still, in one form or the other, or nothing is owed
+  -- a pair that was held in a slot is still there, in one form or the other, or nothing is owed
   held_still : (scan : Scan) (k : K) (slot : ℕ) → (r : IsHeldIn g s table k slot) → IsOut g s m fs table scan k ⊎ (active (look g now k table r.at) ≡ true)
   held_still scan k slot r = by_word (now.slot table slot) refl
     where
@@ -275,7 +276,7 @@ module _ {K P : Type 0} (g : Setting K P) (law : IsLawful g) (s : Words P) (m : 
       by_word (Marked q) e = inr (on (Marked q) q e (inr (inl refl)))
       by_word (Copied q) e = inr (on (Copied q) q e (inr (inr refl)))
 
-  -- which pair the map had
+  -- the pair that the map had
   had_pair : (k : K) (slot : ℕ) (r : IsHeldIn g s table k slot) → (p : P) × Holds (s.slot table slot) p × (g.same k (g.key p) ≡ true) × (m k ≡ Some p)
   had_pair k slot r =
       let (p, h, same) = was_held k slot r in
@@ -339,7 +340,7 @@ module _ {K P : Type 0} (g : Setting K P) (law : IsLawful g) (s : Words P) (m : 
           let no : g.same k (g.key p) ≡ true = ap (λ y. g.same k (g.key y)) (sym one) ∙ same in
           cc (other, no)
 
-  -- it is given
+  -- it is returned
   pub scan_gives : (loaded : LoadedPairs P) (upto : ℕ) (p : P) (k : K) → IsMetIn g s m fs table Walk loaded upto p k
       → IsScannedTo g s m fs table Walk (record loaded { given = p ∷ loaded.given }) (suc upto) k
   scan_gives loaded upto p k (inl out) = inl out
@@ -370,7 +371,7 @@ module _ {K P : Type 0} (g : Setting K P) (law : IsLawful g) (s : Words P) (m : 
       ))
       (cases_Bool (g.same k (g.key p)))
 
-  -- it is shown: an answer to another pair changes nothing
+  -- the closure is called with it: a result for another pair changes nothing
   answered : (loaded : LoadedPairs P) (slot upto : ℕ) (p : P) (stays : Bool) (k : K) → IsHeldIn g s table k slot
       → (g.same k (g.key p) ≡ true → slot ≡ upto) → slot < upto → IsKept g s m fs table loaded k
       → IsKept g s m fs table (record loaded { shown = (p, stays) ∷ loaded.shown }) k
@@ -383,7 +384,7 @@ module _ {K P : Type 0} (g : Setting K P) (law : IsLawful g) (s : Words P) (m : 
           let is = only (ap (λ y. g.same k (g.key y)) (one ∙ sym two) ∙ same) in
           omega (arith, is, lt)
 
-  -- where it stays the scan goes on
+  -- if it stays the scan continues
   pub scan_keeps : (loaded : LoadedPairs P) (upto : ℕ) (p : P) (k : K) → IsMetIn g s m fs table Retain loaded upto p k
       → IsScannedTo g s m fs table Retain (record loaded { shown = (p, true) ∷ loaded.shown }) (suc upto) k
   scan_keeps loaded upto p k (inl out) = inl out
@@ -404,7 +405,7 @@ module _ {K P : Type 0} (g : Setting K P) (law : IsLawful g) (s : Words P) (m : 
       ))
       (cases_order slot upto)
 
-  -- else it is to be deleted
+  -- otherwise it is to be deleted
   pub scan_drops : (loaded : LoadedPairs P) (upto : ℕ) (p : P) (k : K) → IsMetIn g s m fs table Retain loaded upto p k
       → IsScannedTo g s m fs table Retain (record loaded { shown = (p, false) ∷ loaded.shown }) upto k
   scan_drops loaded upto p k (inl out) = inl out
@@ -418,7 +419,7 @@ module _ {K P : Type 0} (g : Setting K P) (law : IsLawful g) (s : Words P) (m : 
             dealt,
       )
 
-  -- a pair that is met was the map's at a moment since the table was taken
+  -- a pair that is met was the map's at some point since the table was taken
   pub met_had : (slot : ℕ) (w : Word P) (p : P) → now.slot table slot ≡ w → HasPair w p → IsAtMoment g m fs (g.key p) (Some p)
   met_had slot w p e has =
       let k = g.key p in
@@ -426,7 +427,7 @@ module _ {K P : Type 0} (g : Setting K P) (law : IsLawful g) (s : Words P) (m : 
       let (j, within, is) = own_place g now (keeping_sound g now (map_of g m fs) keeps_now) law k table slot p (law.itself k) name in
       by_word j within (ap (now.slot table) is ∙ e) has
     where
-      -- what is held is found
+      -- a pair that is held is found
       found : (j : ℕ) → j < g.places table → (look g now (g.key p) table j ≡ Here p) ⊎ (look g now (g.key p) table j ≡ Leaving p)
           → IsAtMoment g m fs (g.key p) (Some p)
       found j within h =

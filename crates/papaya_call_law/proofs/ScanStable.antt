@@ -1,4 +1,4 @@
--- What a scan relies on stays true, whatever others exchange.
+-- The facts that a scan relies on stay true, whatever others exchange.
 use Rattle.std.proofs.Common.{◌≡◌, inl, inr, ⊎_elim, ℕ, suc, true, Option, None, Some, List, ◌++◌, append_assoc, sym, ap, ◌∙◌, subst}
 use Rattle.papaya_call.specs.declared.chain.resizer.ResizerState.{ResizerState as Stage}
 use Rattle.papaya_call.specs.declared.chain.resizer.ResizerState.TheVariants as stages
@@ -23,7 +23,7 @@ use Rattle.papaya_call_law.proofs.ScanSlots.{met_stable, moment_stable, scanned_
 use Rattle.papaya_call_law.proofs.ScanTaken.{taken_stable}
 
 module _ {K P : Type 0} (g : Setting K P) (c : Coding K P) (s : Words P) (m : K → Option P) (since more : List (Exchange P)) where
-  -- a moment of the call has the new exchanges behind it too
+  -- a state during the call is followed by the new exchanges too
   more_behind : (es fs : List (Exchange P)) → es ++ fs ≡ since → es ++ (fs ++ more) ≡ since ++ more
   more_behind es fs is = sym (append_assoc es fs more) ∙ ap (λ l. l ++ more) is
 
@@ -82,7 +82,7 @@ module _ {K P : Type 0} (g : Setting K P) (c : Coding K P) (s : Words P) (m : K 
         (stage_stable g c hashed (run since s) (map_of g m since) (run_keeps g hashed.lawful since s m keeps (allowed_first g since more s may)) more
         (allowed_rest g since more s may) loaded.copy stage r)
 
-    -- what was the root was it for good
+    -- a table that was the root was it for good
     was_more : (table : ℕ) → (run since s).was_root table ≡ true → (run (since ++ more) s).was_root table ≡ true
     was_more table was = subst (λ w. w.was_root table ≡ true) (sym (run-append since more s))
         ((later_run g hashed.lawful more (run since s) (allowed_rest g since more s may)).was table was)

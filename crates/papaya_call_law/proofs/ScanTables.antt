@@ -1,4 +1,4 @@
--- What a scan relies on stays true, whatever tables are made later.
+-- The facts that a scan relies on stay true, whatever tables are made later.
 use Rattle.std.proofs.Common.{◌≡◌, inl, inr, ⊎_elim, ℕ, suc, ◌<◌, cond, Option, None, Some, List, [], ◌∷◌, refl, sym, ap, ◌∙◌, subst}
 use Rattle.papaya_call.specs.declared.chain.resizer.ResizerState.{ResizerState as Stage}
 use Rattle.papaya_call.specs.declared.chain.resizer.ResizerState.TheVariants as stages
@@ -33,7 +33,7 @@ module _ {K P : Type 0} (g g' : Setting K P) (On : ℕ → Type 0) (agrees : Agr
   same_key : (k : K) (p : P) → g'.same k (g'.key p) ≡ g.same k (g.key p)
   same_key k p = agrees.same k (g'.key p) ∙ ap (g.same k) (agrees.key p)
 
-  -- which exchange takes out a key's pair
+  -- the exchanges that take out a key's pair
   takes_carries : (e : Exchange P) (k : K) → takes_out g' e k ≡ takes_out g e k
   takes_carries (Replace t x p q) k = same_key k p
   takes_carries (Bury t x p) k = same_key k p
@@ -52,13 +52,13 @@ module _ {K P : Type 0} (g g' : Setting K P) (On : ℕ → Type 0) (agrees : Agr
   taken_carries : (fs : List (Exchange P)) (k : K) → IsTakenOut g fs k → IsTakenOut g' fs k
   taken_carries fs k r = record { so_far = r.so_far; by = r.by; rest = r.rest; is = r.is; out = takes_carries r.by k ∙ r.out }
 
-  -- how many pairs have a key
+  -- the number of pairs that have a key
   count_carries : (ps : List P) (k : K) → count_of g' ps k ≡ count_of g ps k
   count_carries [] k = refl
   count_carries (p ∷ older) k = ap (λ b. cond b (suc (count_of g' older k)) (count_of g' older k)) (same_key k p)
       ∙ ap (λ n. cond (g.same k (g.key p)) (suc n) n) (count_carries older k)
 
-  -- a moment is one
+  -- a value that the map had at some point, it had at that point in the further setting
   moment_carries : (m : K → Option P) (fs : List (Exchange P)) (k : K) (v : Option P) → IsAtMoment g m fs k v → IsAtMoment g' m fs k v
   moment_carries m fs k v r = record {
     so_far = r.so_far;
@@ -79,7 +79,7 @@ module _ {K P : Type 0} (g g' : Setting K P) (On : ℕ → Type 0) (agrees : Agr
 
   module _ (s : Words P) (m : K → Option P) (fs : List (Exchange P)) (table : ℕ)
       (held_carries : (k : K) (slot : ℕ) → IsHeldIn g s table k slot → IsHeldIn g' s table k slot) where
-    -- what is not owed any more
+    -- a pair that is no longer owed
     out_carries : (scan : Scan) (k : K) → IsOut g s m fs table scan k → IsOut g' s m fs table scan k
     out_carries Walk k r = moment_carries m fs k None r
     out_carries Clear k (inl none) = inl none
@@ -87,7 +87,7 @@ module _ {K P : Type 0} (g g' : Setting K P) (On : ℕ → Type 0) (agrees : Agr
     out_carries Retain k (inl none) = inl none
     out_carries Retain k (inr taken) = inr (taken_carries fs k taken)
 
-    -- and what was done
+    -- and the steps so far
     dealt_carries : (scan : Scan) (loaded : LoadedPairs P) (slot upto : ℕ) (k : K) → IsDealtWith g s m fs table scan loaded slot upto k
         → IsDealtWith g' s m fs table scan loaded slot upto k
     dealt_carries Walk loaded slot upto k (inl (le, count)) = inl (le, count_carries loaded.given k ∙ count)
@@ -123,7 +123,7 @@ module _ {K P : Type 0} (g g' : Setting K P) (c : Coding K P) (hashed : IsHashed
     table_there : OnChain table
     table_there = table_on g c hashed s m keeps since may table loaded es fs taken
 
-    -- the tables that were on the chain as this one was taken are on it
+    -- the tables that were on the chain when this one was taken are on it
     agrees_then : Agrees (IsOn (run es s).first (run es s).next) g g'
     agrees_then = agrees_on_fewer g g' OnChain agrees (IsOn (run es s).first (run es s).next) later_on
       where
@@ -133,7 +133,7 @@ module _ {K P : Type 0} (g g' : Setting K P) (c : Coding K P) (hashed : IsHashed
             (on_run g hashed.lawful fs (run es s) (map_of g m es) (keeps_then g c hashed s m keeps since may table loaded es fs taken)
             (may_then g c hashed s m keeps since may table loaded es fs taken) t on)
 
-    -- a pair is held where it was
+    -- a pair is held in the same slot
     held_carries : (k : K) (slot : ℕ) → IsHeldIn g (run es s) table k slot → IsHeldIn g' (run es s) table k slot
     held_carries k slot r = record {
       at = r.at;
@@ -153,7 +153,7 @@ module _ {K P : Type 0} (g g' : Setting K P) (c : Coding K P) (hashed : IsHashed
       given = λ p one. moment_pair g g' OnChain agrees m es fs p (taken.given p one);
     }
 
-    -- so each key is where it was
+    -- so each key is in the same slot
     each_carries : (scan : Scan) (upto : ℕ) (k : K) → IsScannedTo g (run es s) (map_of g m es) fs table scan loaded upto k
         → IsScannedTo g' (run es s) (map_of g' m es) fs table scan loaded upto k
     each_carries scan upto k r = subst (λ f. IsScannedTo g' (run es s) f fs table scan loaded upto k) (sym (map_of_carries g g' OnChain agrees es m))

@@ -23,7 +23,7 @@ module _ {K P : Type 0} (g : Setting K P) where
   pub last_taken : (e : Exchange P) (fs : List (Exchange P)) (k : K) → takes_out g e k ≡ true → IsTakenOut g (fs ++ e ∷ []) k
   last_taken e fs k out = record { so_far = fs; by = e; rest = []; is = refl; out = out }
 
-  -- whatever comes then
+  -- with further exchanges
   pub taken_stable : (fs es : List (Exchange P)) (k : K) → IsTakenOut g fs k → IsTakenOut g (fs ++ es) k
   taken_stable fs es k r = record {
     so_far = r.so_far;
@@ -34,7 +34,7 @@ module _ {K P : Type 0} (g : Setting K P) where
     out = r.out;
   }
 
-  -- and whatever came before
+  -- and with earlier ones
   pub taken_behind : (es fs : List (Exchange P)) (k : K) → IsTakenOut g fs k → IsTakenOut g (es ++ fs) k
   taken_behind es fs k r = record {
     so_far = es ++ r.so_far;
@@ -46,7 +46,7 @@ module _ {K P : Type 0} (g : Setting K P) where
   }
 
 module _ {K P : Type 0} (g : Setting K P) (law : IsLawful g) where
-  -- what takes out a key's pair takes out that of each equal key
+  -- an exchange that takes out a key's pair takes out that of each equal key
   takes_same : (k l : K) → g.same k l ≡ true → (e : Exchange P) → takes_out g e l ≡ true → takes_out g e k ≡ true
   takes_same k l h (Replace t x p q) out = law.through k l (g.key p) h out
   takes_same k l h (Bury t x p) out = law.through k l (g.key p) h out
@@ -92,7 +92,7 @@ module _ {K P : Type 0} (g : Setting K P) (law : IsLawful g) where
       (λ h. let a = h.0 in let b = h.1 in let m = may.live in let is : q ≡ p = cc (a, b, m, live) in inr (inr (h.2 ∙ ap Marked is)))
       (slot_cases s u y (Marked q) t x)
 
-  -- what stood Live and is Live is the same pair, or the key's pair was taken out
+  -- a word that was Live and is Live names the same pair, or the key's pair was taken out
   pub live_or_taken : (t x : ℕ) (p q : P) (fs : List (Exchange P)) (s : State P) → AllAllowed g s fs → s.slot t x ≡ Live p
       → (run fs s).slot t x ≡ Live q → (q ≡ p) ⊎ IsTakenOut g fs (g.key p)
   live_or_taken t x p q [] s may live end = inl cc
@@ -106,7 +106,7 @@ module _ {K P : Type 0} (g : Setting K P) (law : IsLawful g) where
       absurd (⊎_elim (λ h. cc (h, end)) (λ h. cc (h, end)) b)))
       (one s t x p e may.0 live)
 
-  -- what stood Live and is Buried was taken out
+  -- a word that was Live and is Buried: its pair was taken out
   pub buried_taken : (k : K) (t x : ℕ) (p q : P) (fs : List (Exchange P)) (s : State P) → AllAllowed g s fs → g.same k (g.key p) ≡ true
       → s.slot t x ≡ Live p → (run fs s).slot t x ≡ Buried q → IsTakenOut g fs k
   buried_taken k t x p q [] s may same live end = absurd (cc (live, end))

@@ -36,7 +36,7 @@ pub begun_at : {P : Type 0} → (s : Words P) (mode : ResizeMode) → IsAtRoot s
 begun_at s (Incremental chunk) = tt
 begun_at s Blocking = tt
 
--- it is not refused
+-- it does not fail
 pub root_unrefused : {P : Type 0} → (s : Words P) (state : ScannerState) (refused : Cause) → IsAtRoot s state → reply_in state ≡ Some (Reply_refused refused) → ⊥
 root_unrefused s (Refused cause) refused at e = at
 root_unrefused s (Copying stage) refused at e = cc e
@@ -64,7 +64,7 @@ module _ {P : Type 0} (s : Words P) where
   shown_at spot word true at = next_at spot at
   shown_at spot word false at = at
 
-  -- a copier's work sends it to the root
+  -- a word that a copier has changed sends it to the root
   meets_at : (scan : Scan) (spot : Spot) (word : ℕ) → s.root ≡ spot.table → (w : Word P) → IsAtRoot s (meets scan spot word (kind w))
   meets_at Clear spot word at (Live p) = at
   meets_at Retain spot word at (Live p) = at
@@ -91,22 +91,22 @@ module _ {K P : Type 0} (g : Setting K P) (c : Coding K P) (s : Words P) (m : K 
   abbrev now : Words P
   now = run since s
 
-  -- where a state goes, after an answer
+  -- the next state, after an answer
   abbrev Goes : Answer → ScannerState → ScannerState
   Goes = after_in scanner.scan scanner.mode scanner.initial scanner.number
 
   module _ (calm : now.next now.root ≡ 0) where
-    -- it stands at a root without a next table
+    -- it is at a root without a next table
     abbrev Stands : Words P → Answer → ScannerState → Type 0
     Stands w a state = (w.next w.root ≡ 0) × IsAtRoot w (Goes a state)
 
-    -- where nothing was exchanged
+    -- if nothing was exchanged
     quiet : (state : ScannerState) (answer' : Answer) → answer ≡ answer' → es ≡ [] → IsAtRoot now (Goes answer' state) → Stands (run (since ++ es) s) answer state
     quiet state answer' is none r =
         let same : run (since ++ es) s ≡ now = ap (λ l. run (since ++ l) s) none ∙ ap (λ l. run l s) (append-nil since) in
         subst (λ w. Stands w answer state) (sym same) (calm, subst (λ a. IsAtRoot now (Goes a state)) (sym is) r)
 
-    -- the word that stands in a slot of the root
+    -- the words that may be in a slot of the root
     word_at : (spot : Spot) → now.root ≡ spot.table
         → IsAtRoot now (meets scanner.scan spot (code g c (now.slot spot.table spot.slot)) (kind_of (code g c (now.slot spot.table spot.slot))))
     word_at spot at =

@@ -1,5 +1,5 @@
--- An ask whose answer has no result of a closure, and makes no pair: after it a machine acts only
--- on what it acted on before.
+-- The answer to a silent ask has no result of a closure, and makes no pair: after it a machine acts
+-- only on results on which it acted before.
 use Rattle.std.proofs.Common.{◌≡◌, ⊎_elim, ℕ, Option, None, Some, subst}
 use Rattle.papaya_call.specs.declared.ask.Ask.{Ask}
 use Rattle.papaya_call.specs.declared.ask.Ask.TheVariants.{Load, Exchange, LoadHint, WriteHint}
@@ -13,7 +13,7 @@ use Rattle.papaya_call.specs.Machine.{IsValid, after, ask_of}
 use Rattle.papaya_call_law.specs.Says.{Agrees, Inserts, IsResultBy, Makes, MakesPair, Removes, ClosureResult, NamesPairs, ActsOn, show}
 use Rattle.papaya_call_law.proofs.SaysSaid.{machine_said}
 
--- the closure says nothing with the answer to this ask, and no pair is made
+-- the answer to this ask has no result of the closure, and no pair is made
 abbrev pub IsSilent : Ask → Type 0
 IsSilent ShowNone = ⊥
 IsSilent (ShowPair n) = ⊥
@@ -31,7 +31,7 @@ IsSilent MakeValue = Unit {0}
 IsSilent (MakeTable slots limit chunks) = Unit {0}
 IsSilent (AddToShard by) = Unit {0}
 
--- no pair is asked for then
+-- it asks for no pair
 silent_makes : (ask : Ask) → IsSilent ask → MakesPair ask → ⊥
 silent_makes MakePair silent makes = silent
 silent_makes (MakePairOf n) silent makes = silent
@@ -57,13 +57,13 @@ module _ (m : Machine) (answer : Answer) (silent : IsSilent (ask_of m)) where
   not_show None e = subst IsSilent e silent
   not_show (Some n) e = subst IsSilent e silent
 
-  -- nothing was said
+  -- no result was returned
   unsaid_now : (said : ClosureResult) → IsResultBy m answer said → ⊥
   unsaid_now (Agrees n agrees) h = subst IsSilent h.0 silent
   unsaid_now (Inserts shown) h = not_show shown h.0
   unsaid_now (Makes shown n) h = silent_makes (ask_of m) silent h.1
   unsaid_now (Removes n) h = subst IsSilent h.0 silent
 
-  -- what the machine stands on, it stood on before
+  -- the result that the machine relies on is one that it relied on before
   pub stood_before : IsValid m → NamesPairs m → (said : ClosureResult) → ActsOn (after m answer) said → ActsOn m said
   stood_before valid words said stands = ⊎_elim (λ h. h) (λ h. absurd (unsaid_now said h)) (machine_said m answer said valid words stands)

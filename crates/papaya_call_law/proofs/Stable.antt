@@ -1,4 +1,5 @@
--- What a call relies on stays true, whatever others exchange and whichever tables are made.
+-- The facts that a call relies on stay true, whatever others exchange and whichever tables are
+-- made.
 use Rattle.std.proofs.Common.{◌≡◌, inl, inr, ℕ, ◌<◌, List, ◌++◌, append_assoc, sym, ap, ◌∙◌, subst}
 use Rattle.papaya_call.specs.declared.chain.machine.Machine.{Machine}
 use Rattle.papaya_call.specs.declared.chain.machine.Phase.{Phase}
@@ -27,7 +28,7 @@ use Rattle.papaya_call_law.specs.ChainAnswers.{LoadedPairs}
 
 module _ {K P : Type 0} (g : Setting K P) (c : Coding K P) (hashed : IsHashed g c) (begun since es : List (Exchange P))
     (may : AllAllowed g start (begun ++ (since ++ es))) (k : K) where
-  -- the exchanges in two lists, those of before and those since then
+  -- the exchanges in two lists, the earlier ones and those since then
   split : (begun ++ since) ++ es ≡ begun ++ (since ++ es)
   split = append_assoc begun since es
 
@@ -41,11 +42,11 @@ module _ {K P : Type 0} (g : Setting K P) (c : Coding K P) (hashed : IsHashed g 
   reaches : run es before ≡ now g c begun (since ++ es) k
   reaches = sym (run-append (begun ++ since) es start) ∙ ap (λ l. run l start) split
 
-  -- what was allowed before
+  -- the earlier exchanges were allowed
   first : AllAllowed g start (begun ++ since)
   first = allowed_first g (begun ++ since) es start may_split
 
-  -- and then
+  -- and those since then
   then_es : AllAllowed g before es
   then_es = allowed_rest g (begun ++ since) es start may_split
 
@@ -67,7 +68,7 @@ module _ {K P : Type 0} (g : Setting K P) (c : Coding K P) (hashed : IsHashed g 
   pub next_stable : (t : ℕ) → 0 < before.next t → (now g c begun (since ++ es) k).next t ≡ before.next t
   next_stable = later_words.next
 
-  -- what is made, or copied
+  -- the making of a table, or a copy
   phase_stable : (m : Machine) (loaded : LoadedPairs P) (phase : Phase) → ReliesPhase g c begun since k m loaded phase
       → ReliesPhase g c begun (since ++ es) k m loaded phase
   phase_stable m loaded Calling r = tt
@@ -112,7 +113,7 @@ module _ {K P : Type 0} (g g' : Setting K P) (c : Coding K P) (hashed : IsHashed
   keeps_now : IsKeeping g (now g c begun since k) (map_left g (begun ++ since))
   keeps_now = keeping g hashed.lawful (begun ++ since) may
 
-  -- what is made, or copied, in the further setting
+  -- the making of a table, or a copy, in the further setting
   phase_carries : (m : Machine) (loaded : LoadedPairs P) (phase : Phase) → ReliesPhase g c begun since k m loaded phase
       → ReliesPhase g' c begun since k m loaded phase
   phase_carries m loaded Calling r = tt

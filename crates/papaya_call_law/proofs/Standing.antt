@@ -80,7 +80,7 @@ next_within at within more = record {
   i = mod-lt (at.probe.i + at.probe.len + 1) (some_slots at.len at.limit within.size);
 }
 
--- a search goes on within the table
+-- a search continues within the table
 go_on_seen : (at : Place) → IsWithin at → IsProbed (go_on at)
 go_on_seen at within = cond_both (nat_lt at.probe.len at.limit) (seen.On (Looking (next_place at))) (seen.Over at.table) IsProbed
     (λ more. next_within at within (ltb-true at.probe.len at.limit more)) (λ _. tt)
@@ -117,7 +117,7 @@ compared_seen (Reading at) same within = within
 compared_seen (Comparing at word) true within = match_seen (kind_of word) at word within
 compared_seen (Comparing at word) false within = go_on_seen at within
 
--- where a search leads, the machine stands
+-- the machine is valid after a search
 replaces_stands : (kind : Kind) (at : Place) (word : ℕ) → IsWithin at → IsValidState (Insert true) (replaces kind at word)
 replaces_stands word_kinds.Empty at word within = tt
 replaces_stands word_kinds.Live at word within = (tt, within)
@@ -134,7 +134,7 @@ removes_stands word_kinds.Copied at word within = tt
 removes_stands word_kinds.Buried at word within = tt
 removes_stands word_kinds.Closed at word within = tt
 
--- a pair goes where its key is absent
+-- a pair is put where its key is absent
 fills_stands : (gap : Gap) (n : ℕ) → IsGap gap → n < 2 ^ 48 → IsValidState Compute (fills gap n)
 fills_stands NoRoot n gap fit = tt
 fills_stands (At place) n gap fit = (tt, record { within = gap; pair = fit })
@@ -144,7 +144,7 @@ lacks_stands : (fill : Option ℕ) (gap : Gap) → IsFill fill → IsGap gap →
 lacks_stands None gap held is = (tt, is)
 lacks_stands (Some n) gap held is = fills_stands gap n is held
 
--- a remembered answer is acted on
+-- a remembered result is acted on
 recalls_stands : (choice : Option Choice) (at : Place) (word n : ℕ) → IsChoice choice → IsWithin at → IsValidState Compute (recalls choice at word n)
 recalls_stands None at word n held within = (tt, within)
 recalls_stands (Some (To_replace old new)) at word n held within =
@@ -202,7 +202,7 @@ next_stands : (task : Task) (fill : Option ℕ) (table word : ℕ) → IsFill fi
 next_stands task fill table word held = cond_both (word == 0) (absent task fill (After table)) (Searching (Sizing word)) (IsValidState task)
     (λ _. absent_stands task fill (After table) held tt) (λ _. tt)
 
--- the closure of a compute leads it on, and what it answered is remembered
+-- the machine continues after the closure of a compute, and the closure's result is remembered
 offered_stands : (gap : Gap) (kind : OpKind) → IsGap gap → IsValidState Compute (offered gap kind)
 offered_stands gap ops.Insert is = (tt, is)
 offered_stands gap ops.Remove is = tt
@@ -228,7 +228,7 @@ pair_stands held (Fill gap) n is fit = record { fill = fit; choice = tt }
 pair_stands held (Replace write) n is fit = record { fill = is.fill; choice = fit }
 pair_stands held (Again write) n is fit = record { fill = is.fill; choice = fit }
 
--- a write that was made is counted, or was the whole
+-- a write that was made is counted, or was all there was to do
 written_stands : (task : Task) (write : _) (n : ℕ) → MayInsert task → IsValidState task (written write n)
 written_stands task write n may = cond_both (write.old == 0) (Counting (claimed_by write n)) (Ended (Replaced _ n)) (IsValidState task) (λ _. may) (λ _. tt)
 
@@ -245,7 +245,7 @@ computer_inserts (Insert replace) is = absurd is
 computer_inserts RemoveIf is = is
 computer_inserts Compute is = is
 
--- what was made stays within the limits of numbers
+-- the state of the pair's parts stays within the limits of numbers
 with_number : (made : Made) → IsMade made → (number : Number) → IsNumber number → IsMade (record made { number = number })
 with_number made is number fit = record { limit = is.limit; number = fit; own = is.own; of = is.of }
 
@@ -354,11 +354,11 @@ module _ (m : Machine) (held : IsRemembered m.remembered) where
   exchanged_stands made (Growing table) stands = stands
   exchanged_stands made (Ended reply) stands = stands
 
-  -- a call that lost an exchange goes on from its place
+  -- a call that lost an exchange continues from its place
   look_goes : (at : Place) (word : ℕ) → IsWithin at → IsValidState m.task (goes_as m.task m.mode m.remembered (look at word))
   look_goes at word within = goes_stands m.task m.mode m.remembered (look at word) held (look_seen (kind_of word) at word within)
 
-  -- a removal that was beaten goes on from its place, or has ended
+  -- a removal that was beaten continues from its place, or has ended
   beaten_stands : (kind : Kind) (removal : Removal) (word : ℕ) → IsWithin removal.place → IsValidState m.task (beaten_by kind m removal.place word)
   beaten_stands word_kinds.Buried removal word within = tt
   beaten_stands word_kinds.Empty removal word within = look_goes removal.place word within
@@ -503,7 +503,7 @@ module _ (m : Machine) (held : IsRemembered m.remembered) where
   refused_stands made refused (Growing table) stands = stands
   refused_stands made refused (Ended reply) stands = stands
 
-  -- what was made has a number of pairs
+  -- the pairs that were made have numbers within the limits
   made_fits : (made : Made) (n : ℕ) (state : State) → n < 2 ^ 48 → IsMade made → IsMade (made_in made n state)
   made_fits made n (Writing write) fit is = write_grown_fits made is write n fit (serves made write)
   made_fits made n (Pairing purpose) fit is = grown_is_made (grown made (in_place_of purpose)) (grown_fits made is (in_place_of purpose))
@@ -522,7 +522,7 @@ module _ (m : Machine) (held : IsRemembered m.remembered) where
   made_fits made n (Growing table) fit is = is
   made_fits made n (Ended reply) fit is = is
 
-  -- so it is where numbers were counted
+  -- so it is if numbers were counted
   word_fits : (made : Made) (word : ℕ) (state : State) → IsMade made → IsMade (made_at_word made word state)
   word_fits made word (Writing write) is = by_served (serves made write)
     where
@@ -568,7 +568,7 @@ module _ (m : Machine) (held : IsRemembered m.remembered) where
   exchange_fits made (Growing table) is = is
   exchange_fits made (Ended reply) is = is
 
-  -- and where a closure answered
+  -- and if a closure returned
   answered_fits : (made : Made) (kind : OpKind) → IsMade made → IsMade (answered kind made)
   answered_fits made ops.Insert is = record { limit = is.limit; number = is.number; own = is.own; of = is.of }
   answered_fits made ops.Remove is = is
@@ -717,11 +717,11 @@ machine_stands m Ok_done stands fit = record { made = stands.made; remembered = 
 machine_stands m (Was_refused refused) stands
     fit = record { made = stands.made; remembered = stands.remembered; state = refused_stands m stands.remembered m.made refused m.state stands.state }
 
--- what is asked for a pair makes no table
+-- the asks for a pair make no table
 pairs_fit : HoldsOfPairAsks IsFitAsk
 pairs_fit = record { loads = tt; takes = λ count. tt; key = tt; value = tt; pair = tt; pair_of = λ n. tt }
 
--- what a machine asks for has a size of tables
+-- each table that a machine asks for has a size of tables
 asks_fit : (made : Made) (hash : ℕ) (state : State) → IsFitAsk (asks made hash state)
 asks_fit made hash AtRoot = tt
 asks_fit made hash Making = record { power = (5, refl); most = omega arith; few = omega arith }

@@ -8,7 +8,7 @@ use Rattle.papaya_call.specs.declared.ask.Answer.TheVariants.{Refused as Was_ref
 use Rattle.papaya_call.specs.declared.machine.Machine.{Machine}
 use Rattle.papaya_call.specs.Machine.{after}
 
--- no answer changes what a call is for, and of which key
+-- no answer changes the task and the key of a call
 pub same_task : (m : Machine) (answer : Answer) → ((after m answer).task ≡ m.task) × ((after m answer).hash ≡ m.hash)
 same_task m (Word_read word) = (refl, refl)
 same_task m Exchanged = (refl, refl)

@@ -54,7 +54,7 @@ use Rattle.papaya_core_timeline.proofs.StoreLemmas.{matched}
 use Rattle.papaya_core.specs.Limits.{AsksForNumber, AsksNumber, IsSpent, NeedsNumber}
 use Rattle.papaya_core.proofs.NumbersTaken.{own_free, own_limit}
 
--- what is made for a pair is no number
+-- an ask for a part of a pair does not ask for a number
 made_no_number : (made : Made) (old : ℕ) → AsksNumber (make_ask made old) → ⊥
 made_no_number made old = cond_both (old == 0) (own_ask made.keyed made.valued) (of_ask made.valued old) (λ a. AsksNumber a → ⊥)
     (λ _. own made.keyed made.valued) (λ _. of made.valued)
@@ -68,7 +68,7 @@ made_no_number made old = cond_both (old == 0) (own_ask made.keyed made.valued) 
     of false n = n
     of true n = n
 
--- none is below the limit where as many were taken
+-- none is below the limit if as many were taken
 full_limit : (made : Made) (limit : Option ℕ) (count : ℕ) → limit ≡ Some count → told_limit made limit count ≡ None
 full_limit made limit count e = ap (λ l. told_limit made l count) e
     ∙ cond_both (nat_lt count count) _ None (λ o. o ≡ None) (λ less. absurd (let f = ltb-true count count less in omega (arith, f))) (λ _. refl)
@@ -78,7 +78,7 @@ full_as made Wanted old count n e = full_limit made made.limit count e
 full_as made (Free m) old count n e = full_limit made made.limit count e
 full_as made Taken old count n e = absurd (made_no_number made old n)
 
--- the number that a call would take, where it exchanges
+-- the number that a call would take, if it exchanges
 taken_from : (number : Number) (made : Made) (from : ℕ) (old new : ℕ) → number_ask number made from ≡ Exchange Made_word old new → number ≡ Free old
 taken_from Wanted made from old new e = absurd cc
 taken_from (Free m) made from old new e = let f : m ≡ old = cc e in ap (λ y. Free y) f
@@ -88,7 +88,7 @@ taken_from Taken made from old new e = absurd (made_no_number made from (subst A
 abbrev refused : Stage
 refused = Ended (Reply_refused Limit)
 
--- Where a call needs a number, this is what it asks, and where it is told that none is left it ends so.
+-- If a call needs a number, it asks this, and if the answer is that none is left, it ends so.
 record IsNumbering (m : Call_machine) (stage : Stage) : Type 0 where
   old : ℕ
   asked : asks m.made m.hash stage ≡ pair_ask m.made old
@@ -156,7 +156,7 @@ calls_itself call (Copying_root copying) n = absurd n
 module _ {K V S A : Type 0} (eq : K → K → Bool) (says : Says K V A) (hash : S → K → ℕ) (refuse : Bool) (s s' : StoreState K V S) (r r' : Running K V A) where
   -- all numbers are taken, and one that the call would take is free
   module _ (spent : r.machine.call.made.limit ≡ Some s.words.made) (free : (m : ℕ) → r.machine.call.made.number ≡ Free m → m < s.words.made) where
-    -- it is told of as many
+    -- the answer says that as many are taken
     told_full : (answer : Call_answer) (ask : Call_ask) → AsksNumber ask
         → ((old new : ℕ) → ask ≡ Exchange Made_word old new → r.machine.call.made.number ≡ Free old) → Performs eq says refuse ask s r answer s' r'
         → (answer ≡ Word_read s.words.made) ⊎ (answer ≡ Found_instead s.words.made)
@@ -207,7 +207,7 @@ module _ {K V S A : Type 0} (eq : K → K → Bool) (says : Says K V A) (hash : 
       → AsksForNumber (ask_of r.machine) → AsksForNumber (ask_of x.before.machine)
   its_call x r was n = subst (λ (y : Running K V A). AsksForNumber (ask_of y.machine)) (same_item r x.before (sym was ∙ x.was)) n
 
-  -- so a step of a call that needs a number is refused where all are taken
+  -- so a step of a call that needs a number is refused if all are taken
   pub spent_refuses : Steps eq says hash refuse s caller s' event reply → NeedsNumber s caller → IsSpent s → reply ≡ Some (Reply_refused Limit)
   spent_refuses (inl x) (r, was, n) spent =
       x.reply_is

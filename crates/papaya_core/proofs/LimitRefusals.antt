@@ -55,12 +55,12 @@ hash_other : {K V : Type 0} (hash : K → ℕ) (found : Option (Stored K V)) →
 hash_other hash None e = absurd cc
 hash_other hash (Some p) e = absurd cc
 
--- what is refused at a limit of the map, or for want of memory
+-- a refusal at a limit of the map, or because memory ran out
 refuses_other : (most count : ℕ) (told : Call_answer) → Refuses most count told → IsOther told
 refuses_other most count told (inl memory) e = absurd (cc (memory, e))
 refuses_other most count told (inr (capacity, full)) e = absurd (cc (capacity, e))
 
--- a scan is told nothing where its list could not grow
+-- if a scan's list was refused with `Limit`, its answer is that refusal
 unheard_told : (ask : ScanAsk) (answer : Answer) → list_refusal ask answer ≡ Some Limit → answer ≡ answers.Call (Was_refused Limit)
 unheard_told (scan_asks.Given n) (answers.Call (Was_refused refused)) e = let f : refused ≡ Limit = cc e in ap (λ y. answers.Call (Was_refused y)) f
 unheard_told ask answer e = absurd cc
@@ -103,7 +103,7 @@ module _ {K V S A : Type 0} (eq : K → K → Bool) (says : Says K V A) (hash : 
     made_other (inl (inr (inr (inr off)), stays)) e = absurd (cc (off, e))
     made_other (inr (key, left, (value, has, is, few, same, moved))) e = absurd (cc (is, e))
 
-    -- what a call asked to be made
+    -- an ask to make a part
     make_other : (ask : Call_ask) → IsToMake ask → Performs eq says refuse ask s r told s' r' → IsOther told
     make_other call_asks.MakeKey makes h e = made_other (part_logs s r told s' r' refuse h) e
     make_other call_asks.MakeValue makes h e = made_other (part_logs s r told s' r' refuse h) e
@@ -114,7 +114,7 @@ module _ {K V S A : Type 0} (eq : K → K → Bool) (says : Says K V A) (hash : 
         (λ _ makes. elim makes.0 [ inl refused ↦ refuses_other _ _ told refused.0 e | inr made ↦ absurd (cc (made.0, e)) ])
     make_other ask makes h e = absurd makes
 
-    -- where the number of those taken is told, it is that
+    -- if the answer has the number of those taken, it is that number
     number_told : (ask : Call_ask) → IsNumberAsk ask → Performs eq says refuse ask s r told s' r' → (count : ℕ) → (told ≡ Word_read count)
         ⊎ (told ≡ Found_instead count) → count ≡ s.words.made
     number_told (call_asks.Load Made) asked (is, stays) count (inl e) = cc (is, e)
@@ -125,7 +125,7 @@ module _ {K V S A : Type 0} (eq : K → K → Bool) (says : Says K V A) (hash : 
         (λ _ lost. elim e [ inl y ↦ absurd (let f = lost.0 in cc (f, y)) | inr y ↦ let f = lost.0 in cc (f, y) ])
     number_told ask asked h count e = absurd asked
 
-  -- what is asked by the call itself
+  -- an ask of the call itself
   own_asked : (r r' : Running K V A) (answer : Answer) → r.machine.phase ≡ Calling
       → PerformsAsk eq says hash refuse (ask_of r.machine) s r answer s' r'
       → PerformsAsk eq says hash refuse (asks.Call (call_machine.ask_of r.machine.call)) s r answer s' r'
@@ -173,7 +173,7 @@ module _ {K V S A : Type 0} (eq : K → K → Bool) (says : Says K V A) (hash : 
     ]
   ]
 
-  -- so a step that refuses for the limit is made where all numbers are taken
+  -- so a step that refuses for the limit is made only if all numbers are taken
   pub refused_spent : Steps eq says hash refuse s caller s' event reply → IsSpent s
   refused_spent (inl x) = elim (x.cause Limit e) [ inl own ↦ own_spent x own | inr table ↦ absurd (table_other x table) ]
   refused_spent (inr (inl x)) = absurd (resize_other x)

@@ -14,7 +14,7 @@ use Rattle.papaya_core_timeline.specs.Core.{CoreState}
 use Rattle.papaya_core_timeline.specs.Kept.{IsLawfulCore, coding_of, low, setting_of}
 use Rattle.papaya_core.specs.Limits.{IsSpent, IsWithin}
 
--- no more than the limit, where there is one
+-- no more than the limit, if there is one
 abbrev pub Within : Option ℕ → ℕ → Type 0
 Within most made = MatchOption most (Unit {0}) (λ n. made ≤ n)
 
@@ -28,7 +28,7 @@ taken_within : (most : Option ℕ) (made : ℕ) → MatchOption most (Unit {0}) 
 taken_within None made below = tt
 taken_within (Some n) made below = omega (arith, below)
 
--- as many as the limit says, and no more
+-- as many as the limit allows, and no more
 pub just : (most : Option ℕ) (n made : ℕ) → most ≡ Some n → n ≤ made → Within most made → most ≡ Some made
 just None n made e up within = absurd (let f : None ≡ Some n = e in cc f)
 just (Some m) n made e up within = let f : m ≡ n = cc e in let same : m ≡ made = omega (arith, f, up, within) in ap (λ y. Some y) same
@@ -69,7 +69,7 @@ module _ {K V S A : Type 0} (eq : K → K → Bool) (hash : K → ℕ) (s : Core
       let (es, (call_traces, kept)) = lawful.law in
       (kept.calls caller r was).relies.call.made.limit
 
-  -- where a call was told of as many as its limit, all are taken
+  -- if a call loaded as many as its limit, all are taken
   pub spent_by : (caller : ℕ) (r : Running K V A) → running s.callers caller ≡ Some r → (most : ℕ) → r.machine.call.made.limit ≡ Some most
       → most ≤ s.store.words.made → IsSpent s
   spent_by caller r was most e up = just s.mode.limit most s.store.words.made (sym (own_limit caller r was) ∙ e) up core_within

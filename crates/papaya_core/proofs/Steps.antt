@@ -1,4 +1,4 @@
--- One step of what was under way leaves a core lawful and counted, and is a step of a caller.
+-- One step of the work under way leaves a core lawful and counted, and is a step of a caller.
 use Rattle.std.proofs.Common.{◌≡◌, inl, inr, Bool, ℕ, false, true, List, Option, None, Some, refl, sym, ◌∙◌, ap, subst}
 use Rattle.std.specs.Cmp.{IsEquivalence}
 use Rattle.papaya_call.specs.declared.call.Reply.{Reply}
@@ -39,13 +39,13 @@ use Rattle.papaya_call.specs.Scanner as scanner
 use Rattle.papaya_core_store.specs.declared.scans.Scanning.{Scanning}
 use Rattle.papaya_core.specs.Goes.{CallGoes, IsValidWork, ResizerGoes, ScanGoes, WorkGoes}
 
--- a resizer that has not ended asks something
+-- a resizer that has not ended has an ask
 pub unended_asks : (stage : Stage) → resizer.reply_in stage ≡ None → resizer.asks_in stage ≡ None → ⊥
 unended_asks stages.Done going none = absurd cc
 unended_asks (stages.Refused refused) going none = absurd cc
 unended_asks stage going none = absurd cc
 
--- what a caller has under way stands, and has not ended
+-- the work that a caller has under way is valid, and has not ended
 pub work_stands : {K V S A H : Type 0} (eq : K → K → Bool) (input : K → List (List ℕ)) (build : S → H) (write : H → List ℕ → H) (finish : H → ℕ)
     (classes : IsEquivalence eq) (respects : (x y : K) → eq x y ≡ true → input x ≡ input y) (says : Says K V A) (s : CoreState K V S A)
     → IsLawfulCore eq (hash_of input build write finish s.store.hasher) s.store s.callers s.mode → (caller : ℕ) (work : Work K V A)
@@ -60,11 +60,11 @@ work_stands eq input build write finish classes respects says s lawful caller (w
 module _ {K V S A H : Type 0} (eq : K → K → Bool) (input : K → List (List ℕ)) (build : S → H) (write : H → List ℕ → H) (finish : H → ℕ)
     (classes : IsEquivalence eq) (respects : (x y : K) → eq x y ≡ true → input x ≡ input y) (says : Says K V A) (refuse : Bool)
     (s : CoreState K V S A) (caller : ℕ) (s' : CoreState K V S A) (event : Event) (reply : Option Reply) where
-  -- keys are hashed so
+  -- keys are hashed with the hasher
   abbrev hashes : S → K → ℕ
   hashes = hash_of input build write finish
 
-  -- what holds of the core after the step
+  -- the facts about the core after the step
   pub record IsSound : Type 0 where
     pub steps : Steps eq says hashes refuse s caller s' event reply
     pub lawful : IsLawfulCore eq (hashes s'.store.hasher) s'.store s'.callers s'.mode
@@ -76,7 +76,7 @@ module _ {K V S A H : Type 0} (eq : K → K → Bool) (input : K → List (List 
 
   module _ (lawful : IsLawfulCore eq (hashes s.store.hasher) s.store s.callers s.mode) (counted : IsCounted eq s.store s.callers)
       (rest : Option (Work K V A)) (callers : s'.callers ≡ with_work s.callers caller rest) (mode : s'.mode ≡ s.mode) (initial : s'.initial ≡ s.initial) where
-    -- of a call on one key
+    -- for a call on one key
     call_sound : (before : Running K V A) → working s.callers caller ≡ Some (works.Call before)
         → CallGoes eq says hashes refuse s.store caller s'.store event reply rest before → IsSound
     call_sound before was goes =
@@ -112,7 +112,7 @@ module _ {K V S A H : Type 0} (eq : K → K → Bool) (input : K → List (List 
           };
         }
 
-    -- of a call that resizes the map
+    -- for a call that resizes the map
     resizer_sound : (before : Resizer) → working s.callers caller ≡ Some (works.Resize before)
         → ResizerGoes eq hashes refuse s.store s'.store event reply rest before → IsSound
     resizer_sound before was goes =
@@ -157,7 +157,7 @@ module _ {K V S A H : Type 0} (eq : K → K → Bool) (input : K → List (List 
           };
         }
 
-    -- of a call that scans a table
+    -- for a call that scans a table
     scanner_sound : (before : Scanning A) → working s.callers caller ≡ Some (works.Scan before)
         → ScanGoes eq says hashes refuse s.store caller s'.store event reply rest before → IsSound
     scanner_sound before was goes =
@@ -192,7 +192,7 @@ module _ {K V S A H : Type 0} (eq : K → K → Bool) (input : K → List (List 
           };
         }
 
-    -- whatever was under way
+    -- for any work under way
     pub work_sound : (work : Work K V A) → working s.callers caller ≡ Some work
         → WorkGoes eq says hashes refuse s.store caller s'.store event reply rest work → IsSound
     work_sound (works.Call before) was goes = call_sound before was goes

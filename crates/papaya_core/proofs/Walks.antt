@@ -1,4 +1,4 @@
--- What a scan has returned once its ask was answered.
+-- The pairs that a scan has returned after its ask was answered.
 use Rattle.std.proofs.Common.{◌≡◌, inl, inr, ℕ, Bool, None, Some, [], ◌++◌, append-nil, sym, ◌∙◌, ap}
 use Rattle.papaya_words.specs.declared.refused.Refused.TheVariants.{Memory}
 use Rattle.papaya_call.specs.Answers.{Says}
@@ -12,10 +12,10 @@ use Rattle.papaya_core_store.specs.declared.scans.Scanning.{Scanning}
 use Rattle.papaya_core_store.specs.Scans.{PerformsScan}
 use Rattle.papaya_core_timeline.specs.Outcomes.{given_by}
 
--- where its list could grow, what it gave before and what its ask gave
+-- if its list could grow, the pairs that it returned before and with its ask
 module _ {K V S A : Type 0} (eq : K → K → Bool) (says : Says K V A) (hash : S → K → ℕ) (refuse : Bool) (store : StoreState K V S) (v : Scanning A)
     (a : Answer) (store' : StoreState K V S) (v' : Scanning A) where
-  -- a scanner that was told something else gave nothing
+  -- an answer that leaves the scanner as it was adds no pair to its list
   same_given : v' ≡ v → v'.given ≡ v.given ++ []
   same_given same = ap (λ (y : Scanning A). y.given) same ∙ sym (append-nil v.given)
 

@@ -46,7 +46,7 @@ module _ {K V : Type 0} where
   stored_parts n None None p h = let f : None ≡ Some p = h in absurd cc
 
 module _ {K V : Type 0} (log : List (Pair K V)) where
-  -- what pair n brought is known by its number
+  -- the key that pair `n` brought is known by its number
   pub key_known : (n : ℕ) (key : Part K) → key_brought (slice_get log n) ≡ owned key → key_in log (Logged (brought_by n key)) ≡ key_in log key
   key_known n (Own k) e = e
   key_known n (Logged first) e = refl
@@ -55,7 +55,7 @@ module _ {K V : Type 0} (log : List (Pair K V)) where
   value_known n (Own v) e = e
   value_known n (Logged first) e = refl
 
-  -- it stays in a longer log
+  -- it stays in a longer arena
   module _ (more : List (Pair K V)) where
     key_stable : (n : ℕ) (k : K) (o : Option (Pair K V)) → slice_get log n ≡ o → key_brought o ≡ Some k → key_brought (slice_get (log ++ more) n) ≡ Some k
     key_stable n k None e h = let f : None ≡ Some k = h in cc
@@ -78,7 +78,7 @@ module _ {K V : Type 0} (log : List (Pair K V)) where
     value_at-more (Some value) v h = value-more value v h
 
 module _ {K V S : Type 0} (s : StoreState K V S) where
-  -- what is known of a pair that is stored
+  -- the facts about a pair that is stored
   pub record IsEntry (n : ℕ) (p : Stored K V) : Type 0 where
     pub entry : Pair K V
     pub there : slice_get s.pairs n ≡ Some entry
@@ -105,11 +105,11 @@ module _ {K V S : Type 0} (s : StoreState K V S) where
   pub pair_number : (n : ℕ) (p : Stored K V) → pair_of s n ≡ Some p → p.number ≡ n
   pair_number n p h = (pair_entry n p h).number
 
-  -- a pair's number is below the length of the log
+  -- a pair's number is below the length of the arena
   pub pair_below : (n : ℕ) (p : Stored K V) → pair_of s n ≡ Some p → n < length s.pairs
   pair_below n p h = let e = pair_entry n p h in slice_get_within s.pairs n e.entry e.there
 
-  -- the pair that brought the key of another is known, and has its key
+  -- the pair with which the key of another was stored is known, and has that key
   pub key_from-there : (n : ℕ) (p : Stored K V) → pair_of s n ≡ Some p → (first : ℕ) × (key_from n (slice_get s.pairs n) ≡ Some first)
   key_from-there n p h = let e = pair_entry n p h in (brought_by n (key_part e.entry), ap (key_from n) e.there)
 
@@ -121,7 +121,7 @@ module _ {K V S : Type 0} (s : StoreState K V S) where
       ≡ first = (let f : Some (brought_by n (key_part e.entry)) ≡ Some first = sym (ap (key_from n) e.there) ∙ from in cc) in
       ap (λ m. key_in s.pairs (Logged m)) (sym is) ∙ key_known s.pairs n (key_part e.entry) (ap key_brought e.there) ∙ e.key
 
-  -- a pair stays where the log grows
+  -- a pair stays if the arena grows
   pub pair-more : (more : List (Pair K V)) (n : ℕ) (p : Stored K V) → pair_of s n ≡ Some p → pair_of (record s { pairs = s.pairs ++ more }) n ≡ Some p
   pair-more more n p h = entry_more (pair_entry n p h)
     where
@@ -135,9 +135,9 @@ module _ {K V S : Type 0} (s : StoreState K V S) where
           ∙ ap (stored_at n (Some p.key)) (value-more s.pairs more (value_part e.entry) p.value e.value)
           ∙ ap (λ m. Some (record { number = m; key = p.key; value = p.value })) (sym e.number)
 
--- a pair was logged
+-- a pair was stored in the arena
 module _ {K V S A : Type 0} (s : StoreState K V S) (r : Running K V A) (s' : StoreState K V S) (r' : Running K V A) where
-  -- the call has its value still
+  -- the call still has its value
   pub value_logged : (key later : Part K) (a : Answer) (v : V) → own_value s r ≡ Some v → PushesPair key later a s r s' r' → own_value s' r' ≡ Some v
   value_logged key later a v value_is (value, has, is, few, grown, left) =
       let more : List (Pair K V) = pair_with key value ∷ [] in
@@ -146,7 +146,7 @@ module _ {K V S A : Type 0} (s : StoreState K V S) (r : Running K V A) (s' : Sto
       ap (λ (y : StoreState K V S). value_at y.pairs r'.value) grown ∙ ap (λ (y : Running K V A). value_at (s.pairs ++ more) y.value) left
       ∙ value_known (s.pairs ++ more) (length s.pairs) value brought ∙ value-more s.pairs more value v (sym (ap (value_at s.pairs) has) ∙ value_is)
 
-  -- What it means, and what the call has.
+  -- The pair of the new number, and the value of the call.
   pub record IsInArena (k : K) (v : V) : Type 0 where
     pub pair : pair_of s' (length s.pairs) ≡ Some (record { number = length s.pairs; key = k; value = v })
     pub value : own_value s' r' ≡ Some v
@@ -179,7 +179,7 @@ module _ {K V S A : Type 0} (s : StoreState K V S) (r : Running K V A) (s' : Sto
           ap (λ (y : StoreState K V S). key_in y.pairs r'.key) grown ∙ ap (λ (y : Running K V A). key_in (s.pairs ++ more) y.key) left
           ∙ key_known (s.pairs ++ more) (length s.pairs) r.key brought ∙ key-more s.pairs more r.key k key_is
 
-  -- and so it does where its pair has the key of another
+  -- and so it does if its pair has the key of another
   pub of_logged : (a : Answer) (n : ℕ) (p : Stored K V) (v : V) → pair_of s n ≡ Some p → own_value s r ≡ Some v → PushesOf n a s r s' r'
       → IsInArena p.key v × ((k : K) → own_key s r ≡ Some k → own_key s' r' ≡ Some k)
   of_logged a n p v there value_is (first, from, logs) = (

@@ -26,7 +26,8 @@ use Rattle.papaya_core_timeline.proofs.KeptCore.{keys_lawful}
 use Rattle.papaya_core_timeline.proofs.KeptLemmas.{IsLawfulKeys}
 use Rattle.papaya_core_timeline.proofs.SoloRun.{Goes, IsSole, IsUnmoved, one_seat, runs_to, without_seat}
 
--- What a call leaves that has changed nothing, where it is taken out of its seat. Its count is right if it has nothing yet to add.
+-- The state that a call leaves if it has changed nothing and is taken out of its seat. The count is
+-- right if the call has nothing left to add to it.
 pub record IsLeft {K V S A : Type 0} (eq : K → K → Bool) (hash : S → K → ℕ) (s s' : CoreState K V S A) (r : Running K V A) : Type 0 where
   pub map : Same (map_of eq s) (map_of eq s')
   pub core : IsLawfulCore {A = A} eq (hash s'.store.hasher) s'.store [] s'.mode
@@ -38,7 +39,7 @@ pub record IsLeft {K V S A : Type 0} (eq : K → K → Bool) (hash : S → K →
 
 module _ {K V S A : Type 0} (eq : K → K → Bool) (hash : S → K → ℕ) (s : CoreState K V S A) (law : IsLawfulKeys eq (hash s.store.hasher))
     (says : Says K V A) (s' : CoreState K V S A) (h : History) (r : Running K V A) (under_way : running s'.callers 0 ≡ Some r) where
-  -- the call that is under way is the one that was made
+  -- the call under way is the one that was made
   sole_left : (change_in r.machine.call.state ≡ None) → IsSole eq hash s law says s' h → IsLeft eq hash s s' r
   sole_left none sole =
       let is : sole.work ≡ works.Call r = same_item sole.work (works.Call r)
@@ -60,12 +61,12 @@ module _ {K V S A : Type 0} (eq : K → K → Bool) (hash : S → K → ℕ) (s 
   goes_left none (inl sole) = sole_left none sole
   goes_left none (inr (reply, over)) = let f : None ≡ Some r = sym (ap (λ (l : List (Seat K V A)). running l 0) over.callers) ∙ under_way in absurd cc
 
-  -- so it is left, if it has changed nothing
+  -- the call leaves this state if it has changed nothing
   pub call_left : (call : Call K V A) (steps : ℕ) → IsLawfulCore eq (hash s.store.hasher) s.store s.callers s.mode → s.callers ≡ []
       → TurnsRun eq says hash (Begin 0 call ∷ Finish 0 steps ∷ []) 2 s s' h → change_in r.machine.call.state ≡ None → IsLeft eq hash s s' r
   call_left call steps lawful idle runs none = goes_left none (runs_to eq hash s law says call steps s' h lawful idle runs)
 
--- The same with keys that are hashed as the hasher does.
+-- The same for a core that hashes keys with its hasher.
 pub lawful_left : {K V S A H : Type 0} (eq : K → K → Bool) (input : K → List (List ℕ)) (build : S → H) (write : H → List ℕ → H) (finish : H → ℕ)
     → IsEquivalence eq → ((x y : K) → eq x y ≡ true → input x ≡ input y)
     → (says : Says K V A) (s s' : CoreState K V S A) (h : History) (r : Running K V A) (call : Call K V A) (steps : ℕ)

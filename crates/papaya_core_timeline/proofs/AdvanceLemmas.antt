@@ -58,7 +58,7 @@ module _ {K V S A : Type 0} (eq : K → K → Bool) (hash : K → ℕ) (law : Is
       (x : Advances eq says hashes refuse s c s' event reply) (core : IsCore s.store s.callers s.mode) (core' : IsCore s'.store s'.callers s'.mode)
       (es : List (Exchange (Stored K V))) (call_traces : ℕ → CallTrace K V) (kept : IsConsistent eq hash s.mode s.store s.callers es call_traces)
       (step : IsStep eq hash law refuse s c s' event reply x es call_traces) where
-    -- the machine that asks, and the key of its call
+    -- the machine that asks, and its call's key
     abbrev m : Machine
     m = x.before.machine
 
@@ -82,7 +82,7 @@ module _ {K V S A : Type 0} (eq : K → K → Bool) (hash : K → ℕ) (law : Is
     lawful' : IsLawful (setting_of {V = V} eq (low hash) s'.mode s'.store.words.tables)
     lawful' = (hashed_setting eq hash law s' core').lawful
 
-    -- a pair that a call asks to delete is one of its key
+    -- a call asks to delete only pairs of its key
     buries_own : (t i old new : ℕ) (p : Stored K V) → calls.kind_of_ask m.call ≡ Some kinds.Bury
         → calls.ask_of m.call ≡ Ask_exchange (Slot t i) old new → now.slot t i ≡ Live p → pair_of old ≡ p.number → eq p.key k ≡ true
     buries_own t i old new p kind ask live number =
@@ -94,7 +94,7 @@ module _ {K V S A : Type 0} (eq : K → K → Bool) (hash : K → ℕ) (law : Is
         let same : p ≡ taken.pair = cc in
         ap (λ (q : Stored K V). eq q.key k) same ∙ hashed.lawful.back k taken.pair.key taken.same
 
-    -- the event of a step moves the map as it tells
+    -- the event of a step describes how the map changes
     pub moved : Moves eq k m.call.task (call_traces c).loaded.call.made (replay eq es) (replay eq (es ++ step.made)) event
     moved =
         let split = step.call.split in
@@ -138,7 +138,7 @@ module _ {K V S A : Type 0} (eq : K → K → Bool) (hash : K → ℕ) (law : Is
       others = λ j e. map_after j ∙ u.others j e ∙ sym (map_before j);
     }
 
-    -- a pair that comes has a number that no pair of the map has
+    -- a pair that is put in has a number that no pair of the map has
     came_fresh : change_in m.call.state ≡ None → (went came : Option (Stored K V)) → MayPut k m.call.task (call_traces c).loaded.call.made went came
         → IsFresh came (map_of eq s ∷ [])
     came_fresh none went None may = tt
@@ -154,11 +154,11 @@ module _ {K V S A : Type 0} (eq : K → K → Bool) (hash : K → ℕ) (law : Is
     order = in_order g coding (call_traces c).begun (call_traces c).since k m (call_traces c).loaded now x.answer step.made step.loaded
         step.call.relies step.told
 
-    -- what the machine made of the answer, it changed
+    -- the machine's change after the answer follows from its ask, the answer and its change before
     pub changed : change_in (after m x.answer).call.state ≡ changed_by (kind_of_ask m) (ask_of m) x.answer (change_in m.call.state)
     changed = chain_changes g coding k now m (call_traces c).loaded x.answer step.made step.loaded order step.told hashed step.call.relies.call.hash
 
-    -- a change is what the call intends
+    -- a change is the one that the call intends
     intended : (kind : StepKind) (old new : Option ℕ) → event_of (kind_of_ask m) (ask_of m) x.answer ≡ Changed kind old new
         → (went came : Option (Stored K V)) → number_in came ≡ new → MayPut k m.call.task (call_traces c).loaded.call.made went came
         → Intends s.store (works.Call x.before) old (operation_for came)
@@ -187,7 +187,8 @@ module _ {K V S A : Type 0} (eq : K → K → Bool) (hash : K → ℕ) (law : Is
         closure (Some p) None may is = may
         closure None None may is = absurd may
 
-    -- A change is one that a call of this key and of the machine's kind makes: an insertion of the pair that comes, or a removal.
+    -- A change is one that a call of this key and of the machine's kind makes: it inserts the new
+    -- pair, or removes one.
     made_by : (call : Call K V A) → key_of call ≡ Some k → task_of_call call ≡ Some m.call.task → (old new : Option ℕ) → IsChanger m.call.task
         → change_in m.call.state ≡ None → (went came : Option (Stored K V)) → IsUpdate eq k went came (replay eq es) (replay eq (es ++ step.made))
         → number_in went ≡ old → number_in came ≡ new → MayPut k m.call.task (call_traces c).loaded.call.made went came
@@ -239,7 +240,7 @@ module _ {K V S A : Type 0} (eq : K → K → Bool) (hash : K → ℕ) (law : Is
         (subst HasClosure is closure)
     own_change task is old new changes inserts none None None update went_is came_is may intends = absurd may
 
-    -- so a step moves the core's map
+    -- by this a step changes the core's map
     moves_core : (e : Event) → e ≡ event_of (kind_of_ask m) (ask_of m) x.answer
         → Moves eq k m.call.task (call_traces c).loaded.call.made (replay eq es) (replay eq (es ++ step.made)) e → MovesMap eq s c s' e
     moves_core (Changed kind old new) is moved =
@@ -259,7 +260,7 @@ module _ {K V S A : Type 0} (eq : K → K → Bool) (hash : K → ℕ) (law : Is
     pub advance_moves : MovesMap eq s c s' event
     advance_moves = moves_core event x.event_is moved
 
-    -- an event that tells no change leaves the map
+    -- an event without a change leaves the map as it is
     stays : (e : Event) → change_by e (change_in m.call.state) ≡ None → MovesMap eq s c s' e → Same (map_of eq s) (map_of eq s')
     stays (Changed kind old new) none moves = absurd (cc none)
     stays Begun none moves = moves
@@ -270,7 +271,8 @@ module _ {K V S A : Type 0} (eq : K → K → Bool) (hash : K → ℕ) (law : Is
     stays Other none moves = moves
     stays (Replied reply) none moves = moves
 
-    -- so where no change was made after it, none was made before it, and it left the map
+    -- if no change has been made after the step, none was made before it, and it left the map as it
+    -- was
     pub unmoved : change_in (after m x.answer).call.state ≡ None → (change_in m.call.state ≡ None) × Same (map_of eq s) (map_of eq s')
     unmoved none = (
       unchanged_before (change_in m.call.state) (kind_of_ask m) (ask_of m) x.answer (chain_once m) (sym changed ∙ none),

@@ -28,7 +28,7 @@ use Rattle.papaya_core_store.specs.declared.pairs.Part.{Part}
 use Rattle.papaya_core_store.specs.declared.pairs.Part.TheVariants.{Own}
 use Rattle.papaya_core_store.specs.Pairs.{value_in}
 
--- the task of a call on a key; one on no key looks for nothing
+-- the task of a call on a key; a call on no key has the task of a lookup
 abbrev pub the_task : {K V A : Type 0} → Call K V A → Task
 the_task (Get k) = tasks.Get
 the_task (Insert k v) = tasks.Insert true
@@ -41,7 +41,7 @@ the_task Clear = tasks.Get
 the_task (Retain a) = tasks.Get
 the_task Walk = tasks.Get
 
--- it is the call's own, where the call has one
+-- it is the call's own, if the call has one
 pub task_is_own : {K V A : Type 0} (call : Call K V A) (task : Task) → task_of_call call ≡ Some task → task ≡ the_task call
 task_is_own (Get k) task e = sym (same_item tasks.Get task e)
 task_is_own (Insert k v) task e = sym (same_item (tasks.Insert true) task e)
@@ -76,7 +76,7 @@ module _ {K V A : Type 0} (hash : K → ℕ) (mode : Mode) (initial number : ℕ
     pub has : HasAnswers scan (answers_of_call call)
     pub is : v ≡ scanner_begun mode.resize initial number scan (answers_of_call call)
 
-  -- what was put into a seat is what it is
+  -- the work in a seat is the work that was put there
   same_call : (q r : Running K V A) (w : Work K V A) → w ≡ works.Call q → w ≡ works.Call r → r ≡ q
   same_call q r w is e = sym (same_item q r (ap (λ (w : Work K V A). call_in (Some w)) (sym is ∙ e)))
 
@@ -203,12 +203,12 @@ module _ {K V A : Type 0} (hash : K → ℕ) (mode : Mode) (initial number : ℕ
         (scanner_begun mode.resize initial number scans.Walk None) v _ refl e;
   }
 
--- a call that begins stands on nothing that its closure said
+-- a call that begins depends on no result of its closure
 pub begun_stands : (task : Task) (hash : ℕ) (mode : ResizeMode) (initial : ℕ) (limit : Option ℕ) (said : ClosureResult)
     → ActsOn (calls.started task hash mode initial limit) said → ⊥
 begun_stands task hash mode initial limit said stands = search rules
 
--- what it was handed is at hand
+-- the value that was passed in is available
 pub handed_there : {K V : Type 0} (log : List (Pair K V)) (o : Option V) (part : Part V) → handed o ≡ Some part → (v : V) × (value_in log part ≡ Some v)
 handed_there log None part e = let f : None ≡ Some part = e in absurd cc
 handed_there {K} {V} log (Some v) part e = let f : Own v ≡ part = same_item (Own v) part e in (v, ap (value_in log) (sym f))

@@ -1,4 +1,4 @@
--- After an exchange of the law fewer changes of its word are left, unless a pair replaces another.
+-- After an exchange of the law fewer changes of its word remain, unless one pair replaces another.
 use Rattle.std.proofs.Common.{◌≡◌, ⊎_elim, ℕ, ◌^◌, ◌==◌, ◌&&◌, ◌<◌, ◌≤◌, Bool, true, cond, Option, Some, refl, sym, ◌∙◌, ap, subst, arith, eq-eqb}
 use Rattle.papaya_call.specs.declared.ask.At.{At}
 use Rattle.papaya_call.specs.declared.ask.At.TheVariants.{Root, Next, Aborted, Done, Slot, Made}
@@ -17,7 +17,7 @@ use Rattle.papaya_core_timeline.specs.Ends.{changes_of, changes_of_word, links_o
 use Rattle.papaya_core_timeline.proofs.BudgetTables.{IsChunkOf, changes_at}
 use Rattle.papaya_core_timeline.proofs.CallersLemmas.{differs}
 
--- the changes are fewer, or for a pair that takes the place of another, or a number that is taken, as many
+-- fewer changes remain; for a pair that replaces another, or a number that is taken, as many remain
 abbrev pub IsFewer : Option StepKind → (later before : ℕ) → Type 0
 IsFewer (Some kinds.Replace) later before = later ≡ before
 IsFewer (Some kinds.Take) later before = later ≡ before
@@ -38,12 +38,12 @@ module _ {K P : Type 0} (g : Setting K P) (c : Coding K P) (s : State P) (tables
       ∙ ap (λ b. changes_of_word (code g c (cond b w (s.slot t x)))) (ap (λ b. b && (x == x)) (eq-eqb t t refl) ∙ eq-eqb x x refl)
       ∙ ap changes_of (code_kind g c w)
 
-  -- they are fewer where the word's kind has fewer
+  -- they are fewer if the word's kind has fewer
   slot_fewer : (t x new : ℕ) (v w : Word P) → s.slot t x ≡ v → new ≡ word_of g c (slot_put s t x w) (Slot t x)
       → changes_of (kind w) < changes_of (kind v) → changes_of_word new < changes_of_word (word_of g c s (Slot t x))
   slot_fewer t x new v w was is less = let before = slot_before t x v was in let later = slot_after t x new w is in omega (arith, before, later, less)
 
-  -- what a call asks for; a table that it opens was made
+  -- an exchange of a call; a table that it opens was made
   pub call_fewer : (kind : Option StepKind) (at : At) (new : ℕ) (loaded : LoadedPairs P) (k : K) (e : Exchange P)
       → IsAsked g c k kind at new s loaded e → Allows g s e → new ≡ word_of g c (after s e) at → (at ≡ Root → new ≤ tables)
       → IsFewer kind (changes_at tables at new) (changes_at tables at (word_of g c s at))
@@ -62,7 +62,7 @@ module _ {K P : Type 0} (g : Setting K P) (c : Coding K P) (s : State P) (tables
       slot_fewer t x new (Live p) (Buried p) live (subst (λ y. new ≡ word_of g c (after s y) (Slot t x)) is written) (omega arith)
   call_fewer _ _ new loaded k e is may written made = absurd is
 
-  -- a call asks for no word of a chunk
+  -- a call exchanges no word of a chunk
   pub call_chunk : (kind : Option StepKind) (at : At) (new : ℕ) (loaded : LoadedPairs P) (k : K) (e : Exchange P)
       → IsAsked g c k kind at new s loaded e → IsChunkOf at
   call_chunk (Some kinds.Open) Root new loaded k e is = tt
@@ -74,7 +74,7 @@ module _ {K P : Type 0} (g : Setting K P) (c : Coding K P) (s : State P) (tables
 
   module _ (sound : IsSound g s) (sizes : (t : ℕ) → g.size t ≤ 2 ^ 32) (cut : (x : ℕ) → g.chunk_of x ≤ x)
       (low : (t : ℕ) → IsOn s.first s.next t → t ≤ tables) where
-    -- a table to which the root goes is a later one
+    -- a new root has a greater number than the old one
     promoted : (n : ℕ) → Allows g s (Promote s.root n) → (s.root < n) × (n ≤ tables)
     promoted n may =
         let made = may.made in
@@ -84,7 +84,7 @@ module _ {K P : Type 0} (g : Setting K P) (c : Coding K P) (s : State P) (tables
         may.target.over in
         (next.1, low n next.0)
 
-    -- what a copier asks for
+    -- an exchange of a copier
     pub copy_fewer : (kind : Option StepKind) (at : At) (new : ℕ) (kept : Option P) (e : Exchange P) → IsCopyAsked c kind at new s kept e
         → Allows g s e → new ≡ word_of g c (after s e) at → changes_at tables at new < changes_at tables at (word_of g c s at)
     copy_fewer (Some kinds.Link) (Next t) new kept e is may written =

@@ -1,4 +1,4 @@
--- An answered ask spends of the budget what the law of a call alone requires.
+-- An answered ask spends as much of the budget as the law of a lone call requires.
 use Rattle.std.proofs.Common.{◌≡◌, ◌⊎◌, inl, inr, ℕ, ◌+◌, ◌-◌, ◌^◌, ◌==◌, ◌<◌, ◌≤◌, Bool, true}
 use Rattle.std.proofs.Common.{Option, Some, None, List, [], ◌∷◌, ◌++◌, length, refl, sym, ◌∙◌, ap}
 use Rattle.std.proofs.Common.{subst, arith, eqb-true, length-append}
@@ -66,12 +66,12 @@ module _ (w : Tables) (at : At) (new : ℕ) (placed : IsPlaced w.tables at) (chu
   write_tables : (budget_in (put w at new)).tables ≡ (budget_in w).tables
   write_tables = ap (λ n. 2 ^ 32 - n) (placed-many w at new placed)
 
-  -- it spends an exchange where its word may change less often then
+  -- it spends an exchange if its word may change less often after it
   pub write_spends : changes_at (length w.tables) at new < changes_at (length w.tables) at (word_at w at)
       → ((budget_in (put w at new)).tables ≡ (budget_in w).tables) × ((budget_in (put w at new)).exchanges < (budget_in w).exchanges)
   write_spends less = (write_tables, let change = placed-changes w at new placed chunk_is in omega (arith, change, less))
 
-  -- and leaves the budget where it may change as often
+  -- and leaves the budget if it may change as often
   write_leaves : changes_at (length w.tables) at new ≡ changes_at (length w.tables) at (word_at w at) → budget_in (put w at new) ≡ budget_in w
   write_leaves same =
       let many = write_tables in
@@ -142,12 +142,12 @@ module _ {K V S A : Type 0} (eq : K → K → Bool) (hash : K → ℕ) (law : Is
         subst (λ n. IsSize n limit) (sym (ap slots_in made.1)) (subst (IsSize (length made.0.slots)) same (core.sizes t made.0 made.1));
   }
 
-  -- after any answer the budget's exchanges are within a bound
+  -- after any answer the exchanges in the budget are within a bound
   pub budget_bounded : (budget_of store).exchanges < 2 ^ 128
   budget_bounded = exchanges_few store.words kept.tables_few (λ n t there. (core.sizes n t there).most)
 
   module _ (store' : StoreState K V S) where
-    -- the budget after an answer that leaves the words
+    -- the budget after an answer that leaves the words as they are
     pub same_words : store' ≡ store → budget_of store' ≡ budget_of store
     same_words same = ap (λ (y : StoreState K V S). budget_of y) same
 
@@ -166,7 +166,7 @@ module _ {K V S A : Type 0} (eq : K → K → Bool) (hash : K → ℕ) (law : Is
         (subst (λ (y : StoreState K V S). (budget_of y).tables < (budget_of store).tables) (sym grown)
         (made_spends store.words (length store.words.tables + 1) slots limit chunks few)))
 
-    -- what is asked for a copy, where an exchange that is made spends one
+    -- asks of a copy, if each exchange that is made spends one
     module _ (hashes : S → K → ℕ) (refuse : Bool) where
       -- an exchange that was made spends one
       abbrev pub IsSpentAt : At → ℕ → Type 0
@@ -200,7 +200,7 @@ module _ {K V S A : Type 0} (eq : K → K → Bool) (hash : K → ℕ) (law : Is
           (λ y. SpendsCopy (copies.MakeTable slots limit chunks) (answers.Call y) (budget_of store) (budget_of store')) (λ n less. less)
           (λ refused same. same) makes))
 
-  -- an exchange of a copy that was made, wherever it was asked for
+  -- an exchange that was made for a copy, whichever machine asked for it
   pub copy_spent : (at : At) (new : ℕ) (kind : _) (kept_pair : Option (Stored K V)) (e : Exchange (Stored K V))
       → IsCopyAsked c kind at new now kept_pair e → Allows g now e → IsWritten g c now at new (state_after now e) → IsPlaced store.words.tables at
       → ((budget_in (put store.words at new)).tables ≡ (budget_of store).tables) × ((budget_in (put store.words at new)).exchanges < (budget_of store).exchanges)
@@ -270,12 +270,12 @@ module _ {K V S A : Type 0} (eq : K → K → Bool) (hash : K → ℕ) (law : Is
           (λ miss lost. subst (λ y. SpendsCall (kind_of_ask r.machine) (Ask_exchange at old new) y (budget_of store) (budget_of store')) (sym lost.0)
           (same_words store' lost.1))
 
-      -- a key, a value or a pair takes none
+      -- making a key, a value or a pair spends nothing
       logged_spends : (told : Call_answer) → LogsOrNot store r told store' later → budget_of store' ≡ budget_of store
       logged_spends told (inl (unlogged, stays)) = same_words store' stays.0
       logged_spends told (inr (key, left, (value, has, is, few, grown, moved))) = ap (λ (y : StoreState K V S). budget_of y) grown
 
-      -- what a call asks
+      -- each ask of the call itself
       spends_call : (ask : Call_ask) → ask_of r.machine ≡ asks.Call ask → (told : Call_answer) → Performs eq says refuse ask store r told store' later
           → SpendsCall (kind_of_ask r.machine) ask told (budget_of store) (budget_of store')
       spends_call (Load at) e told (is, stays) = same_words store' stays.0
@@ -300,14 +300,14 @@ module _ {K V S A : Type 0} (eq : K → K → Bool) (hash : K → ℕ) (law : Is
       spends_call (AddToShard by) e told (is, (number, grown), as_was) = ap (λ (y : StoreState K V S). budget_of y) grown
       spends_call (Ask_done reply) e told (is, stays) = same_words store' stays.0
 
-      -- and what is asked for its copy
+      -- each ask of its copy
       module _ (hashes : S → K → ℕ) where
         spends_for_copy : (ask : CopyAsk) → ask_of r.machine ≡ asks.Copy ask → (answer : Answer)
             → PerformsCopy eq hashes refuse ask store answer store' → SpendsCopy ask answer (budget_of store) (budget_of store')
         spends_for_copy ask e answer h = copied_spends store' hashes refuse ask
             (λ at old new is hit. copy_exchanges at old new (e ∙ ap asks.Copy is) hit) answer h
 
-        -- each answer
+        -- each ask
         pub performs_spends : (ask : Ask) → ask_of r.machine ≡ ask → (answer : Answer)
             → PerformsAsk eq says hashes refuse ask store r answer store' later → Spends (kind_of_ask r.machine) ask answer (budget_of store) (budget_of store')
         performs_spends (asks.Call ask) e answer

@@ -1,4 +1,5 @@
--- What a write of a word and the making of a table spend, and how much may be spent at most.
+-- How much of the budget a write of a word and a new table spend, and the greatest amount there is
+-- to spend.
 use Rattle.std.proofs.Common.{◌≡◌, ℕ, suc, ◌+◌, ◌-◌, ◌^◌, ◌==◌, ◌<◌, ◌≤◌, Bool, true, false, cond}
 use Rattle.std.proofs.Common.{List, length, slice_get, slice_set, slice_index, sum_by, take, All}
 use Rattle.std.proofs.Common.{Some, refl, sym, ◌∙◌, ap, subst, arith, length-set, length-take}
@@ -21,7 +22,7 @@ use Rattle.papaya_core_timeline.proofs.CallersLemmas.{differs}
 use Rattle.papaya_core_timeline.proofs.KeptTables.{IsPlaced, done-written, put-table, table_at, table_there}
 use Rattle.papaya_core_timeline.proofs.KeptHints.{by-table, hinted-same}
 
--- how often the word at a place may still change, in so many tables
+-- how often the word at an address may still change, given the number of tables
 abbrev pub changes_at : (tables : ℕ) → At → ℕ → ℕ
 changes_at tables Root word = tables - word
 changes_at tables (Next t) word = links_of word
@@ -31,7 +32,7 @@ changes_at tables (Slot t x) word = changes_of_word word
 -- numbers for pairs have a limit of their own
 changes_at tables Made word = 0
 
--- what an item of a list adds to its sum, where another takes its place
+-- how an item of a list contributes to the sum if it replaces another
 pub sum-set : {X : Type 0} (f : X → ℕ) (xs : List X) (i : ℕ) (x y : X) → slice_get xs i ≡ Some x → sum_by f (slice_set xs i y) + f x ≡ sum_by f xs + f y
 sum-set f xs i x y there =
     let within = slice_get_within xs i x there in
@@ -39,7 +40,7 @@ sum-set f xs i x y there =
     let same = sum_by-set f xs i y x within in
     ap (λ z. sum_by f (slice_set xs i y) + f z) (sym was) ∙ same
 
--- and what a word of a list of words adds
+-- and how a word contributes to the sum over a list of words
 pub sum-set_word : (f : ℕ → ℕ) (xs : List ℕ) (i y : ℕ) → i < length xs → sum_by f (slice_set xs i y) + f (slice_index xs i) ≡ sum_by f xs + f y
 sum-set_word f xs i y within = sum_by-set f xs i y 0 within
 
@@ -47,7 +48,7 @@ sum-set_word f xs i y within = sum_by-set f xs i y 0 within
 all_within : {X : Type 0} (f : X → ℕ) (m : ℕ) (xs : List X) → ((x : X) → f x ≤ m) → All (λ x. f x ≤ m) xs
 all_within f m xs h = λ k d lt. h _
 
--- the same of so many of the first words
+-- the same for the first `n` words
 sum-set_first : (f : ℕ → ℕ) (n : ℕ) (xs : List ℕ) (i y : ℕ) → i < length xs → i < n
     → sum_by f (take n (slice_set xs i y)) + f (slice_index xs i) ≡ sum_by f (take n xs) + f y
 sum-set_first f n xs i y within first =
@@ -58,14 +59,14 @@ sum-set_first f n xs i y within first =
     ∙ ap (λ z. sum_by f (slice_set (take n xs) i y) + f z) (sym same)
     ∙ sum_by-set f (take n xs) i y 0 here
 
--- so many words change as often at most
+-- `n` words change at most `n` times
 first_few : (n : ℕ) (xs : List ℕ) → sum_by copies_of (take n xs) ≤ n
 first_few n xs =
     let words = sum_by-le copies_of 1 (take n xs) (all_within copies_of 1 (take n xs) (λ word. omega arith)) in
     let few : length (take n xs) ≤ n = subst (λ m. m ≤ n) (sym (length-take n xs)) (min-le_left n (length xs)) in
     omega (arith, words, few)
 
--- of the words of chunks one was set
+-- a word of a chunk was set
 copies-set : (done : List ℕ) (chunk word : ℕ) → chunk < length done → chunk < 2 ^ 32
     → copies_in (slice_set done chunk word) + copies_of (slice_index done chunk) ≡ copies_in done + copies_of word
 unfolding copies_in
@@ -96,7 +97,7 @@ module _ (w : Tables) (at : At) (n word : ℕ) (t : TableWords) (there : table_o
       (λ m. sum_by exchanges_of (slice_set w.tables (n - 1) (written at t word)) + (m - w.root)) many in
       omega (arith, same, is, root)
 
-  -- where the table's own change is told
+  -- if the change of the table itself is known
   put-changes : (before later : ℕ) → exchanges_of (written at t word) + before ≡ exchanges_of t + later
       → exchanges_in (put_at at n w word) + before ≡ exchanges_in w + later
   put-changes before later change = let all = put-sum in omega (arith, all, change)
@@ -155,7 +156,7 @@ few_links : (b : Bool) → cond b 1 0 ≤ 1
 few_links true = omega arith
 few_links false = omega arith
 
--- the words of a table of so many slots change so often at most
+-- a table with at most 2^32 slots has at most 2^35 exchanges left
 pub few_exchanges : (t : TableWords) → length t.slots ≤ 2 ^ 32 → exchanges_of t ≤ 2 ^ 35
 few_exchanges t most =
     let slots = sum_by-le changes_of_word 3 t.slots (all_within changes_of_word 3 t.slots (λ word. few_changes (kind_of word))) in
@@ -163,7 +164,7 @@ few_exchanges t most =
     let words = few_copies t.done in
     omega (arith, slots, link, words)
 
--- All words change less often than a bound, where tables are few and have sizes of tables.
+-- The words have fewer changes left than a bound, if tables are few and have sizes of tables.
 pub exchanges_few : (w : Tables) → length w.tables ≤ 2 ^ 32 → ((n : ℕ) (t : TableWords) → table_of w.tables n ≡ Some t → length t.slots ≤ 2 ^ 32)
     → exchanges_in w < 2 ^ 128
 exchanges_few w few sizes =

@@ -1,4 +1,4 @@
--- What each caller has under way, and how it is taken out of its seat and put back.
+-- The work that each caller has under way, and how it is taken out of its seat and put back.
 use Rattle.std.proofs.Common.{◌≡◌, ◌≢◌, ℕ, zero, suc, ◌<◌, ◌≤◌, ◌==◌, Bool, true, false, cond, List}
 use Rattle.std.proofs.Common.{[], ◌∷◌, length, slice_get, slice_set, Option, Some, None, refl, sym}
 use Rattle.std.proofs.Common.{◌∙◌, ap, subst, arith, ⊎_elim, eq-eqb, eqb-true, ◌++◌, IsSome}
@@ -15,7 +15,7 @@ use Rattle.papaya_core_timeline.specs.Callers.{scanner_in, working, with_call, w
 use Rattle.papaya_core_timeline.specs.Callers.{IsSeated, IsSeatAt}
 use Rattle.papaya_core_store.specs.declared.scans.Scanning.{Scanning}
 
--- what a place of a list has, it has alone
+-- two equal `Some` have equal items
 pub same_item : {A : Type 0} (x y : A) → Some x ≡ Some y → x ≡ y
 same_item x y e = cc
 
@@ -25,7 +25,7 @@ item_there [] i lt = absurd (omega arith)
 item_there (x ∷ xs) zero lt = (x, refl)
 item_there (x ∷ xs) (suc i) lt = item_there xs i (omega arith)
 
--- what is there isn't nothing
+-- a value that is there is not `None`
 pub not_none : {A : Type 0} (o : Option A) → is_some o ≡ true → o ≡ None → ⊥
 not_none o some none = let f : false ≡ true = sym (ap is_some none) ∙ some in cc
 
@@ -172,7 +172,7 @@ module _ {K V A : Type 0} where
   working-same [] caller work r e = let f : None ≡ Some r = e in cc
   working-same (x ∷ xs) caller work r e = same-first x xs (with_work xs caller work) caller work r (x.caller == caller) refl (working-same xs caller work r) e
 
-  -- of two calls put into one seat the second stays
+  -- if two calls are put into one seat, the second remains
   twice-first : (x : Seat K V A) (xs once : List (Seat K V A)) (caller : ℕ) (first second : Option (Work K V A)) (b : Bool) → (x.caller == caller) ≡ b
       → with_work once caller second ≡ with_work xs caller second
       → with_work (cond b (record x { work = first } ∷ xs) (x ∷ once)) caller second ≡ cond b (record x { work = second } ∷ xs) (x ∷ with_work xs caller second)
@@ -187,7 +187,7 @@ module _ {K V A : Type 0} where
   with_work-twice (x ∷ xs) caller first second = twice-first x xs (with_work xs caller first) caller first second (x.caller == caller) refl
       (with_work-twice xs caller first second)
 
-  -- what is under way, where a call on one key is, or one that resizes the map
+  -- the work under way is this call on one key, or a call that resizes the map
   pub call-under_way : (work : Option (Work K V A)) (r : Running K V A) → call_in work ≡ Some r → work ≡ Some (Call r)
   call-under_way None r e = let f : None ≡ Some r = e in cc
   call-under_way (Some (Call q)) r e = ap (λ (y : Running K V A). Some (Call y)) (same_item q r e)
@@ -232,7 +232,7 @@ module _ {K V A : Type 0} where
       → running (with_call seats caller call) other ≡ running seats other
   running-other seats caller other call differ = running-elsewhere seats caller other (as_work call) differ
 
-  -- a caller's work is what was put into its seat
+  -- a caller's work is the work that was put into its seat
   pub running-here : (seats : List (Seat K V A)) (caller : ℕ) (work : Option (Work K V A)) (r : Running K V A)
       → running (with_work seats caller work) caller ≡ Some r → work ≡ Some (Call r)
   running-here seats caller work r e = working-same seats caller work (Call r) (call-under_way (working (with_work seats caller work) caller) r e)
@@ -253,7 +253,7 @@ module _ {K V A : Type 0} where
       none None e = refl
       none (Some w) e = let f : None ≡ Some w = working-same seats caller None w e in absurd cc
 
-  -- what a caller has under way then it had before
+  -- work that a caller has under way afterwards, it had before
   pub left-working : (seats : List (Seat K V A)) (caller other : ℕ) (w : Work K V A) → working (with_work seats caller None) other ≡ Some w
       → (other ≢ caller) × (working seats other ≡ Some w)
   left-working seats caller other w e =
@@ -261,7 +261,7 @@ module _ {K V A : Type 0} where
       ∙ ap (working (with_work seats caller None)) (sym same) ∙ e in absurd cc) in
       (differ, sym (working-other seats caller other None differ) ∙ e)
 
-  -- so it is with a call on one key, and then there is no resizer, and no scanner
+  -- the same for a call on one key; then it is no resizer and no scanner
   pub call-put : (call : Option (Running K V A)) (r : Running K V A) → as_work call ≡ Some (Call r) → call ≡ Some r
   call-put None r e = let f : None ≡ Some (Call r) = e in cc
   call-put (Some q) r e = ap call_in e

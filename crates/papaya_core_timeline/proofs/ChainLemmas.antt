@@ -1,4 +1,4 @@
--- What holds of a machine over a chain of tables while it asks what its call asks.
+-- Facts about a machine over a chain of tables while it passes on the asks of its call.
 use Rattle.std.proofs.Common.{◌≡◌, inl, inr, ℕ, Option, None, Some, sym, ◌∙◌, ap, subst}
 use Rattle.papaya_call.specs.declared.ask.At.{At}
 use Rattle.papaya_call.specs.declared.ask.Ask.{Ask as Call_ask}
@@ -33,12 +33,12 @@ use Rattle.papaya_core_timeline.specs.Advances.{call_event, event_of}
 use Rattle.papaya_core_timeline.proofs.MachineLemmas as call_laws
 use Rattle.papaya_core_timeline.proofs.StepTells.{Tells, event_tells}
 
--- a machine that asks for its call asks what its call asks, and of its kind
+-- if a machine asks for its call, the ask and its kind are those of the call
 pub own_asks : (m : Machine) (ask : Call_ask) → ask_of m ≡ asks.Call ask → (m.phase ≡ Calling) × (calls.ask_of m.call ≡ ask)
     × (kind_of_ask m ≡ calls.kind_of_ask m.call)
 own_asks m ask e = let is = call_asks m ask e in (is.0, is.1, ap (kind_in m.call) is.0)
 
--- and one that is not set aside asks so
+-- a machine that is not set aside asks for its call
 pub asks_own : (m : Machine) → m.phase ≡ Calling → ask_of m ≡ asks.Call (calls.ask_of m.call)
 asks_own m calling = ap (λ p. asks_in m.call p) calling
 
@@ -67,17 +67,17 @@ pub chain_changer : (m : Machine) → IsValid m → (kind : StepKind) (old new :
 chain_changer m stands kind old new answer e = let (told, is) = changes_own m kind old new answer e in
     call_laws.machine_changes m.call stands.call kind old new told is
 
--- and where a pair comes, that of one that inserts
+-- if it puts in a pair, it is an exchange of a call that inserts
 pub chain_inserts : (m : Machine) → IsValid m → (kind : StepKind) (old : Option ℕ) (n : ℕ) (answer : Answer)
     → event_of (kind_of_ask m) (ask_of m) answer ≡ Changed kind old (Some n) → MayInsert m.call.task
 chain_inserts m stands kind old n answer e = let (told, is) = changes_own m kind old (Some n) answer e in
     call_laws.machine_inserts m.call stands.call kind old n told is
 
--- a call that is set aside loads the number of a table, and asks nothing else
+-- a call that is set aside loads the number of a table, and asks for nothing else
 aside : (m : Machine) (t : ℕ) → left_by m.call.state ≡ Some t → (ask : Call_ask) → calls.ask_of m.call ≡ ask → (ask ≡ Load (Next t))
 aside m t left ask e = sym e ∙ aside_asks m.call.made m.call.hash m.call.state t left
 
--- so one that asks for an exchange goes on by its answer
+-- a call that asks for an exchange is not set aside and continues with the answer
 pub own_exchange : (m : Machine) (answer : Answer) → Goes m answer → (at : At) (old new : ℕ) → calls.ask_of m.call ≡ Ask_exchange at old new
     → IsOwnStep m answer
 own_exchange m answer (inl waits) at old new e = absurd (cc (aside m waits.from waits.left (Ask_exchange at old new) e))
@@ -86,7 +86,7 @@ own_exchange m answer (inr (inr (inl enters))) at old new e = absurd (cc (aside 
 own_exchange m answer (inr (inr (inr (inl begins)))) at old new e = absurd (cc (aside m begins.from begins.left (Ask_exchange at old new) e))
 own_exchange m answer (inr (inr (inr (inr ends)))) at old new e = absurd (cc (aside m ends.from ends.left (Ask_exchange at old new) e))
 
--- a change is what the closure of its call said
+-- a change is the result of the call's closure
 pub chain_changed : (m : Machine) (answer : Answer) → Goes m answer → IsValid m → (at : At) (from to : ℕ)
     → ask_of m ≡ asks.Call (Ask_exchange at from to) → (old new : Option ℕ) → change_in (after m answer).call.state ≡ Some (old, new)
     → IsResultChange m.call.task m.call old new
@@ -94,13 +94,13 @@ chain_changed m answer goes stands at from to e old new change =
     let own = own_exchange m answer goes at from to (own_asks m (Ask_exchange at from to) e).1 in
     machine_changed m.call own.told old new stands.call (chain_once m at from to e) (sym (ap (λ (d : Call_machine). change_in d.state) own.call) ∙ change)
 
--- a call that was told of the root doesn't abort
+-- a call that is given a root does not abort
 anew_goes_on : (m : Machine) (root with : ℕ)
     → calls.asks m.call.made m.call.hash (calls.at_root m.call.task m.call.remembered.fill root) ≡ Ask_done (Aborted with) → ⊥
 anew_goes_on m root with = anew (λ stage. calls.asks m.call.made m.call.hash stage ≡ Ask_done (Aborted with) → ⊥) (λ e. absurd (cc e))
     (λ e. absurd (cc e)) (λ e. absurd (cc e)) (λ t e. absurd (cc e)) m.call.task m.call.remembered.fill root
 
--- a call aborts where its closure did
+-- a call aborts if its closure did
 pub chain_aborted : (m : Machine) (answer : Answer) → Goes m answer → (with : ℕ) → ((reply : Reply) → ask_of m ≡ asks.Call (Ask_done reply) → ⊥)
     → ask_of (after m answer) ≡ asks.Call (Ask_done (Aborted with)) → (shown : Option ℕ) × (ask_of m ≡ asks.Call (show shown))
     × (answer ≡ answers.Call (Op (op_kinds.Abort with)))
@@ -109,7 +109,7 @@ chain_aborted m answer goes with open_still e = by_goes goes
     done : calls.ask_of (after m answer).call ≡ Ask_done (Aborted with)
     done = (own_asks (after m answer) (Ask_done (Aborted with)) e).1
 
-    -- what the call asks then
+    -- the next ask of the call
     then : (d : Call_machine) → (after m answer).call ≡ d → calls.ask_of d ≡ Ask_done (Aborted with)
     then d is = ap (λ y. calls.ask_of y) (sym is) ∙ done
 

@@ -1,4 +1,5 @@
--- An answered ask of a copy, whoever asks: a call on one key that is set aside, or a call that resizes the map.
+-- An answered ask of a copy, whoever makes it: a call on one key that is set aside, or a call that
+-- resizes the map.
 use Rattle.std.proofs.Common.{◌≡◌, ℕ, ◌%◌, ◌^◌, ◌+◌, ◌==◌, ◌<◌, ◌≤◌, Bool, List, [], ◌∷◌, ◌++◌}
 use Rattle.std.proofs.Common.{length, slice_get, Option, None, Some, inl, inr, ◌⊎◌, refl, sym, ◌∙◌}
 use Rattle.std.proofs.Common.{ap, subst, arith, MatchBool, append-nil, eqb-true, length-append}
@@ -64,7 +65,8 @@ module _ {Q K V S : Type 0} (g : Setting Q (Stored K V)) (c : Coding Q (Stored K
   abbrev now : State (Stored K V)
   now = run es start
 
-  -- What an answer leaves, of which this was told: no pair and no table is gone, the words are those that the exchanges leave, and no slot names a pair that none named.
+  -- The effect of an answer with this record: every pair and every table is kept, the words are
+  -- those that the exchanges leave, and no slot names a pair that no slot named before.
   pub record IsLeft (Tells : List (Exchange (Stored K V)) → LoadedPairs (Stored K V) → Type 0) (a : Answer) (store' : StoreState K V S) : Type 0 where
     pub made : List (Exchange (Stored K V))
     pub loaded' : LoadedPairs (Stored K V)
@@ -84,7 +86,7 @@ module _ {Q K V S : Type 0} (g : Setting Q (Stored K V)) (c : Coding Q (Stored K
     -- a table that was made is there
     pub opens : (t : ℕ) → a ≡ answers.Call (Made_number t) → IsMade store' t
 
-  -- no pair is gone from the log
+  -- every pair stays in the arena
   pub left_logged : {Tells : List (Exchange (Stored K V)) → LoadedPairs (Stored K V) → Type 0} {a : Answer} {store' : StoreState K V S}
       → IsLeft Tells a store' → (n : ℕ) (p : Stored K V) → pair_of store n ≡ Some p → pair_of store' n ≡ Some p
   left_logged {Tells} {a} {store'} left n p h = ap (λ l. stored_in l n (slice_get l n)) left.pairs_are ∙ h
@@ -221,7 +223,7 @@ module _ {Q K V S : Type 0} (g : Setting Q (Stored K V)) (c : Coding Q (Stored K
     named_last t x p None e h = inl h
     named_last t x p (Some q) e h = inr (t, x, e ∙ h)
 
-    -- the pair that a copy was told of stood in the slot that was loaded, or it was told of before
+    -- the last pair that a copy loaded was in the slot that was loaded, or had been loaded before
     told_stood : (at : At) (p : Stored K V) → told_last now at loaded.call.last ≡ Some p → (loaded.call.last ≡ Some p) ⊎ Stands now p
     told_stood Root p h = inl h
     told_stood (Next t) p h = inl h
@@ -230,7 +232,9 @@ module _ {Q K V S : Type 0} (g : Setting Q (Stored K V)) (c : Coding Q (Stored K
     told_stood (Done t chunk) p h = inl h
     told_stood (Slot t x) p h = named_last t x p (named (now.slot t x)) refl h
 
-    -- Who asks for this names what is there, and may make the exchange; the table that it follows and the one that it links are there. A hint that it reads, and one that it writes, may be there.
+    -- The machine that asks for this names what is there, and may make the exchange. The table that
+    -- it follows and the one that it links are there. A hint that it reads or writes is one that
+    -- may be there.
     pub record IsAsker (kind : Option StepKind) (follows : ℕ) (ask : CopyAsk) : Type 0 where
       pub names : AreThere g c now loaded.call.last loaded.kept ask
       pub may : (at : At) (old new : ℕ) → ask ≡ Copy_exchange at old new → word_of g c now at ≡ old → (e : Exchange (Stored K V))
@@ -243,7 +247,7 @@ module _ {Q K V S : Type 0} (g : Setting Q (Stored K V)) (c : Coding Q (Stored K
     module _ (eq : K → K → Bool) (hashes : S → K → ℕ) (last : (p : Stored K V) → loaded.call.last ≡ Some p → pair_of store p.number ≡ Some p)
         (carried : (p : Stored K V) → loaded.kept ≡ Some p → pair_of store p.number ≡ Some p) (suits : Suits eq hashes g c store)
         (kind : Option StepKind) (follows : ℕ) where
-      -- what the asker is told
+      -- the record for the machine that asks
       abbrev pub Hears : CopyAsk → Answer → List (Exchange (Stored K V)) → LoadedPairs (Stored K V) → Type 0
       Hears ask a made loaded' = IsTrueOfCopy g c now kind follows loaded ask a made loaded'
 

@@ -54,7 +54,7 @@ use Rattle.papaya_call.specs.Made.{IsLimit}
 pub cases_same : (a b : ℕ) → (a ≡ b) ⊎ (a ≢ b)
 cases_same a b = elim (cases_Bool (a == b)) [ inl same ↦ inl (eqb-true a b same) | inr other ↦ inr (eqb-false a b other) ]
 
--- a machine whose ask has no reply goes on
+-- a machine continues unless its ask is a reply
 pub still_going : (m : Machine) → reply_in (ask_of m) ≡ None → IsGoing m
 still_going m none reply e = let f : Some reply ≡ None = sym (ap reply_in e) ∙ none in cc
 
@@ -63,7 +63,7 @@ pub reply_asked : (ask : Ask) (reply : Reply) → reply_in ask ≡ Some reply �
 reply_asked (asks.Call (Ask_done r)) reply e = let same : r ≡ reply = cc in ap (λ y. asks.Call (Ask_done y)) same
 reply_asked ask reply e = let f : None ≡ Some reply = e in absurd cc
 
--- a call that begins stands, and has not replied
+-- a call that begins is valid, and has not replied
 pub begun-core : {K V A : Type 0} (hash : K → ℕ) (mode : Mode) (initial number : ℕ) (call : Call K V A) → IsChunked mode.resize → IsLimit mode.limit
     → IsPowerOfTwo initial
     → ((r : Running K V A) → begun_work hash mode initial number call ≡ works.Call r → IsValid r.machine × IsGoing r.machine)
@@ -90,7 +90,7 @@ begun-core {K} {V} {A} hash mode initial number call chunked limits power = (
     unreplied resizes.CopyAll = refl
     unreplied (resizes.Reserve more) = refl
 
--- and so does one that scans a table
+-- so is one that scans a table
 pub begun-scanner : {K V A : Type 0} (hash : K → ℕ) (mode : Mode) (initial number : ℕ) (call : Call K V A) → IsChunked mode.resize
     → IsPowerOfTwo initial → (v : Scanning A) → begun_work hash mode initial number call ≡ works.Scan v → scanners.IsValidScanner v.scanner
     × (scanners.reply_of v.scanner ≡ None)
@@ -170,7 +170,7 @@ module _ {K V S A : Type 0} where
     scanners = core.scanners;
   }
 
-  -- so it is with one of a copy
+  -- the same for an ask of a copy
   pub copied-core : (eq : K → K → Bool) (hash : S → K → ℕ) (refuse : Bool) (ask : CopyAsk) (store : StoreState K V S) (callers : List (Seat K V A))
       (mode : Mode) (a : Answer) (store' : StoreState K V S) → IsCore store callers mode → IsFitCopyAsk ask
       → PerformsCopy eq hash refuse ask store a store' → IsCore store' callers mode

@@ -29,7 +29,7 @@ use Rattle.papaya_core_timeline.proofs.KeptMap.{kept_content}
 use Rattle.papaya_core_store.specs.declared.store.Mode.{Mode}
 
 module _ {K V S : Type 0} (store : StoreState K V S) where
-  -- each pair of the list is in the log, under its number
+  -- each pair of the list is in the arena, under its number
   abbrev AllLogged : List (Stored K V) → Type 0
   AllLogged = AllByRecursion (IsInArena store)
 
@@ -122,7 +122,7 @@ module _ {K V S : Type 0} (store : StoreState K V S) where
             (cases_Bool (list_any (λ x. n == x) ns))),
       )
 
-      -- where keys are apart, so are numbers
+      -- pairs with distinct keys have distinct numbers
       numbers_distinct : (ps : List (Stored K V)) → AllLogged ps → AreApart eq (λ p. p.key) ps → IsDistinct ◌==◌ (map (λ p. p.number) ps)
       unfolding IsDistinct
       numbers_distinct [] h apart = tt
@@ -137,7 +137,7 @@ module _ {K V S : Type 0} (store : StoreState K V S) where
         numbers_distinct ps h.1 apart.1,
       )
 
-      -- logged pairs whose keys are apart are no more than the log has
+      -- pairs of the arena with distinct keys are no more than the arena has
       logged_few : (ps : List (Stored K V)) → AllLogged ps → AreApart eq (λ p. p.key) ps → length ps ≤ length store.pairs
       logged_few ps h apart =
           let few = length-le_from_distinct_below (map (λ p. p.number) ps) (length store.pairs) (numbers_distinct ps h apart)
@@ -160,14 +160,14 @@ module _ {K V S : Type 0} (eq : K → K → Bool) (hash : K → ℕ) (mode : Mod
     abbrev now : State (Stored K V)
     now = run es start
 
-    -- in the content no key stands twice
+    -- no two pairs of the content have equal keys
     pub content_apart : AreApart eq (λ p. p.key) (content eq store)
     content_apart =
         subst (AreApart eq (λ p. p.key))
         (sym (kept_content eq hash mode store hashed callers es call_traces kept))
         (chain_apart g hashed.lawful now (map_left g es) (keeping g hashed.lawful es kept.allowed) (length store.words.tables) now.root)
 
-    -- the content is never longer than a log may be
+    -- the content is never longer than the arena may be
     pub content_few : length (content eq store) ≤ MAX_LOG_LEN
     content_few =
         let few = logged_few store eq hashed.lawful.itself (content eq store)

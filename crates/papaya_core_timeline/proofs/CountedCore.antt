@@ -1,4 +1,5 @@
--- A core stays lawful and counted by each step, as the code has it; and its content has each key once.
+-- A core stays lawful and counted after each step, in the terms of the code; and no two pairs of
+-- its content have equal keys.
 use Rattle.std.proofs.Common.{◌≡◌, Bool, ℕ, true, List, Some, refl}
 use Rattle.std.specs.Cmp.{IsEquivalence}
 use Rattle.papaya_call.specs.Answers.{Says}
@@ -57,7 +58,7 @@ module _ {K V S A H : Type 0} (eq : K → K → Bool) (input : K → List (List 
             es call_traces lawful.core core kept counted,
       )
 
-  -- in the content of a core no key stands twice
+  -- no two pairs in the content of a core have equal keys
   pub lawful_apart : (s : CoreState K V S A) → Lawful eq input build write finish classes respects s → AreApart eq (λ p. p.key) (content eq s.store)
   lawful_apart s lawful =
       let law = keys_lawful eq input build write finish classes respects s.store.hasher in

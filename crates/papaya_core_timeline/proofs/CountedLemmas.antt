@@ -49,7 +49,7 @@ pub length_fits : (n : ℕ) → n ≤ 2 ^ 48 → int_wrap w64 (pos n) ≡ pos n
 length_fits n few = int_wrap_fits w64 (pos n) (fits_signed_from_abs w64 (pos n) (omega arith))
 
 module _ {K V S : Type 0} (store : StoreState K V S) (none : store.pairs ≡ []) where
-  -- where the log has no pairs there are none
+  -- an empty arena has no pairs to read
   no_kind : (kd : Kind) (n : ℕ) → pairs_of_kind store kd n ≡ []
   no_kind kinds.Live n = ap (λ l. pairs_of_kind (record store { pairs = l }) kinds.Live n) none
   no_kind kinds.Marked n = ap (λ l. pairs_of_kind (record store { pairs = l }) kinds.Marked n) none
@@ -63,7 +63,7 @@ module _ {K V S : Type 0} (store : StoreState K V S) (none : store.pairs ≡ [])
   no_slots (word ∷ words) = ap (λ l. l ++ pairs_of_slots store words) (no_kind (kind_of word) (number_of word)) ∙ no_slots words
 
   module _ (eq : K → K → Bool) where
-    -- so the tables from one on have none
+    -- so no table from this one on has any
     no_tables : (n : ℕ) (o : Option TableWords) → pairs_from eq store n o ≡ []
     no_tables zero o = refl
     no_tables (suc n) None = refl
@@ -71,11 +71,11 @@ module _ {K V S : Type 0} (store : StoreState K V S) (none : store.pairs ≡ [])
         ap (λ l. joined eq (λ p. p.key) l (pairs_from eq store n (table_of store.words.tables t.next))) (no_slots t.slots)
         ∙ ap (joined eq (λ p. p.key) []) (no_tables n (table_of store.words.tables t.next))
 
-    -- a log of no pairs leaves none to any word
+    -- with an empty arena the content is empty
     pub new_content : content eq store ≡ []
     new_content = no_tables (length store.words.tables) (table_of store.words.tables store.words.root)
 
-    -- a core as it is made: a sum of 0, no callers and no pairs
+    -- a new core has a sum of 0, no callers and no pairs
     pub counted_new : {A : Type 0} (callers : List (Seat K V A)) → store.count.sum ≡ pos 0 → callers ≡ [] → IsCounted eq store callers
     counted_new {A = A} callers sum alone =
         ap (λ z. int_wrap w64 (z +ℤ owed_in callers)) sum
@@ -169,7 +169,7 @@ module _ {K V S A : Type 0} (eq : K → K → Bool) (hash : K → ℕ) (law : Is
       grows (length old) (length new) (length_after g' hashed.lawful (map_left g' es) old new old_apart new_apart old_map e legal
       (λ k. new_map k ∙ ap (λ l. law_map g' (map_left g' es) l k) one))
 
-  -- what the callers owe after the step
+  -- the amount that the callers owe after the step
   owed : owed_in s'.callers +ℤ owed_by (ask_of a.before.machine) ≡ owed_in s.callers +ℤ grown_by (kind_of_ask a.before.machine)
       (ask_of a.before.machine) a.answer
   owed =

@@ -27,7 +27,7 @@ use Rattle.papaya_core_timeline.proofs.KeptLemmas.{IsLawfulKeys, hashed_setting}
 use Rattle.papaya_core_timeline.proofs.KeptResized as resized
 use Rattle.papaya_words_law.proofs.FiniteMaps.{one_length}
 
--- a resizer owes nothing, gone on or not
+-- a resizer owes nothing, whether it continues or not
 owes_nothing : {K V A : Type 0} (reply : Option Reply) (z : Resizer) (w : Work K V A) → w ≡ Resize z → owed_work (goes_on reply w) ≡ pos 0
 owes_nothing None z w is = ap (λ (v : Work _ _ _). owed_work (Some v)) is
 owes_nothing (Some reply) z w is = refl
@@ -37,11 +37,11 @@ module _ {K V S A : Type 0} (eq : K → K → Bool) (hash : K → ℕ) (law : Is
     (x : Resizes eq hashes refuse s caller s' event reply) (hasher : hashes s.store.hasher ≡ hash)
     (es : List (Exchange (Stored K V))) (call_traces : ℕ → CallTrace K V) (core : IsCore s.store s.callers s.mode)
     (core' : IsCore s'.store s'.callers s'.mode) (kept : IsConsistent eq hash s.mode s.store s.callers es call_traces) where
-  -- the work that goes on
+  -- the work that continues
   abbrev resumed : Resizer → Answer → Work K V A
   resumed z a = Resize (after z a)
 
-  -- the callers owe what they owed
+  -- the callers owe as much as before
   owed : owed_in s'.callers ≡ owed_in s.callers
   owed =
       let was = owed-with_work s.callers caller (Resize x.before) (resizer-under_way (working s.callers caller) x.before x.was)

@@ -53,13 +53,13 @@ ended_owes (Showing spot word) reply e = let f : None ≡ Some reply = e in absu
 ended_owes (Burying spot word) reply e = let f : None ≡ Some reply = e in absurd cc
 ended_owes (Uncounting spot) reply e = let f : None ≡ Some reply = e in absurd cc
 
--- what goes on owes what its scanner owes
+-- a scan that continues owes what its scanner owes
 goes_owes : (K V : Type 0) {A : Type 0} (reply : Option Reply) (v : Scanning A) → reply ≡ reply_of v.scanner
     → owed_work {K = K} {V = V} (goes_on reply (works.Scan v)) ≡ owed_scan v.scanner.state
 goes_owes K V None v is = refl
 goes_owes K V (Some reply) v is = sym (ended_owes v.scanner.state reply (sym is))
 
--- only a list that could not grow is not heard of
+-- an answer to an ask of the copy is no refusal of a list
 copy_heard : (o : Option CopyAsk) (ask : ScanAsk) (a : Answer) → copy_asks o ≡ Some ask → list_refusal ask a ≡ None
 copy_heard None ask a e = let f : None ≡ Some ask = e in absurd cc
 copy_heard (Some is) ask a e = ap (λ y. list_refusal y a) (sym (same_item (Copy is) ask e))
@@ -96,7 +96,7 @@ module _ {K V S A : Type 0} (eq : K → K → Bool) (hash : K → ℕ) (law : Is
   abbrev pub Unheard : Type 0
   Unheard = scanned.Unheard eq hash law says hashes refuse s caller s' event reply x hasher es call_traces core kept
 
-  -- what was under way
+  -- the work that was under way
   was_working : working s.callers caller ≡ Some (works.Scan x.before)
   was_working = scanner-under_way (working s.callers caller) x.before x.was
 
@@ -107,7 +107,7 @@ module _ {K V S A : Type 0} (eq : K → K → Bool) (hash : K → ℕ) (law : Is
       (scan_core eq says hashes refuse s.store bare.callers s.mode bare_core x.before (core.scanners caller x.before x.was).0 x.answer s'.store
       x.later x.ask x.asked x.performs).0
 
-  -- what the others owe, and what it owes
+  -- the amount owed by the others, and by this call
   owed_before : owed_in bare.callers +ℤ owed_scan x.before.scanner.state ≡ owed_in s.callers
   owed_before =
       let was = owed-with_work s.callers caller (works.Scan x.before) was_working None in
@@ -136,7 +136,7 @@ module _ {K V S A : Type 0} (eq : K → K → Bool) (hash : K → ℕ) (law : Is
       ∙ counted eq hash bare law bare_core call_traces x.before (scan_trace (call_traces caller)) caller x.answer s'.store x.later bare_core' es
       bare_kept scanning h beside
 
-  -- one that was told nothing owed nothing
+  -- if its list could not grow, the count stays right
   counted_unheard : Unheard → IsCounted eq s.store s.callers → IsCounted eq s'.store s'.callers
   counted_unheard u was =
       let over = scanned.unheard_reply eq hash law says hashes refuse s caller s' event reply x hasher es call_traces core kept u in
@@ -152,7 +152,7 @@ module _ {K V S A : Type 0} (eq : K → K → Bool) (hash : K → ℕ) (law : Is
   counted_scan was = elim (scanned.heard_so eq hash law says hashes refuse s caller s' event reply x hasher es call_traces core kept)
       [ inl u ↦ counted_unheard u was | inr h ↦ counted_heard h was ]
 
-  -- what a step did to the map, by its event
+  -- how the event of the step describes the change of the map
   pub heard_moves : Heard → MovesByScan eq s.store s'.store x.before.scanner.scan (call_traces caller).scan.shown event
   heard_moves h =
       let bare_core = scanned.bare_core eq hash law says hashes refuse s caller s' event reply x hasher es call_traces core kept in
@@ -162,7 +162,7 @@ module _ {K V S A : Type 0} (eq : K → K → Bool) (hash : K → ℕ) (law : Is
       (tells eq hash bare law bare_core call_traces x.before (scan_trace (call_traces caller)) caller x.answer s'.store x.later bare_core' es
       bare_kept scanning h x.ask x.asked)
 
-  -- where it was told nothing, nothing happened
+  -- if its list could not grow, the event of the step is `Other`
   pub unheard_event : Unheard → event ≡ Other
   unheard_event u =
       let gave = Given (pair_of u.giving.1) in

@@ -1,4 +1,4 @@
--- What the calls under way owe to the count, after one of them went on, ended or began.
+-- How much the calls under way owe to the count after one of them continued, ended or began.
 use Rattle.std.proofs.Common.{◌≡◌, ℕ, pos, ◌+ℤ◌, ◌==◌, Bool, true, false, cond, List, [], ◌∷◌, Option, Some, None, refl, sym, ◌∙◌, ap, arith, eq-eqb}
 use Rattle.std.proofs.lemmas.Int.{ints}
 use Rattle.papaya_call.specs.declared.ask.Ask.TheVariants.{Load, Exchange, SameKey, ShowNone}
@@ -19,7 +19,7 @@ use Rattle.papaya_core_timeline.specs.declared.seat.Work.TheVariants.{Call as Ca
 use Rattle.papaya_core_timeline.proofs.CallersLemmas.{call-under_way}
 
 module _ {K V A : Type 0} where
-  -- a machine that asks no more owes nothing
+  -- a machine that has replied owes nothing
   pub owed-goes_on : (ask : Ask) (r : Running K V A) → owed_by (ask_of r.machine) ≡ owed_by ask → owed_of (goes_on (reply_in ask) r) ≡ owed_by ask
   owed-goes_on (Call (Done reply)) r e = refl
   owed-goes_on (Call (Load at)) r e = e
@@ -38,7 +38,7 @@ module _ {K V A : Type 0} where
   owed-goes_on (Call (AddToShard by)) r e = e
   owed-goes_on (Copy ask) r e = e
 
-  -- a caller has other work, and what the old one owed isn't owed any more
+  -- a caller has other work: the debt of the new work takes the place of the debt of the old one
   pub owed-with_work : (seats : List (Seat K V A)) (caller : ℕ) (was : Work K V A) → working seats caller ≡ Some was → (work : Option (Work K V A))
       → owed_in (with_work seats caller work) +ℤ owed_work (Some was) ≡ owed_in seats +ℤ owed_work work
   owed-with_work [] caller was works work = let f : None ≡ Some was = works in cc
@@ -50,7 +50,7 @@ module _ {K V A : Type 0} where
       by_seat true is others = let old : owed_work x.work ≡ owed_work (Some was) = ap owed_work is in omega (arith, ints)
       by_seat false is others = let rest = others is in omega (arith, ints)
 
-  -- so it is with a call on one key
+  -- the same for a call on one key
   pub owed-with_call : (seats : List (Seat K V A)) (caller : ℕ) (r : Running K V A) → running seats caller ≡ Some r → (call : Option (Running K V A))
       → owed_in (with_call seats caller call) +ℤ owed_by (ask_of r.machine) ≡ owed_in seats +ℤ owed_of call
   owed-with_call seats caller r runs call = owed-with_work seats caller (Call_work r) (call-under_way (working seats caller) r runs) (as_work call)
@@ -60,7 +60,7 @@ module _ {K V A : Type 0} where
       as_was None = refl
       as_was (Some r) = refl
 
-  -- a caller that had no work begins some
+  -- a caller that had no work begins some work
   pub owed-begun : (seats : List (Seat K V A)) (caller : ℕ) → working seats caller ≡ None → (work : Option (Work K V A))
       → owed_in (with_work (with_seat seats caller) caller work) ≡ owed_in seats +ℤ owed_work work
   owed-begun [] caller works work = ap (λ b.

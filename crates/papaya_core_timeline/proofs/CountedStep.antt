@@ -1,4 +1,4 @@
--- What a step adds to the sum, and by how many pairs the map grows in it.
+-- How much a step adds to the sum, and by how many pairs it makes the map grow.
 use Rattle.std.proofs.Common.{◌≡◌, ℕ, ℤ, pos, negsuc, ◌+ℤ◌, ◌==◌, Bool, List, [], ◌∷◌, Option, Some, ◌⊎◌, inl, inr, refl, sym, ◌∙◌, ap, subst, arith}
 use Rattle.std.proofs.Math.IntN.{+ℤ_idr}
 use Rattle.std.proofs.lemmas.Int.{ints, int_wrap_fits, SFits-int_wrap}
@@ -42,7 +42,7 @@ module _ {K V S : Type 0} where
   abbrev Adds : ℤ → StoreState K V S → StoreState K V S → Type 0
   Adds owed s s' = int_wrap w64 s'.count.sum ≡ int_wrap w64 (s.count.sum +ℤ owed)
 
-  -- where the count stays
+  -- steps that leave the count
   same_count : (s s' : StoreState K V S) → s'.count.sum ≡ s.count.sum → Adds (pos 0) s s'
   same_count s s' e = ap (int_wrap w64) (e ∙ sym (+ℤ_idr s.count.sum))
 
@@ -111,7 +111,7 @@ module _ {K V S A : Type 0} (eq : K → K → Bool) (says : Says K V A) where
     sum_performed refuse (asks.Call ask) s r a s' r' (told, is, h) = sum_called refuse ask s r told s' r' h
     sum_performed refuse (asks.Copy ask) s r a s' r' (h, same) = sum_copied refuse ask s a s' h
 
--- where one number comes after another by an exchange, the map grew so
+-- the exchange makes the map grow by this much
 abbrev pub Grows : {P : Type 0} → ℤ → Exchange P → Type 0
 Grows by e = (before now : ℕ) → IsCountAfter e before now → pos now ≡ pos before +ℤ by
 
@@ -139,12 +139,12 @@ copy_grows c (Some kinds.Promote) Root new s kept e is = subst (Grows (pos 0)) (
 copy_grows c (Some kinds.Abort) (Aborted n) new s kept e is = subst (Grows (pos 0)) (sym is) (λ before now count. omega (arith, ints, count))
 copy_grows c _ _ new s kept e h = absurd h
 
--- there was an exchange by which the map grew so, or none
+-- there was an exchange by which the map grew by this much, or none
 abbrev pub IsGrowth : {P : Type 0} → ℤ → List (Exchange P) → Type 0
 IsGrowth {P = P} by es = ((es ≡ []) × (by ≡ pos 0)) ⊎ ((e : Exchange P) × (es ≡ e ∷ []) × Grows by e)
 
 module _ {K P : Type 0} (g : Setting K P) (c : Coding K P) (k : K) (s : State P) (kind : Option StepKind) where
-  -- what is told of an ask of the call itself
+  -- the record of an ask of the call itself
   call_grows : (loaded : LoadedPairs P) (ask : Call_ask) (a : Call_answer) (es : List (Exchange P)) (loaded' : LoadedPairs P)
       → IsTrueOf g c k s kind loaded ask a es loaded' → IsGrowth (grows_by kind ask a) es
   call_grows loaded (Ask_exchange at old new) a es loaded' h =
@@ -173,7 +173,7 @@ module _ {K P : Type 0} (g : Setting K P) (c : Coding K P) (k : K) (s : State P)
   call_grows loaded (AddToShard by) a es loaded' h = inl (h.1.0, refl)
   call_grows loaded (Ask_done reply) a es loaded' h = inl (h.1.0, refl)
 
-  -- and of one of a copy
+  -- the record of an ask of a copy
   copied_grows : (follows : ℕ) (loaded : chain_told.LoadedPairs P) (ask : CopyAsk) (a : Answer) (es : List (Exchange P))
       (loaded' : chain_told.LoadedPairs P) → chain_told.IsTrueOfCopy g c s kind follows loaded ask a es loaded' → IsGrowth (pos 0) es
   copied_grows follows loaded (copies.Exchange at old new) a es loaded' h =
@@ -189,7 +189,7 @@ module _ {K P : Type 0} (g : Setting K P) (c : Coding K P) (k : K) (s : State P)
   copied_grows follows loaded copies.Count a es loaded' h = inl (h.1.0, refl)
   copied_grows follows loaded (copies.MakeTable slots limit chunks) a es loaded' h = inl (h.1.0, refl)
 
-  -- an answer told of an exchange by which the map grew so, or of none
+  -- an answer records an exchange by which the map grew by this much, or none
   pub told_grows : (follows : ℕ) (loaded : chain_told.LoadedPairs P) (ask : Ask) (a : Answer) (es : List (Exchange P))
       (loaded' : chain_told.LoadedPairs P) → chain_told.IsTrueOf g c k s kind follows loaded ask a es loaded' → IsGrowth (grown_by kind ask a) es
   told_grows follows loaded (asks.Call ask) a es loaded' h = subst (λ y. IsGrowth (grown_by kind (asks.Call ask) y) es) (sym h.is)

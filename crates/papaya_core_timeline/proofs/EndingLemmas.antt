@@ -47,7 +47,7 @@ use Rattle.papaya_core_timeline.proofs.StoreLemmas.{LogsOrNot, matched, of_logs,
 use Rattle.papaya_core_timeline.proofs.TiedLemmas.{IsEnding, WasShownLast}
 use Rattle.papaya_core_timeline.proofs.TimelineLemmas.{entry, last_shown-own, not_begin-own}
 
--- what refuses a growth is no removal
+-- an answer that refuses a growth does not refuse a removal
 growth_unrefused : (most count : ℕ) (a : Call_answer) → Refuses most count a → a ≡ Was_refused RemoveNothing → ⊥
 growth_unrefused most count a (inl e) is = cc
 growth_unrefused most count a (inr (e, full)) is = cc
@@ -58,7 +58,7 @@ size_unrefused (Some t) e = cc
 
 module _ {K V S A : Type 0} (eq : K → K → Bool) (says : Says K V A) (refuse : Bool) (s : StoreState K V S) (r : Running K V A) (a : Call_answer)
     (s' : StoreState K V S) (r' : Running K V A) where
-  -- what is logged, or is not, refuses none
+  -- an answer to a store into the arena does not refuse a removal
   made_unrefused : LogsOrNot s r a s' r' → a ≡ Was_refused RemoveNothing → ⊥
   made_unrefused (inl (inl e, stays)) is = cc
   made_unrefused (inl (inr (inl e), stays)) is = cc
@@ -66,7 +66,7 @@ module _ {K V S A : Type 0} (eq : K → K → Bool) (says : Says K V A) (refuse 
   made_unrefused (inl (inr (inr (inr e)), stays)) is = cc
   made_unrefused (inr (key, left, (value, has, e, few, same, moved))) is = cc
 
-  -- no answer to a call refuses the removal of nothing
+  -- no answer to an ask of the call refuses the removal of nothing
   call_unrefused : (ask : Call_ask) → Performs eq says refuse ask s r a s' r' → a ≡ Was_refused RemoveNothing → ⊥
   call_unrefused (Load at) (e, stays) is = cc
   call_unrefused (Ask_exchange at old new) (ex, as_was) is =
@@ -103,7 +103,7 @@ module _ {K V S A : Type 0} (eq : K → K → Bool) (says : Says K V A) (refuse 
   call_unrefused (Ask_done reply) (e, stays) is = cc
 
 module _ {K V S : Type 0} (eq : K → K → Bool) (hash : S → K → ℕ) (refuse : Bool) (s : StoreState K V S) (a : Answer) (s' : StoreState K V S) where
-  -- nor does one to a copy
+  -- nor does one to an ask of a copy
   pub copy_unrefused : (ask : CopyAsk) → PerformsCopy eq hash refuse ask s a s' → a ≡ answers.Call (Was_refused RemoveNothing) → ⊥
   copy_unrefused (copies.Load at) (e, same) is = cc
   copy_unrefused (copies.Exchange at old new) (told, e, ex) is =
@@ -138,7 +138,7 @@ module _ {K V S A : Type 0} (eq : K → K → Bool) (says : Says K V A) (hash : 
       call_unrefused eq says refuse s r told s' r' ask performs refused
   unrefused (asks.Copy ask) (performs, as_was) is = copy_unrefused eq hash refuse s a s' ask performs is
 
--- why a call is refused that would remove nothing: its closure was just shown that there is none
+-- a call is refused the removal of nothing because its closure was just called with `None`
 pub removes_nothing : (m : Machine) (a : Answer) → (a ≡ answers.Call (Was_refused RemoveNothing) → ⊥) → IsCause m a RemoveNothing
     → (ask_of m ≡ asks.Call ShowNone) × (a ≡ answers.Call (Op op_kinds.Remove))
 removes_nothing m a never (inl by) =
@@ -158,7 +158,7 @@ removes_nothing m a never (inr by) =
 
 module _ {K V A : Type 0} (call : Call K V A) (m : Machine) (a : Answer) (c turn : ℕ) (event : Event) (h : History) (now : Map K V)
     (maps : List (Map K V)) (event_is : event ≡ event_of (kind_of_ask m) (ask_of m) a) where
-  -- what is shown in a step was last shown after it
+  -- the argument of the closure in a step is the last one after it
   shown_last : (shown : Option ℕ) (op : OpKind) → ask_of m ≡ asks.Call (show shown) → a ≡ answers.Call (Op op)
       → AtSomeMoment (λ m. number_in (at_key m (key_of call)) ≡ shown) c h maps → WasShownLast call shown op c (entry turn c event ∷ h) (now ∷ maps)
   shown_last shown op asking is at = (
@@ -166,7 +166,8 @@ module _ {K V A : Type 0} (call : Call K V A) (m : Machine) (a : Answer) (c turn
     inr (not_begin-own c c turn event (ap begins event_is ∙ event_begins (kind_of_ask m) (ask_of m) a), at),
   )
 
-  -- so where a step ends the call, its closure was shown in it what the key had at a moment of the call
+  -- if a step ends the call, its closure was called in that step with the pair that the key had at
+  -- some point of the call
   pub step_ending : Goes m a → ((after m a).call.task ≡ m.call.task) → ((reply : Reply) → ask_of m ≡ asks.Call (Ask_done reply) → ⊥)
       → (ask_of m ≡ asks.Call ShowNone → m.call.task ≡ tasks.Compute)
       → ((shown : Option ℕ) → ask_of m ≡ asks.Call (show shown) → AtSomeMoment (λ m. number_in (at_key m (key_of call)) ≡ shown) c h maps)

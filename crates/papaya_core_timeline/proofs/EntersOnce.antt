@@ -11,7 +11,7 @@ use Rattle.papaya_core_timeline.specs.Timeline.{Answered, IsFresh, IsLegal, IsUn
 use Rattle.papaya_core_timeline.specs.Once.{HaveNot, IsSteady}
 
 module _ {K V : Type 0} where
-  -- a map has what the one before it has, or a new pair
+  -- each pair of a map is in the map before it, or is new
   abbrev Steps : Map K V → List (Map K V) → Map K V → Type 0
   Steps before maps m = (j : K) (p : Stored K V) → m j ≡ Some p → (before j ≡ Some p) ⊎ IsUnused p.number (before ∷ maps)
 
@@ -23,7 +23,7 @@ module _ {K V : Type 0} where
   came_new maps (Some q) p fresh is = let one : q ≡ p = cc in subst (λ (r : Stored K V). IsUnused r.number maps) one fresh
 
 module _ {K V A : Type 0} (eq : K → K → Bool) where
-  -- so each legal event leaves it
+  -- each legal event keeps this
   legal_steps : (schedule : List (Turn K V A)) (caller : ℕ) (h : History) (before : Map K V) (maps : List (Map K V)) (m : Map K V) (said : Answered V)
       (event : Event) → IsLegal eq event schedule caller h before maps m said → Steps before maps m
   legal_steps schedule caller h before maps m said (Changed kind old new) change = λ j p has.
@@ -39,7 +39,7 @@ module _ {K V A : Type 0} (eq : K → K → Bool) where
   legal_steps schedule caller h before maps m said (Moved kind) legal = same_steps before maps m legal
   legal_steps schedule caller h before maps m said Other legal = same_steps before maps m legal
 
-  -- so it is along a timeline
+  -- so does a timeline
   pub timeline_steady : (schedule : List (Turn K V A)) (start : Map K V) (h : History) (maps : List (Map K V)) (said : Answered V)
       → Timeline eq schedule start h maps said → IsSteady maps
   timeline_steady schedule start [] [] said t = tt
@@ -54,7 +54,7 @@ module _ {K V A : Type 0} (eq : K → K → Bool) where
 
 module _ {K V : Type 0} (j : K) (p : Stored K V) (lost : Map K V) (older : List (Map K V)) (not_there : lost j ≡ Some p → ⊥)
     (was : IsUnused p.number older → ⊥) where
-  -- a number that no map of a list has, none of its end has
+  -- a number that no map of a list has, no map of a tail of the list has
   unused_behind : (newer : List (Map K V)) → IsUnused p.number (newer ++ lost ∷ older) → IsUnused p.number older
   unused_behind [] unused = unused.1
   unused_behind (m ∷ newer) unused = unused_behind newer unused.1

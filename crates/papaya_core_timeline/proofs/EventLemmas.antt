@@ -47,12 +47,12 @@ pub record IsExchanged {K P : Type 0} (g : Setting K P) (c : Coding K P) (k : K)
 abbrev pub IsQuiet : {P : Type 0} → Option StepKind → Ask → Answer → List (Exchange P) → Type 0
 IsQuiet kind ask answer es = (es ≡ []) × (call_event kind ask answer ≡ Other)
 
--- or the closure of a removal was shown a pair, and answered
+-- or the closure of a removal was called with a pair, and returned
 abbrev pub IsShowing : {P : Type 0} → Option StepKind → Ask → Answer → List (Exchange P) → Type 0
 IsShowing kind ask answer es = (n : ℕ) × (agrees : Bool) × (ask ≡ ShowPair n) × (answer ≡ Yes agrees) × (es ≡ [])
     × (call_event kind ask answer ≡ Asked n agrees)
 
--- or that of a compute was shown a pair, or that there is none, and answered
+-- or the closure of a compute was called with a pair or with `None`, and returned
 abbrev pub IsShown : {P : Type 0} → Option StepKind → Ask → Answer → List (Exchange P) → Type 0
 IsShown kind ask answer es = (shown : Option ℕ) × (op : OpKind) × (ask ≡ show shown) × (answer ≡ Op op) × (es ≡ [])
     × (call_event kind ask answer ≡ Shown shown op)
@@ -61,7 +61,7 @@ module _ {K P : Type 0} (g : Setting K P) (c : Coding K P) (k : K) (s : State P)
   abbrev Cases : Ask → Answer → List (Exchange P) → Type 0
   Cases ask answer es = IsQuiet kind ask answer es ⊎ IsExchanged g c k s kind loaded ask answer es ⊎ IsShowing kind ask answer es ⊎ IsShown kind ask answer es
 
-  -- what is told is one of them
+  -- a recorded answer is one of these
   pub told_cases : (ask : Ask) (answer : Answer) (es : List (Exchange P)) (loaded' : LoadedPairs P) → IsTrueOf g c k s kind loaded ask answer es loaded'
       → Cases ask answer es
   told_cases (Load at) answer es loaded' h = inl (h.1, refl)
@@ -116,7 +116,7 @@ module _ {K P : Type 0} (g : Setting K P) (c : Coding K P) (k : K) (s : State P)
       ⊎_elim (λ quiet. none quiet.0) (λ x. ⊎_elim (λ y. inr (y.by, y.made)) (λ z. ⊎_elim (λ y. none y.4) (λ y. none y.4) z) x)
       (told_cases ask answer es loaded' h)
 
--- what holds of events of exchanges and of no event holds where an exchange was asked for
+-- a fact about events of exchanges and about no event holds if an exchange was asked for
 pub exchanged_cases : (P : Event → Type 0) → P Other → ((kind : StepKind) (old new : Option ℕ) → P (Changed kind old new))
     → ((kind : StepKind) → P (Moved kind)) → (kind : Option StepKind) (old new : ℕ) (answer : Answer) → P (answered_event kind old new answer)
 exchanged_cases P other changed moved kind old new answer = by_answer answer
@@ -148,7 +148,7 @@ exchanged_cases P other changed moved kind old new answer = by_answer answer
     by_answer Ok_done = other
     by_answer (Was_refused refused) = other
 
--- what holds of the answers of closures and of no event holds where a closure was shown something
+-- a fact about results of closures and about no event holds if a closure was called
 shown_cases : (P : Event → Type 0) → P Other → ((n : ℕ) (agrees : Bool) → P (Asked n agrees)) → (shown : Option ℕ)
     → ((op : OpKind) → P (Shown shown op)) → (answer : Answer) → P (shown_event shown answer)
 shown_cases P other asked None op_given (Yes agrees) = other
@@ -162,7 +162,7 @@ shown_cases P other asked shown op_given (Made_number m) = other
 shown_cases P other asked shown op_given Ok_done = other
 shown_cases P other asked shown op_given (Was_refused refused) = other
 
--- what holds of events of exchanges, of showings and of no event holds of a step's
+-- a fact about events of exchanges, of closure calls and about no event holds of a step's event
 event_cases : (P : Event → Type 0) → P Other → ((kind : StepKind) (old new : Option ℕ) → P (Changed kind old new))
     → ((kind : StepKind) → P (Moved kind)) → ((n : ℕ) (agrees : Bool) → P (Asked n agrees)) → ((n : Option ℕ) (op : OpKind) → P (Shown n op))
     → (kind : Option StepKind) (ask : Ask) (answer : Answer) → P (call_event kind ask answer)
@@ -186,7 +186,7 @@ event_cases P other changed moved asked shown kind (Ask_done reply) answer = oth
 pub event_begins : (kind : Option StepKind) (ask : Ask) (answer : Answer) → begins (call_event kind ask answer) ≡ false
 event_begins = event_cases (λ e. begins e ≡ false) refl (λ kind old new. refl) (λ kind. refl) (λ n agrees. refl) (λ n op. refl)
 
--- what the closure of a removal has answered after a step, it had answered before it or answers now
+-- a result of a removal's closure after a step was returned before it, or is returned in it
 pub step_asked : (c turn n : ℕ) (agrees : Bool) (kind : Option StepKind) (ask : Ask) (answer : Answer) (event : Event) (before : History)
     → event ≡ call_event kind ask answer → WasAsked c n agrees before ⊎ ((ask ≡ ShowPair n) × (answer ≡ Yes agrees))
     → WasAsked c n agrees (entry turn c event ∷ before)
@@ -195,13 +195,13 @@ step_asked c turn n agrees kind ask answer event before is (inl was) = asked-own
 step_asked c turn n agrees kind ask answer event before is (inr (showed, said)) = asked-now c turn n agrees event before
     (is ∙ ap (λ y. call_event kind y answer) showed ∙ ap (shown_event (Some n)) said)
 
--- the event of a showing to a compute's closure
+-- the event of a call of a compute's closure
 pub event_shown : (shown : Option ℕ) (op : OpKind) (kind : Option StepKind) (ask : Ask) (answer : Answer) → ask ≡ show shown → answer ≡ Op op
     → call_event kind ask answer ≡ Shown shown op
 event_shown None op kind ask answer showed said = ap (λ y. call_event kind y answer) showed ∙ ap (shown_event None) said
 event_shown (Some n) op kind ask answer showed said = ap (λ y. call_event kind y answer) showed ∙ ap (shown_event (Some n)) said
 
--- what a closure has answered after a step, it had answered before it or answers now
+-- a result of a closure after a step was returned before it, or is returned in it
 pub step_answered : {V : Type 0} (c turn : ℕ) (shown : Option ℕ) (op : Operation V ℕ) (kind : Option StepKind) (ask : Ask) (answer : Answer)
     (event : Event) (before : History) (o : Option (Operation V ℕ)) (said : Answered V) → event ≡ call_event kind ask answer
     → WasAnswered c shown op before said ⊎ ((ask ≡ show shown) × (answer ≡ Op (op_kind op)) × (o ≡ Some op))
@@ -211,7 +211,7 @@ step_answered c turn shown op kind ask answer event before o said is (inl was) =
 step_answered c turn shown op kind ask answer event before o said is (inr (showed, given, now)) = answered-now c turn shown op event before o said
     (is ∙ event_shown shown (op_kind op) kind ask answer showed given) now
 
--- that there is none a closure has been shown after a step only if it was before it, or is now
+-- a closure has been called with `None` after a step only if it was before, or is in this step
 pub event_none : (before : Bool) (kind : Option StepKind) (ask : Ask) (answer : Answer) → none_by (call_event kind ask answer) before ≡ true
     → (before ≡ true) ⊎ ((ask ≡ ShowNone) × ((op : OpKind) × (answer ≡ Op op)))
 event_none before kind (Load at) answer e = inl e
@@ -248,7 +248,7 @@ pub event_open : {A : Type 0} (begun before : Option A) (kind : Option StepKind)
     → open_after (call_event kind ask answer) begun before ≡ before
 event_open begun before = event_cases (λ e. open_after e begun before ≡ before) refl (λ kind old new. refl) (λ kind. refl) (λ n agrees. refl) (λ n op. refl)
 
--- it tells the change that the machine makes
+-- the event records the change that the machine makes
 pub event_change : (before : Change) (kind : Option StepKind) (ask : Ask) (answer : Answer)
     → ((at : At) (old new : ℕ) → ask ≡ Ask_exchange at old new → before ≡ None)
     → change_by (call_event kind ask answer) before ≡ change_after kind ask answer before
@@ -298,7 +298,7 @@ event_change before kind (MakeTable slots limit chunks) answer once = refl
 event_change before kind (AddToShard by) answer once = refl
 event_change before kind (Ask_done reply) answer once = refl
 
--- where no change was made after an answer, none was made before it
+-- if no change has been made after an answer, none was made before it
 pub unchanged_before : (before : Change) (kind : Option StepKind) (ask : Ask) (answer : Answer)
     → ((at : At) (old new : ℕ) → ask ≡ Ask_exchange at old new → before ≡ None) → change_after kind ask answer before ≡ None → before ≡ None
 unchanged_before before kind (Load at) answer once e = e

@@ -52,7 +52,7 @@ module _ {K P : Type 0} (g : Setting K P) (c : Coding K P) (s : State P) (last k
   copying_follows (Lone slot goes) relies e = settle_follows slot goes relies.1 e
 
 module _ {K P : Type 0} (g : Setting K P) (c : Coding K P) (begun since : List (Exchange P)) (k : K) (m : Machine) (loaded : LoadedPairs P) where
-  -- so it is where a machine asks for a table for a copy
+  -- the same if a machine asks for a table for a copy
   pub machine_follows : Relies g c begun since k m loaded → (slots limit chunks : ℕ) → machine.ask_of m ≡ asks.Copy (MakeTable slots limit chunks)
       → IsOn (now g c begun since k).first (now g c begun since k).next (machine.follows_of m)
   machine_follows relies slots limit chunks e = by_phase m.phase relies.phase e

@@ -1,4 +1,4 @@
--- What closures returned is also what their answers give with a longer arena.
+-- The results of closures stay the same with a longer arena.
 use Rattle.std.proofs.Common.{◌≡◌, inl, inr, ℕ, Option, Some, None, List, [], ◌∷◌}
 use Rattle.papaya_call.specs.Answers.{Says}
 use Rattle.papaya_call.specs.declared.answers.Operation.{Operation}

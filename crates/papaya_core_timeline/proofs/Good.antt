@@ -32,7 +32,8 @@ use Rattle.papaya_call.specs.declared.chain.scanner.Scan.TheVariants as scans
 use Rattle.papaya_call_law.specs.ScanTaken.{IsTakenOut}
 use Rattle.papaya_core_store.specs.declared.scans.Scanning.{Scanning}
 
--- a pair of the call has the value that it was handed; that of a compute has one that its closure answered
+-- a pair of the call has the value that was passed in; a pair of a compute has one that its closure
+-- returned
 abbrev pub IsValueOf : {K V A : Type 0} → Call K V A → V → Type 0
 IsValueOf (Get k) v = ⊥
 IsValueOf (Insert k w) v = w ≡ v
@@ -58,12 +59,14 @@ IsScanOf (Retain a) scans.Retain = Unit {0}
 IsScanOf Walk scans.Walk = Unit {0}
 IsScanOf _ _ = ⊥
 
--- what a closure last answered of the pair of this number, its newest answer being the first
+-- the last result that a closure returned for the pair of this number; the newest result is the
+-- first
 abbrev pub answer_about : {K V : Type 0} → List (Stored K V × Bool) → ℕ → Option Bool
 answer_about [] n = None
 answer_about (one ∷ older) n = cond (one.0.number == n) (Some one.1) (answer_about older n)
 
--- What a machine stands on was said by its closure in the call. A value that it answered is the call's until a pair is made of it, and then is the pair's.
+-- The state of a machine depends on a result that its closure returned in the call. A value that
+-- was returned belongs to the call until a pair is made of it, and then to the pair.
 abbrev pub WasReturned : {K V S A : Type 0} → StoreState K V S → Running K V A → ℕ → History → Answered V → ClosureResult → Type 0
 WasReturned store r caller h said (Agrees n agrees) = WasAsked caller n agrees h
 WasReturned {V = V} store r caller h said (Inserts shown) = (v : V) × (own_value store r ≡ Some v) × WasAnswered caller shown (ops.Insert v) h said
@@ -84,11 +87,12 @@ module _ {K V : Type 0} (eq : K → K → Bool) where
   abbrev pub replaying : Setting K (Stored K V)
   replaying = setting_of eq (λ k. 0) (record { resize = Blocking; limit = None }) []
 
-  -- each pair of the map has a key of its class
+  -- each pair of the map is stored under its key's class
   abbrev pub IsKeyed : Map K V → Type 0
   IsKeyed m = (k : K) (p : Stored K V) → m k ≡ Some p → eq k p.key ≡ true
 
-  -- The maps since a scanner took its table, or until now where it has none, and the exchanges since then, of which they are the maps.
+  -- The maps since a scanner took its table, or until now if it has none, and the exchanges since
+  -- then, which leave these maps.
   pub record IsMaking (caller : ℕ) (call_trace : ScanTrace K V) (h : History) (maps : List (Map K V)) : Type 0 where
     pub since : List (Map K V)
     pub fs : List (Exchange (Stored K V))
@@ -109,14 +113,15 @@ module _ {K V : Type 0} (eq : K → K → Bool) where
       pub asked : (n : ℕ) → last_asked caller n h ≡ answer_about call_trace.loaded.shown n
       -- the map as it began
       pub began : AtBegin (λ m. (k : K) → m k ≡ replay call_trace.begun k) caller h maps
-      -- what a key had after some of the exchanges since it began, it had at a moment of the call
+      -- a key had this after some of the exchanges since the call began, so it had it at some point
+      -- of the call
       pub moments : (k : K) (so_far rest : List (Exchange (Stored K V))) → so_far ++ rest ≡ call_trace.since
           → AtSomeMoment (λ m. at_key m (Some k) ≡ at_key (replayed (replay call_trace.begun) so_far) (Some k)) caller h maps
-      -- a pair that it had as the call began, and that was taken out since, has not come back
+      -- a pair that its key had as the call began, and that was taken out since, has not come back
       pub gone : (k : K) (p : Stored K V) → replay call_trace.begun k ≡ Some p → IsTakenOut replaying call_trace.since k
           → replay (call_trace.begun ++ call_trace.since) k ≡ Some p → ⊥
       pub making : IsMaking caller call_trace h maps
-      -- what its closure has left
+      -- the remaining answers of its closure
       pub left : (a : A) → v.answers ≡ Some a → HasLeft says store schedule a caller h answers
 
     -- A call under way, which began in the run, and the history of its caller.
@@ -130,16 +135,18 @@ module _ {K V : Type 0} (eq : K → K → Bool) where
       pub value : (v : V) → own_value store r ≡ Some v → IsValueOf call v
       pub made : (q : Stored K V) → IsOneOf call_trace.loaded.call.made q → IsValueOf call q.value
       pub change : change_of caller h ≡ change_in r.machine.call.state
-      -- what its machine stands on was said by its closure in the call
+      -- the result on which its machine acts was returned by its closure in the call
       pub said : (said : ClosureResult) → ActsOn r.machine.call said → WasReturned store r caller h answers said
       pub shows : NamesPairs r.machine.call
-      -- a closure that was shown that there is none will not be shown it again
+      -- a closure that was called with `None` will not be called with it again
       pub once : was_shown_none caller h ≡ true → HasCalledNone r.machine.call.remembered.fill r.machine.call.state
-      -- what its key had after some of the exchanges since the call began, it had at a moment of the call
+      -- its key had this after some of the exchanges since the call began, so it had it at some
+      -- point of the call
       pub moments : (so_far rest : List (Exchange (Stored K V))) → so_far ++ rest ≡ call_trace.since
           → AtSomeMoment (λ m. at_key m (key_of call) ≡ at_key (replayed (replay call_trace.begun) so_far) (key_of call)) caller h maps
 
-    -- The history has a timeline of maps, the newest of which is the replay of all exchanges; and the calls under way stand to it as they should.
+    -- The history has a timeline of maps, the newest of which is the replay of all exchanges. Each
+    -- call under way is related to it as its kind requires.
     pub record IsGood (says : Says K V A) (hash : K → ℕ) (schedule : List (Turn K V A)) (first : StoreState K V S) (start : Map K V)
         (s : CoreState K V S A) (h : History) : Type 0 where
       pub es : List (Exchange (Stored K V))
@@ -151,7 +158,7 @@ module _ {K V : Type 0} (eq : K → K → Bool) where
       pub timeline : Timeline eq schedule start h (replay es ∷ maps) answers
       pub logged : AreInArena s.store (replay es ∷ maps)
       pub given : AreGiven says s.store schedule h answers
-      -- what the closures of the calls under way have left
+      -- the remaining answers of the closures of the calls under way
       pub left : (caller : ℕ) (r : Running K V A) (call : Call K V A) → running s.callers caller ≡ Some r → open_call schedule caller h ≡ Some call
           → (a : A) → r.answers ≡ Some a → HasLeft says s.store schedule a caller h answers
       -- a call that resizes the map is of that kind, and changes none
@@ -159,7 +166,8 @@ module _ {K V : Type 0} (eq : K → K → Bool) where
           → IsResize call × (change_of caller h ≡ None)
       pub scanned : (caller : ℕ) (v : Scanning A) (call : Call K V A) → scanning s.callers caller ≡ Some v → open_call schedule caller h ≡ Some call
           → IsScanTied says s.store schedule v call caller (scan_trace (call_traces caller)) h (replay es ∷ maps) answers
-      -- the pairs of the log where the run began are there, and those that came since, or were made by calls that began since, are new
+      -- the pairs of the arena as the run began are there; those stored since, and those made by
+      -- calls that began since, are new
       pub kept_pairs : KeepsPairs first s.store
       pub fresh : AreNew first schedule h
       pub made_new : (caller : ℕ) (r : Running K V A) (call : Call K V A) → running s.callers caller ≡ Some r

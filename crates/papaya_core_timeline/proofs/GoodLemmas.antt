@@ -89,12 +89,12 @@ use Rattle.papaya_core_store.specs.declared.store.Mode.{Mode}
 use Rattle.papaya_core_store.specs.Performs.{own_value}
 use Rattle.papaya_core_timeline.proofs.MadePairs.{MakesOver}
 
--- a call that goes on is the one after its step
+-- a call that continues is the one after its step
 goes : {A : Type 0} (reply : Option Reply) (r' r : A) → goes_on reply r' ≡ Some r → (reply ≡ None) × (r' ≡ r)
 goes None r' r e = (refl, same_item r' r e)
 goes (Some reply) r' r e = let f : None ≡ Some r = e in cc
 
--- no pair has a number past a log that has its pairs and more
+-- no pair has a number past the end of an arena that has its pairs and more
 past_log : {K V S : Type 0} (first s : StoreState K V S) → KeepsPairs first s → (o : Option (Stored K V)) → pair_of first (length s.pairs) ≡ o → o ≡ None
 past_log first s keeps None there = refl
 past_log first s keeps (Some p) there =
@@ -128,7 +128,7 @@ module _ {K V A : Type 0} (hash : K → ℕ) (mode : Mode) (initial number : ℕ
   resize_begun (Retain a) z e = let f : None ≡ Some z = ap (λ (w : Work K V A). resizer_in (Some w)) e in absurd cc
   resize_begun Walk z e = let f : None ≡ Some z = ap (λ (w : Work K V A). resizer_in (Some w)) e in absurd cc
 
-  -- and a scanner for one that scans a table, with the answers of its closure
+  -- a scanner begins for a call that scans a table, with the answers of its closure
   scan_is : (call : Call K V A) (scan : Scan) (answers : Option A) (v : Scanning A) → IsScanOf call scan → works.Scan (scanner_begun mode.resize initial number scan answers) ≡ begun_work hash mode initial number call → answers ≡ answers_of_call call → begun_work hash mode initial number call ≡ works.Scan v → IsScanOf call v.scanner.scan × (v.answers ≡ answers_of_call call)
   scan_is call scan answers v of begins are e =
       let same : scanner_begun mode.resize initial number scan answers ≡ v = same_item (scanner_begun mode.resize initial number scan answers) v (ap (λ (w : Work K V A). scanner_in (Some w)) (begins ∙ e)) in
@@ -169,7 +169,7 @@ module _ {K V S A : Type 0} (eq : K → K → Bool) (hash : K → ℕ) (law : Is
     abbrev later_maps : List (Map K V)
     later_maps = replay eq es ∷ replay eq good.es ∷ good.maps
 
-    -- what a closure answered in it
+    -- the result of a closure in it
     answering : IsAnswering says s'.store x.before x.later event
     answering = subst (λ y. IsAnswering says s'.store x.before x.later y) (sym x.event_is) (answered_by eq says hashes refuse (kind_of_ask x.before.machine) s.store x.before x.answer s'.store x.later (ask_of x.before.machine) x.performs)
 
@@ -179,7 +179,7 @@ module _ {K V S A : Type 0} (eq : K → K → Bool) (hash : K → ℕ) (law : Is
     abbrev later_answers : Answered V
     later_answers = answering.answered ∷ good.answers
 
-    -- only a compute shows its closure that there is none
+    -- only a compute calls its closure with `None`
     offers : ask_of x.before.machine ≡ asks.Call ShowNone → x.before.machine.call.task ≡ tasks.Compute
     offers asking = machine_offers (setting_of eq (low hash) s.mode s.store.words.tables) (coding_of (low hash)) (good.call_traces c).begun (good.call_traces c).since step.call.key x.before.machine.call (good.call_traces c).loaded.call step.call.relies.call (own_asks x.before.machine ShowNone asking).1
 
@@ -196,7 +196,7 @@ module _ {K V S A : Type 0} (eq : K → K → Bool) (hash : K → ℕ) (law : Is
     goes_by : Goes x.before.machine x.answer
     goes_by = machine_goes x.before.machine x.answer order
 
-    -- what the machine made of the answer, it changed
+    -- the machine's change after the answer follows from its ask, the answer and its change before
     changed : change_in (after x.before.machine x.answer).call.state ≡ changed_by (kind_of_ask x.before.machine) (ask_of x.before.machine) x.answer (change_in x.before.machine.call.state)
     changed = advance_changed eq hash law refuse s s' c event reply x good.core core' good.es good.call_traces good.kept step
 
@@ -204,7 +204,7 @@ module _ {K V S A : Type 0} (eq : K → K → Bool) (hash : K → ℕ) (law : Is
     own_is : (call : Call K V A) → open_call schedule c h ≡ Some call → Some step.call.key ≡ key_of call
     own_is call e = let tied = good.tied c x.before call x.was e in sym step.call.own ∙ tied.key ∙ sym tied.key_is
 
-    -- what the event of the step tells of it
+    -- how the event describes the ask and the answer of the step
     told : (e : Event) → event ≡ e → Tells e (ask_of x.before.machine) x.answer
     told e is = subst (λ y. Tells y (ask_of x.before.machine) x.answer) (sym x.event_is ∙ is) (event_tells x.before.machine x.answer)
 
@@ -212,7 +212,7 @@ module _ {K V S A : Type 0} (eq : K → K → Bool) (hash : K → ℕ) (law : Is
     unchanged : (kind : StepKind) (old new : Option ℕ) → event ≡ Changed kind old new → change_in x.before.machine.call.state ≡ None
     unchanged kind old new is = let (at, from, to, asking) = told (Changed kind old new) is in chain_once x.before.machine at from to asking
 
-    -- an open call does with its key's class what its machine does
+    -- an open call changes its key's class as its machine does
     does : (call : Call K V A) → open_call schedule c h ≡ Some call → (went came : Option (Stored K V)) → MayPut step.call.key x.before.machine.call.task (good.call_traces c).loaded.call.made went came → (reply : Reply) × Does call went reply came × (change_of_reply reply ≡ Some (number_in went, number_in came))
     does call e went (Some q) (made, own, replaces) =
         let tied = good.tied c x.before call x.was e in
@@ -243,14 +243,14 @@ module _ {K V S A : Type 0} (eq : K → K → Bool) (hash : K → ℕ) (law : Is
         let tied = good.tied c x.before call x.was e in
         (own_change eq call (change_of c h) step.call.key went came (sym (own_is call e), tied.change ∙ unchanged kind old new is, does call e went came may), agreed call e kind old new is went came came_is may)
 
-    -- that there is none its closure was not shown before
+    -- its closure was not called with `None` before
     not_shown : (call : Call K V A) → open_call schedule c h ≡ Some call → ask_of x.before.machine ≡ asks.Call ShowNone → was_shown_none c h ≡ false
     not_shown call e asking = elim (cases_Bool (was_shown_none c h)) [
       | inl was ↦ absurd ((shows_once x.before.machine x.answer order ((good.tied c x.before call x.was e).once was)).0 asking)
       | inr never ↦ never
     ]
 
-    -- and it is shown what its key had at a moment of the call
+    -- its closure is called with the pair that its key had at some point of the call
     may_show : (o : Option (Call K V A)) → open_call schedule c h ≡ o → (shown : Option ℕ) → ask_of x.before.machine ≡ asks.Call (show shown) → FitsShown eq o shown c h (replay eq good.es ∷ good.maps)
     may_show None e shown asking = tt
     may_show (Some call) e (Some n) asking =
@@ -261,7 +261,7 @@ module _ {K V S A : Type 0} (eq : K → K → Bool) (hash : K → ℕ) (law : Is
         at_showing_none eq call c (good.call_traces c) h (replay eq good.es ∷ good.maps) (low hash) s.mode s.store.words.tables step.call.key (own_is call e) (good.tied c x.before call x.was e).moments (not_shown call e asking)
         (machine_shows_none (setting_of eq (low hash) s.mode s.store.words.tables) (coding_of (low hash)) (good.call_traces c).begun (good.call_traces c).since step.call.key x.before.machine.call (good.call_traces c).loaded.call step.call.relies.call (own_asks x.before.machine (show None) asking).1)
 
-    -- so its event may be told
+    -- so its event is one that may occur
     may_tell : (e : Event) → event ≡ e → MayTell eq step.call.key x.before.machine.call.task (good.call_traces c).loaded.call.made (replay eq good.es) schedule c h good.maps good.answers e
     may_tell Begun is = tt
     may_tell (Changed kind old new) is = (λ q made. good.unused c x.before x.was q made (unchanged kind old new is), may_move (open_call schedule c h) refl kind old new is)
@@ -278,11 +278,11 @@ module _ {K V S A : Type 0} (eq : K → K → Bool) (hash : K → ℕ) (law : Is
     timeline : Timeline eq schedule start later_history later_maps later_answers
     timeline = (legal, answering.fits, good.timeline)
 
-    -- the pairs of the map after it stand in slots
+    -- the pairs of the map after it are in slots
     valid : (j : K) (p : Stored K V) → replay eq es j ≡ Some p → (t : ℕ) × (i : ℕ) × (named ((run es first_state).slot t i) ≡ Some p)
     valid = held_in_slot eq (low hash) s'.mode s'.store.words.tables (hashed_setting eq hash law s' core').lawful es step.kept.allowed
 
-    -- so they are in the log
+    -- so they are in the arena
     in_log : (j : K) (p : Stored K V) → replay eq es j ≡ Some p → pair_of s'.store p.number ≡ Some p
     in_log j p e = let (t, i, there) = valid j p e in step.kept.logged t i p there
 
@@ -332,11 +332,11 @@ module _ {K V S A : Type 0} (eq : K → K → Bool) (hash : K → ℕ) (law : Is
     no_begin : is_begin c (entry turn c event) ≡ false
     no_begin = not_begin-own c c turn event (ap begins x.event_is ∙ event_begins (kind_of_ask x.before.machine) (ask_of x.before.machine) x.answer)
 
-    -- a pair that is made in the step is logged, and is of the value at hand
+    -- a pair that is made in the step is stored in the arena, with the value of the call
     made_now : (n : ℕ) → MakesOver (ask_of x.before.machine) → x.answer ≡ told_to.Call (Made_number n) → (q : Stored K V) × (pair_of s'.store n ≡ Some q) × (own_value s.store x.before ≡ Some q.value)
     made_now n makes is = let m = step.made_now n makes is in (m.pair, m.there, m.before)
 
-    -- the step's own call stands to the history, replied or not
+    -- the step's own call is related to the history, whether it replied or not
     tied_own : (call : Call K V A) → open_call schedule c h ≡ Some call → IsTied eq s'.store r' call c (call_traces c) later_history later_maps later_answers
     tied_own call e =
         let m = x.before.machine in
@@ -398,11 +398,11 @@ module _ {K V S A : Type 0} (eq : K → K → Bool) (hash : K → ℕ) (law : Is
       | inr differ ↦ tied_others d r call differ now (open_other d call differ e)
     ]
 
-    -- no pair is gone from the log
+    -- every pair stays in the arena
     still_left : (a : A) (d : ℕ) → HasLeft says s.store schedule a d h good.answers → HasLeft says s'.store schedule a d h good.answers
     still_left a d x = left_more says s.store s'.store grows.pairs_stay schedule a d h good.answers x
 
-    -- what its closure had left gave what it answered, if it was asked
+    -- the answers that its closure had left give the recorded result, if the closure was called
     own_given : (call : Call K V A) → open_call schedule c h ≡ Some call → (a' : A) → x.later.answers ≡ Some a' → (a : A) × HasLeft says s'.store schedule a c h good.answers × GivesIn says s'.store event answering.answered a a'
     own_given call e a' had = let (a, was, gives) = answering.left a' had in (a, still_left a c (good.left c x.before call x.was e a was), gives)
 
@@ -412,7 +412,7 @@ module _ {K V S A : Type 0} (eq : K → K → Bool) (hash : K → ℕ) (law : Is
       given_more says s.store s'.store grows.pairs_stay schedule h good.answers good.given,
     )
 
-    -- what they have left after it
+    -- the answers that the others have left after it
     left_others : (d : ℕ) (r : Running K V A) (call : Call K V A) → d ≢ c → running s'.callers d ≡ Some r → open_call schedule d h ≡ Some call → (a : A) → r.answers ≡ Some a → HasLeft says s'.store schedule a d later_history later_answers
     left_others d r call differ now e a had = inr (inr (λ z. differ (sym z), still_left a d (good.left d r call (run_other d r differ now) e a had)))
 
@@ -427,11 +427,11 @@ module _ {K V S A : Type 0} (eq : K → K → Bool) (hash : K → ℕ) (law : Is
       | inr differ ↦ left_others d r call differ now (open_other d call differ e) a had
     ]
 
-    -- a number past the log is new to the log where the run began
+    -- a number past the end of the arena is new to the arena as the run began
     past_new : pair_of first (length s.store.pairs) ≡ None
     past_new = past_log first s.store good.kept_pairs (pair_of first (length s.store.pairs)) refl
 
-    -- a pair that comes is one that the call made
+    -- a pair that is put in is one that the call made
     comes_new : (call : Call K V A) → open_call schedule c h ≡ Some call → (e : Event) → event ≡ e → ComesNew first e
     comes_new call began (Changed kind old (Some n)) is = by_came moved.came moved.came_is moved.may
       where
@@ -453,7 +453,7 @@ module _ {K V S A : Type 0} (eq : K → K → Bool) (hash : K → ℕ) (law : Is
     fresh : AreNew first schedule later_history
     fresh = (λ call began. comes_new call began event refl, good.fresh)
 
-    -- and so are those that calls of the run made
+    -- and so are the pairs that calls of the run made
     made_others : (d : ℕ) (r : Running K V A) (call : Call K V A) → d ≢ c → running s'.callers d ≡ Some r → open_call schedule d h ≡ Some call → (q : Stored K V) → IsOneOf (call_traces d).loaded.call.made q → pair_of first q.number ≡ None
     made_others d r call differ now e q made = good.made_new d r call (run_other d r differ now) e q (subst (λ (y : LoadedPairs (Stored K V)). IsOneOf y.call.made q) (loaded_other d differ) made)
 
@@ -468,7 +468,7 @@ module _ {K V S A : Type 0} (eq : K → K → Bool) (hash : K → ℕ) (law : Is
       | inr differ ↦ made_others d r call differ now (open_other d call differ e) q made
     ]
 
-    -- a resizer is another caller's, and stays as it stood
+    -- a resizer is another caller's, and stays as it was
     resizes_other : (d : ℕ) (z : Resizer) → resizing s'.callers d ≡ Some z → (d ≢ c) × (resizing s.callers d ≡ Some z)
     resizes_other d z now =
         let before : resizing (with_call s.callers c (goes_on reply r')) d ≡ Some z = sym (ap (λ (y : List (Seat K V A)). resizing y d) x.callers) ∙ now in
@@ -510,7 +510,7 @@ module _ {K V S A : Type 0} (eq : K → K → Bool) (hash : K → ℕ) (law : Is
         (timeline_steady eq schedule start later_history later_maps later_answers timeline).0 put_new
         (good.scanned d v call before (open_other d call differ e))
 
-    -- the call goes on
+    -- the call continues
     goes_on_good : IsGood eq says hash schedule first start s' later_history
     goes_on_good = record { es = es; call_traces = call_traces; maps = replay eq good.es ∷ good.maps; answers = later_answers; core = core'; kept = step.kept; timeline = timeline; logged = logged; given = given; left = left; resized = resized; scanned = scanned; kept_pairs = λ n p there. grows.pairs_stay n p (good.kept_pairs n p there); fresh = fresh; made_new = made_new; unused = unused; tied = tied }
 
@@ -635,7 +635,8 @@ module _ {K V S A : Type 0} (eq : K → K → Bool) (hash : K → ℕ) (law : Is
       call_trace_same : call_traces c ≡ record { begun = good.es; since = []; loaded = nothing_loaded; scan = scans.nothing_loaded }
       call_trace_same = ap (λ b. cond b (record { begun = good.es; since = []; loaded = nothing_loaded; scan = scans.nothing_loaded }) (good.call_traces c)) (eq-eqb c c refl)
 
-      -- a scanner that is another's stands as it stood, and one that begins stands at its begin
+      -- another caller's scanner stays as it was, and a scanner that begins is related to the
+      -- history
       keyed : IsKeyed eq (replay eq good.es)
       keyed = replay_keyed eq (low hash) s.mode s.store.words.tables (hashed_setting eq hash law s good.core).lawful good.es good.kept.allowed
 
@@ -711,7 +712,7 @@ module _ {K V S A : Type 0} (eq : K → K → Bool) (hash : K → ℕ) (law : Is
             moments = λ so_far rest none. inl (ap (λ l. at_key (replayed eq (replay eq good.es) l) (key_of call)) (sym (nothing_before so_far rest none)));
           }
             where
-              -- the value at hand is the one that was handed in
+              -- the value of the call is the one that was passed in
               handed_value : (o : Option V) (v : V) → value_at s'.store.pairs (handed o) ≡ Some v → o ≡ Some v
               handed_value None v had = had
               handed_value (Some w) v had = had
@@ -759,7 +760,7 @@ module _ {K V S A : Type 0} (eq : K → K → Bool) (hash : K → ℕ) (law : Is
       valid : (j : K) (p : Stored K V) → replay eq es j ≡ Some p → (t : ℕ) × (i : ℕ) × (named ((run es first_state).slot t i) ≡ Some p)
       valid = held_in_slot eq (low hash) s.mode s.store.words.tables (hashed_setting eq hash law s core).lawful es kept.allowed
 
-  -- at its end the maps of a run are a timeline from the core's map to the core's map
+  -- at the end of a run its maps are a timeline from the first core's map to the last core's map
   pub good_end : (says : Says K V A) (schedule : List (Turn K V A)) (s s' : CoreState K V S A) (h : History) → IsGood eq says hash schedule s.store (map_of eq s) s' h → HasTimeline eq says schedule s h s'
   good_end says schedule s s' h good = record {
     last = replay eq good.es;

@@ -65,13 +65,13 @@ use Rattle.papaya_core_timeline.proofs.TiedLemmas.{KeepsParts, same_parts, tied_
 use Rattle.papaya_core_store.specs.declared.scans.Scanning.{Scanning}
 use Rattle.papaya_core_timeline.proofs.TimelineLemmas.{change_of-other, change_of-own, entry, logged_more, open_call-other, open_call-own}
 
--- an event that changes no pair of the map and shows nothing
+-- an event that changes no pair of the map, and calls no closure
 abbrev pub IsQuiet : Event → Type 0
 IsQuiet (Moved kind) = Unit {0}
 IsQuiet Other = Unit {0}
 IsQuiet _ = ⊥
 
--- what holds of such events
+-- a fact about each such event
 pub quiet_cases : (P : Event → Type 0) → P Other → ((kind : StepKind) → P (Moved kind)) → (e : Event) → IsQuiet e → P e
 quiet_cases P other moved (Moved kind) q = moved kind
 quiet_cases P other moved Other q = other
@@ -102,7 +102,7 @@ resize_done eq Clear c h maps is none = absurd is
 resize_done eq (Retain a) c h maps is none = absurd is
 resize_done eq Walk c h maps is none = absurd is
 
--- what made no change left all as it was
+-- a call that made no change left the map as it was
 pub left_all : {K V A : Type 0} (eq : K → K → Bool) (call : Call K V A) (made : Change) → made ≡ None → IsUnchanged eq call made
 left_all eq (Reserve more) made none = none
 left_all eq CopyAll made none = none
@@ -143,7 +143,7 @@ module _ {K V S A : Type 0} (eq : K → K → Bool) (hash : K → ℕ) (law : Is
   module _ {says : Says K V A} {hashes : S → K → ℕ} (refuse : Bool) (schedule : List (Turn K V A)) (first : StoreState K V S) (start : Map K V)
       (s s' : CoreState K V S A) (h : History) (turn c : ℕ) (event : Event) (reply : Option Reply) (x : Resizes eq hashes refuse s c s' event reply)
       (as_hashed : hashes s.store.hasher ≡ hash) (core' : IsCore s'.store s'.callers s'.mode) (good : IsGood eq says hash schedule first start s h) where
-    -- what the step exchanged, and of what the resizer was told
+    -- the exchanges of the step, and the record for the resizer
     abbrev made : List (Exchange (Stored K V))
     made = (resized.left eq hash law refuse s c s' event reply x as_hashed good.es good.call_traces good.core good.kept).made
 
@@ -172,11 +172,11 @@ module _ {K V S A : Type 0} (eq : K → K → Bool) (hash : K → ℕ) (law : Is
         (good.call_traces c).loaded x.answer made loaded x.before.state
         (resized.left eq hash law refuse s c s' event reply x as_hashed good.es good.call_traces good.core good.kept).told
 
-    -- its event tells no change, and shows nothing
+    -- its event has no change, and calls no closure
     quiet : IsQuiet event
     quiet = subst IsQuiet (sym x.event_is) (stage_moves IsQuiet tt (λ kind. tt) x.before.state x.ask x.answer)
 
-    -- logs grow
+    -- arenas only grow
     pairs_stay : KeepsPairs s.store s'.store
     pairs_stay n p there = left_logged (setting_of eq (low hash) s.mode s.store.words.tables) (coding_of (low hash)) s.store good.es
         (good.call_traces c).loaded (resized.left eq hash law refuse s c s' event reply x as_hashed good.es good.call_traces good.core good.kept) n p there
@@ -196,11 +196,11 @@ module _ {K V S A : Type 0} (eq : K → K → Bool) (hash : K → ℕ) (law : Is
           | inr differ ↦ (differ, sym (running-elsewhere s.callers c d work differ) ∙ before)
         ]
 
-    -- the work that goes on
+    -- the work that continues
     abbrev resumed : Resizer → Answer → Work K V A
     resumed z a = works.Resize (after z a)
 
-    -- and a resizer is this one, gone on, or another's
+    -- each resizer is this one, which continues, or is another caller's
     resizes_was : (d : ℕ) (z : Resizer) → resizing s'.callers d ≡ Some z → ((d ≡ c) × (reply ≡ None)) ⊎ ((d ≢ c) × (resizing s.callers d ≡ Some z))
     resizes_was d z now =
         let work : Option (Work K V A) = goes_on reply (works.Resize (after x.before x.answer)) in
@@ -217,7 +217,7 @@ module _ {K V S A : Type 0} (eq : K → K → Bool) (hash : K → ℕ) (law : Is
     loaded_other : (d : ℕ) → d ≢ c → (call_traces d).loaded ≡ (good.call_traces d).loaded
     loaded_other d differ = ap (λ b. cond b loaded (good.call_traces d).loaded) (differs d c differ)
 
-    -- a call that is open was open before, and has changed what it had
+    -- a call that is open was open before, and its change is the same
     opened : open_call schedule c later_history ≡ open_call schedule c h
     opened = open_call-own schedule c turn event h
         ∙ quiet_cases (λ e. open_after e (begun_by (slice_get schedule turn)) (open_call schedule c h) ≡ open_call schedule c h) refl (λ kind. refl) event quiet
@@ -228,7 +228,7 @@ module _ {K V S A : Type 0} (eq : K → K → Bool) (hash : K → ℕ) (law : Is
     open_other : (d : ℕ) (call : Call K V A) → d ≢ c → open_call schedule d later_history ≡ Some call → open_call schedule d h ≡ Some call
     open_other d call differ e = sym (open_call-other schedule c d turn event h (λ z. differ (sym z))) ∙ e
 
-    -- the pairs of the map after it are logged
+    -- the pairs of the map after it are stored in the arena
     valid : (j : K) (p : Stored K V) → replay eq es j ≡ Some p → (t : ℕ) × (i : ℕ) × (named ((run es first_state).slot t i) ≡ Some p)
     valid = held_in_slot eq (low hash) s'.mode s'.store.words.tables (hashed_setting eq hash law s' core').lawful es kept.allowed
 
@@ -306,7 +306,7 @@ module _ {K V S A : Type 0} (eq : K → K → Bool) (hash : K → ℕ) (law : Is
         (timeline_steady eq schedule start later_history later_maps (None ∷ good.answers) timeline).0 (λ t y p q is. absurd (no_replace t y p q is))
         (good.scanned d v call before (open_other d call differ e))
 
-    -- the resizer goes on
+    -- the resizer continues
     abbrev goes_on_good : IsGood eq says hash schedule first start s' later_history
     goes_on_good = record {
       es = es;

@@ -1,5 +1,5 @@
--- A pair that a scanner returns, or with which it calls its closure, was in the map at some moment
--- of its call; and what holds when the scan ends.
+-- A pair that a scanner returns, or with which it calls its closure, was in the map at some point
+-- of its call; and the facts that hold when the scan ends.
 use Rattle.std.proofs.Common.{◌≡◌, inl, inr, ⊎_elim, ℕ, suc, Bool, true, false, cond, Option, None}
 use Rattle.std.proofs.Common.{Some, is_some, IsSome, List, [], ◌∷◌, ◌++◌, refl, sym, ◌∙◌, ap, subst}
 use Rattle.std.proofs.Common.{eq-eqb}
@@ -37,13 +37,13 @@ use Rattle.papaya_call_law.specs.Scans as scan_law
 use Rattle.papaya_core_store.specs.declared.scans.Scanning.{Scanning}
 use Rattle.papaya_core_store.specs.declared.store.Mode.{Mode}
 
--- a pair of which an answer is known was shown
+-- if a result for a pair is known, the closure was called with that pair
 pub answered_shown : {P : Type 0} (l : List (P × Bool)) (p : P) (stays : Bool) → IsLastAnswer l p stays → WasShown l p
 answered_shown [] p stays x = x
 answered_shown (one ∷ older) p stays (inl (is, said)) = inl is
 answered_shown (one ∷ older) p stays (inr (other, x)) = inr (answered_shown older p stays x)
 
--- two lists that begin alike and are one end alike
+-- two lists that are the same and have the same prefix have the same rest
 append_same : {A : Type 0} (xs ys zs : List A) → xs ++ ys ≡ xs ++ zs → ys ≡ zs
 append_same [] ys zs e = e
 append_same (x ∷ xs) ys zs e = let f : xs ++ ys ≡ xs ++ zs = cc in append_same xs ys zs f
@@ -63,14 +63,14 @@ module _ {K V : Type 0} (k : K) (since : List (Map K V)) where
   once_now [] n never had = inl (had, tt)
   once_now (x ∷ xs) n never had = inr (never.0, once_now xs n never.1 had)
 
-  -- a key that had a pair all the time had none at no moment
+  -- a key that had a pair all the time was absent at no point
   none_each : (maps : List (Map K V)) → OfSome (λ m. m k ≡ None) maps → OfEach (λ m. IsSome (m k)) maps → ⊥
   none_each [] x all = x
   none_each (m ∷ maps) (inl none) all = let f : false ≡ true = sym (ap (λ (o : Option (Stored K V)). is_some o) none) ∙ all.0 in absurd cc
   none_each (m ∷ maps) (inr x) all = none_each maps x all.1
 
 module _ {K V S : Type 0} (store : StoreState K V S) where
-  -- the maps since a moment have logged pairs
+  -- the pairs of the maps since a point are stored in the arena
   since_logged : (c : ℕ) (h : History) (maps since : List (Map K V)) → AreSince c h maps since → AreInArena store maps → AreInArena store since
   since_logged c [] maps since x l = absurd x
   since_logged c (e ∷ h) [] since x l = absurd x
@@ -82,11 +82,11 @@ module _ {K V S : Type 0} (store : StoreState K V S) where
   some_logged k p (m ∷ since) (inl is) l = l.0 k p is
   some_logged k p (m ∷ since) (inr x) l = some_logged k p since x l.1
 
-  -- two logged pairs of one number are one
+  -- two pairs of the arena with one number are one pair
   one_pair : (p q : Stored K V) → IsInArena store p → IsInArena store q → p.number ≡ q.number → p ≡ q
   one_pair p q is_p is_q number = let both : Some p ≡ Some q = sym is_p ∙ ap (pair_of store) number ∙ is_q in cc
 
-  -- what was answered last of a pair was answered last of its number
+  -- the last result for a pair is the last result for its number
   pub last_is : (shown : List (Stored K V × Bool)) (p : Stored K V) (b : Bool) → ((q : Stored K V) → WasShown shown q → IsInArena store q)
       → IsInArena store p → IsLastAnswer shown p b → answer_about shown p.number ≡ Some b
   last_is [] p b all there x = absurd x
@@ -151,7 +151,7 @@ module _ {K V : Type 0} (eq : K → K → Bool) (hash : K → ℕ) (mode : Mode)
   module _ {S A : Type 0} (says : Says K V A) (store : StoreState K V S) (schedule : List (Turn K V A)) (v : Scanning A) (call : Call K V A) (c : ℕ)
       (call_trace : ScanTrace K V) (h : History) (maps : List (Map K V)) (answers : Answered V)
       (tied : IsScanTied eq says store schedule v call c call_trace h maps answers) (s : Words (Stored K V)) where
-    -- what the map had since the call began it had at a moment of the call
+    -- the key had this in the map since the call began, so it had it at some point of the call
     at_moment : (k : K) (o : Option (Stored K V)) → IsAtMoment g (map_left g call_trace.begun) call_trace.since k o
         → AtSomeMoment (λ f. at_key f (Some k) ≡ o) c h maps
     at_moment k o was =
@@ -160,7 +160,7 @@ module _ {K V : Type 0} (eq : K → K → Bool) (hash : K → ℕ) (mode : Mode)
         ∙ ap (λ y. y k) (sym (map_replayed eq hash mode tables was.so_far (map_left g call_trace.begun))) ∙ was.value_is)
         (tied.moments k was.so_far was.rest was.is)
 
-    -- and what it had since the table was taken, it had in a map since then
+    -- and a pair that it had since the table was taken, it had in a map since then
     in_making : (fs : List (Exchange (Stored K V))) → call_trace.loaded.before ++ fs ≡ call_trace.since → (k : K) (o : Option (Stored K V))
         → IsAtMoment g (map_of g (map_left g call_trace.begun) call_trace.loaded.before) fs k o → OfSome (λ f. f k ≡ o) tied.making.since
     in_making fs is k o was =
@@ -169,7 +169,7 @@ module _ {K V : Type 0} (eq : K → K → Bool) (hash : K → ℕ) (mode : Mode)
         (λ f e. e ∙ sym (map_since call_trace.begun call_trace.loaded.before was.so_far k) ∙ was.value_is)
         (tied.making.covers k was.so_far was.rest (was.is ∙ same))
 
-    -- a pair that is shown or given was in the map at such moments
+    -- a pair with which the closure is called, or that is returned, was in the map at such points
     module _ (n : ℕ) (had : HadPair g (coding_of hash) s (map_left g call_trace.begun) call_trace.since call_trace.loaded n) where
       pub in_call : AtSomeMoment (HasNumber n) c h maps
       in_call = at_weaker (λ f. at_key f (Some had.pair.key) ≡ Some had.pair) (HasNumber n) c h maps (λ f e. (had.pair.key, had.pair, e, had.number))
@@ -180,7 +180,7 @@ module _ {K V : Type 0} (eq : K → K → Bool) (hash : K → ℕ) (mode : Mode)
           (λ f e. (had.pair.key, had.pair, e, had.number)) (in_making had.fs had.is had.pair.key (Some had.pair) had.had)
 
     module _ (lawful : IsLawful g) (logged : AreInArena store maps) where
-      -- a given pair of the key's class was the key's
+      -- a returned pair of the key's class was the key's
       had_then : (fs : List (Exchange (Stored K V))) → call_trace.loaded.before ++ fs ≡ call_trace.since → (k : K) (p : Stored K V)
           → eq k p.key ≡ true → IsAtMoment g (map_of g (map_left g call_trace.begun) call_trace.loaded.before) fs p.key (Some p)
           → HadNumber k tied.making.since p.number
@@ -215,7 +215,7 @@ module _ {K V : Type 0} (eq : K → K → Bool) (hash : K → ℕ) (mode : Mode)
         other k p one differ had = not_had store eq k p (there p one) differ since tied.making.keyed
             (since_logged store c h maps since tied.making.are logged) had
 
-        -- as often as a key is counted it was given
+        -- a key is returned as often as it is counted
         given_never : (k : K) (l : List (Stored K V)) → ((p : Stored K V) → IsOneOf l p → IsOneOf call_trace.loaded.given p) → count_of g l k ≡ 0
             → IsGivenNever k since (numbers_of l)
         given_never k [] of none = tt

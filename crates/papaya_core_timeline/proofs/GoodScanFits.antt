@@ -1,5 +1,5 @@
--- What a scanner's ask leaves, and which pairs its call may return, pass to its closure and remove,
--- and what it may reply.
+-- The effect of a scanner's ask; the pairs that its call may return, pass to its closure and
+-- remove; and the replies that it may give.
 use Rattle.std.proofs.Common.{rules, ◌≡◌, ◌⊎◌, inl, inr, ℕ, Bool, false, Option, None, Some, List, [], refl, sym, ◌∙◌, ap}
 use Rattle.papaya_words.specs.declared.refused.Refused.{Refused as Refusal}
 use Rattle.papaya_words.specs.declared.refused.Refused.TheVariants.{RemoveNothing, Memory}
@@ -39,7 +39,7 @@ use Rattle.papaya_core_store.specs.declared.scans.Scanning.{Scanning}
 use Rattle.papaya_core_store.specs.Scans.{PerformsScan}
 
 module _ {K V S A : Type 0} (eq : K → K → Bool) (hash : S → K → ℕ) (refuse : Bool) where
-  -- what a scanner asks leaves the log
+  -- the asks of a scanner leave the arena
   pub scan_pairs : (says : Says K V A) (ask : ScanAsk) (s : StoreState K V S) (v : Scanning A) (a : Answer) (s' : StoreState K V S) (v' : Scanning A)
       → PerformsScan eq says hash refuse ask s v a s' v' → s'.pairs ≡ s.pairs
   scan_pairs says (Copy ask) s v a s' v' (performs, same) = copy_pairs eq hash refuse ask s a s' performs
@@ -62,11 +62,11 @@ module _ {K V S A : Type 0} (eq : K → K → Bool) (hash : S → K → ℕ) (re
   scan_unrefused says (AddToShard by) s v a s' v' (e, counted, same) is = let f : answers.Call Ok ≡ answers.Call (Was_refused RemoveNothing) = sym e
       ∙ is in absurd cc
 
--- a list that could not grow was answered so
+-- if a list could not grow, the answer is that refusal
 pub unheard_is : (ask : ScanAsk) (a : Answer) (refused : Refusal) → list_refusal ask a ≡ Some refused → a ≡ answers.Call (Was_refused refused)
 unheard_is ask a refused e = search rules
 
--- what a scanner replies
+-- the reply of a scanner
 pub scan_replies : (state : ScannerState) (o : Option Refusal) (rep : Reply) → reply_or o (reply_in state) ≡ Some rep
     → ((rep ≡ Done) × (reply_in state ≡ Some Done)) ⊎ ((refused : Refusal) × (rep ≡ Refused refused))
 scan_replies state (Some refused) rep e = inr (refused, sym (same_item (Refused refused) rep e))
@@ -82,7 +82,7 @@ scan_replies (states.Burying spot word) None rep e = absurd cc
 scan_replies (states.Uncounting spot) None rep e = absurd cc
 
 module _ {K V A : Type 0} (eq : K → K → Bool) where
-  -- a walk alone gives
+  -- only an iteration returns pairs
   pub walk_gives : (call : Call K V A) (n c : ℕ) (h : History) (maps : List (Map K V)) → IsScanOf call scans.Walk
       → AtSomeMoment (HasNumber n) c h maps → FitsGiven eq (Some call) n c h maps
   walk_gives Walk n c h maps of at = at
@@ -96,7 +96,7 @@ module _ {K V A : Type 0} (eq : K → K → Bool) where
   walk_gives (Reserve more) n c h maps of at = absurd of
   walk_gives CopyAll n c h maps of at = absurd of
 
-  -- a retain alone shows
+  -- only a retain calls a closure
   pub retain_shows : (call : Call K V A) (n c : ℕ) (h : History) (maps : List (Map K V)) → IsScanOf call scans.Retain
       → AtSomeMoment (HasNumber n) c h maps → FitsAsked eq (Some call) n c h maps
   retain_shows (Retain a) n c h maps of at = at
@@ -110,7 +110,7 @@ module _ {K V A : Type 0} (eq : K → K → Bool) where
   retain_shows (Reserve more) n c h maps of at = absurd of
   retain_shows CopyAll n c h maps of at = absurd of
 
-  -- and a walk takes nothing out
+  -- an iteration takes nothing out
   pub scan_takes : (call : Call K V A) (scan : Scan) (made : Change) (p : Stored K V) (c : ℕ) (h : History) (said : _) → IsScanOf call scan
       → (scan ≡ scans.Walk → ⊥) → (scan ≡ scans.Retain → last_asked c p.number h ≡ Some false) → MayChange eq (Some call) made p.key (Some p) None
       × IsAgreed (Some call) c (Some p.number) None h said
@@ -129,7 +129,7 @@ module _ {K V A : Type 0} (eq : K → K → Bool) where
   scan_takes (Reserve more) scan made p c h said of no_walk agreed = absurd of
   scan_takes CopyAll scan made p c h said of no_walk agreed = absurd of
 
-  -- where it is refused only a walk has changed nothing
+  -- if it is refused, an iteration has changed nothing
   pub scan_refused : (call : Call K V A) (scan : Scan) (made : Change) → IsScanOf call scan → (scan ≡ scans.Walk → made ≡ None) → IsUnchanged eq call made
   scan_refused Clear scan made of unchanged = tt
   scan_refused (Retain a) scan made of unchanged = tt
@@ -144,7 +144,7 @@ module _ {K V A : Type 0} (eq : K → K → Bool) where
   scan_refused (Reserve more) scan made of unchanged = absurd of
   scan_refused CopyAll scan made of unchanged = absurd of
 
--- a trace tells a call nothing of what a scanner is told
+-- the trace of a scanner does not matter to a call on one key
 pub tied_scan : {K V S A : Type 0} (eq : K → K → Bool) (store : StoreState K V S) (r : Running K V A) (call : Call K V A) (d : ℕ)
     (call_trace : CallTrace K V) (loaded : LoadedPairs (Stored K V)) (h : History) (maps : List (Map K V)) (said : _)
     → IsTied eq store r call d call_trace h maps said → IsTied eq store r call d (record call_trace { scan = loaded }) h maps said
@@ -162,7 +162,7 @@ tied_scan eq store r call d call_trace loaded h maps said t = record {
   moments = t.moments;
 }
 
--- a state without a table has given nothing
+-- a state without a table has returned nothing
 pub none_given : {K P : Type 0} (g : Setting K P) (c : Coding K P) (s : Words P) (m : K → Option P) (since : List (Exchange P)) (scan : Scan)
     (loaded : LoadedPairs P) (state : ScannerState) → IsWithout state → ReliesState g c s m since scan loaded state → loaded.given ≡ []
 none_given g c s m since scan loaded (states.Copying stage) without relies = relies.0

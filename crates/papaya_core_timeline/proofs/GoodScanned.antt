@@ -99,7 +99,7 @@ module _ {K V S A : Type 0} (eq : K → K → Bool) (hash : K → ℕ) (law : Is
     before_scanning : IsScanning eq hash s.mode s.store x.before good.es call_trace
     before_scanning = good.kept.scanners c x.before x.was
 
-    -- what was exchanged was allowed
+    -- the exchanges were allowed
     may_all : AllAllowed g first_state (call_trace.begun ++ call_trace.since)
     may_all = subst (AllAllowed g first_state) (sym before_scanning.split) good.kept.allowed
 
@@ -109,7 +109,7 @@ module _ {K V S A : Type 0} (eq : K → K → Bool) (hash : K → ℕ) (law : Is
     may_since : AllAllowed g (run call_trace.begun first_state) call_trace.since
     may_since = allowed_rest g call_trace.begun call_trace.since first_state may_all
 
-    -- a pair that is shown or given was the map's
+    -- a pair with which the closure is called, or that is returned, was in the map
     shown_pair : (n : ℕ) → x.ask ≡ Show n → HadPair g coding (run call_trace.begun first_state) (map_left g call_trace.begun) call_trace.since call_trace.loaded n
     shown_pair n is = state_named g coding hashed (run call_trace.begun first_state) (map_left g call_trace.begun) keeps_first call_trace.since may_since x.before.scanner.scan call_trace.loaded x.before.scanner.state before_scanning.relies.state (Show n) (x.asked ∙ ap (λ y. Some y) is)
 
@@ -140,7 +140,7 @@ module _ {K V S A : Type 0} (eq : K → K → Bool) (hash : K → ℕ) (law : Is
           | inr differ ↦ (differ, sym (resizing-elsewhere s.callers c d work differ) ∙ before)
         ]
 
-    -- a scanner is this one, gone on, or another's
+    -- each scanner is this one, which continues, or is another caller's
     scans_was : (d : ℕ) (v : Scanning A) → scanning s'.callers d ≡ Some v → ((d ≡ c) × (reply ≡ None) × (own ≡ v)) ⊎ ((d ≢ c) × (scanning s.callers d ≡ Some v))
     scans_was d v now =
         let before : scanning (with_work s.callers c work) d ≡ Some v = sym (ap (λ (y : List (Seat K V A)). scanning y d) x.callers) ∙ now in
@@ -152,7 +152,7 @@ module _ {K V S A : Type 0} (eq : K → K → Bool) (hash : K → ℕ) (law : Is
     open_other : (d : ℕ) (call : Call K V A) (e : Event) → d ≢ c → open_call schedule d (entry turn c e ∷ h) ≡ Some call → open_call schedule d h ≡ Some call
     open_other d call e differ is = sym (open_call-other schedule c d turn e h (λ z. differ (sym z))) ∙ is
 
-    -- what its closure answered
+    -- the result of its closure
     answering : IsScanAnswering says s'.store x.before x.later event
     answering = subst (IsScanAnswering says s'.store x.before x.later) (sym x.event_is) (scan_answering eq says hashes refuse s.store x.before x.answer s'.store x.later (kind_of_ask x.before.scanner) x.ask x.performs)
 
@@ -166,7 +166,7 @@ module _ {K V S A : Type 0} (eq : K → K → Bool) (hash : K → ℕ) (law : Is
       ]
     ]
 
-    -- Where it was told something.
+    -- If the answer reached the scanner.
     module _ (heard : kept_scan.Heard eq hash law says hashes refuse s c s' event reply x as_hashed good.es good.call_traces good.core good.kept) where
       abbrev made : List (Exchange (Stored K V))
       made = heard.made
@@ -192,7 +192,7 @@ module _ {K V S A : Type 0} (eq : K → K → Bool) (hash : K → ℕ) (law : Is
       step : Step event
       step = subst Step (sym x.event_is) (scan_step eq g coding hashed (λ p. refl) (run good.es first_state) call_trace.since call_trace.loaded x.answer made heard.loaded x.before.scanner.state x.ask x.asked heard.told)
 
-      -- what holds of each event that a scanner's step may have
+      -- a fact about each event that a scanner's step may have
       event_cases : (P : Event → Type 0) → P Other → ((kind : StepKind) → P (Moved kind)) → ((n : ℕ) → P (Gave n)) → ((n : ℕ) (stays : Bool) → P (Asked n stays)) → ((n : ℕ) → P (Changed kinds.Bury (Some n) None)) → P event
       event_cases P other moved gave asked buried = elim step [
         | inl still ↦ quiet_cases P other moved event still.quiet
@@ -226,11 +226,11 @@ module _ {K V S A : Type 0} (eq : K → K → Bool) (hash : K → ℕ) (law : Is
       opened : open_call schedule c later_history ≡ open_call schedule c h
       opened = open_call-own schedule c turn event h ∙ event_cases (λ e. open_after e (begun_by (slice_get schedule turn)) (open_call schedule c h) ≡ open_call schedule c h) refl (λ kind. refl) (λ n. refl) (λ n stays. refl) (λ n. refl)
 
-      -- how the scanner stood
+      -- how the scanner was related to the history
       tied_before : (call : Call K V A) → open_call schedule c h ≡ Some call → IsScanTied eq says s.store schedule x.before call c call_trace h (replay eq good.es ∷ good.maps) good.answers
       tied_before call e = good.scanned c x.before call x.was e
 
-      -- the pairs that are given, shown and deleted
+      -- the pairs that are returned, passed to the closure and deleted
       gift_pair : (gift : IsGift eq g coding hashed (run good.es first_state) call_trace.since x.before.scanner.state call_trace.loaded event made heard.loaded) → HadPair g coding (run call_trace.begun first_state) (map_left g call_trace.begun) call_trace.since call_trace.loaded (number_of gift.word)
       gift_pair gift = given_pair (number_of gift.word) (same_item x.ask (Given (number_of gift.word)) (sym x.asked ∙ ap asks_in gift.giving))
 
@@ -260,7 +260,7 @@ module _ {K V S A : Type 0} (eq : K → K → Bool) (hash : K → ℕ) (law : Is
             others = λ j other. ap (λ f. f j) is ∙ ap (λ b. cond b None (replay eq good.es j)) other;
           }
 
-      -- of which a retain was answered that it does not stay
+      -- a retain deletes a pair for which its closure returned that it does not stay
       dropped : (call : Call K V A) → open_call schedule c h ≡ Some call → (burial : IsBurial eq g coding hashed (run good.es first_state) call_trace.since x.before.scanner.state call_trace.loaded event made heard.loaded) → (scan : Scan) → MayTake g coding (run call_trace.begun first_state) (map_left g call_trace.begun) call_trace.since scan call_trace.loaded burial.word → scan ≡ scans.Retain → last_asked c burial.pair.number h ≡ Some false
       dropped call e burial scans.Walk takes is = absurd cc
       dropped call e burial scans.Clear takes is = absurd cc
@@ -320,7 +320,7 @@ module _ {K V S A : Type 0} (eq : K → K → Bool) (hash : K → ℕ) (law : Is
       steady : (j : K) (p : Stored K V) → replay eq es j ≡ Some p → (replay eq good.es j ≡ Some p) ⊎ IsUnused p.number (replay eq good.es ∷ good.maps)
       steady = (timeline_steady eq schedule start later_history later_maps (None ∷ good.answers) timeline).0
 
-      -- the pairs of the map after it are logged, each under a key of its class
+      -- the pairs of the map after it are stored in the arena, each with a key of its class
       valid : (j : K) (p : Stored K V) → replay eq es j ≡ Some p → (t : ℕ) × (i : ℕ) × (named ((run es first_state).slot t i) ≡ Some p)
       valid = held_in_slot eq (low hash) s'.mode s'.store.words.tables (hashed_setting eq hash law s' core').lawful es kept.allowed
 
@@ -333,7 +333,7 @@ module _ {K V S A : Type 0} (eq : K → K → Bool) (hash : K → ℕ) (law : Is
       keyed : IsKeyed eq (replay eq es)
       keyed = replay_keyed eq (low hash) s'.mode s'.store.words.tables (hashed_setting eq hash law s' core').lawful es kept.allowed
 
-      -- where its own trace goes on
+      -- if its own trace continues
       own_loaded : heard.loaded ≡ (call_traces c).scan
       own_loaded = sym (ap (λ b. cond b heard.loaded (good.call_traces c).scan) (eq-eqb c c refl))
 
@@ -379,7 +379,7 @@ module _ {K V S A : Type 0} (eq : K → K → Bool) (hash : K → ℕ) (law : Is
           was : last_asked c n h ≡ answer_about call_trace.loaded.shown n
           was = (tied_before call e).asked n
 
-      -- its making stays, or is made anew
+      -- the maps since it took its table are kept, or begin again
       own_making : (call : Call K V A) (e : open_call schedule c h ≡ Some call)
           → ((heard.loaded.before ≡ call_trace.loaded.before) × ((n : ℕ) → c ≡ c → event ≡ Gave n → OfSome (HasNumber n) (tied_before call e).making.since)) ⊎ ((heard.loaded.before ≡ call_trace.since ++ made) × (heard.loaded.given ≡ []) × ((n : ℕ) → event ≡ Gave n → ⊥))
       own_making call e = elim step [
@@ -406,7 +406,7 @@ module _ {K V S A : Type 0} (eq : K → K → Bool) (hash : K → ℕ) (law : Is
           let (a, was, gives) = answering.left a' had in
           inr (inl (refl, no_begin, (a, left_more says s.store s'.store heard.keeps schedule a c h good.answers ((tied_before call e).left a was), gives)))
 
-      -- the scanner stands to the longer history, replied or not
+      -- the scanner is related to the longer history, whether it replied or not
       own_tied : (call : Call K V A) → open_call schedule c h ≡ Some call → IsScanTied eq says s'.store schedule own call c (scan_trace (call_traces c)) later_history later_maps (None ∷ good.answers)
       own_tied call e =
           subst (λ (y : LoadedPairs (Stored K V)). IsScanTied eq says s'.store schedule own call c (record { begun = call_trace.begun; since = call_trace.since ++ made; loaded = y }) later_history later_maps (None ∷ good.answers)) own_loaded
@@ -445,7 +445,7 @@ module _ {K V S A : Type 0} (eq : K → K → Bool) (hash : K → ℕ) (law : Is
           tied_scan eq s'.store r call d (told_call_traces good.call_traces c made (good.call_traces c).loaded d) (call_traces d).scan later_history later_maps (None ∷ good.answers)
           (tied_other eq s.store s'.store r call c d turn event good.call_traces made (good.call_traces c).loaded h good.es (replay eq good.es ∷ good.maps) None good.answers parts_stay (good.kept.calls d r before).valued heard.keeps one (λ z. differ (sym z)) (good.kept.calls d r before).split (good.tied d r call before (open_other d call event differ e)))
 
-      -- the scanner goes on
+      -- the scanner continues
       abbrev goes_on_good : IsGood eq says hash schedule first start s' later_history
       goes_on_good = record {
         es = es;
@@ -542,7 +542,7 @@ module _ {K V S A : Type 0} (eq : K → K → Bool) (hash : K → ℕ) (law : Is
                 (tied d r call now (sym (open_call-other schedule c d turn (Replied rep) later_history (ne d r now)) ∙ e));
           }
 
-    -- Where its list could not grow it was told nothing, and its call is over.
+    -- If its list could not grow, the answer did not reach it, and its call is over.
     module _ (deaf : kept_scan.Unheard eq hash law says hashes refuse s c s' event reply x as_hashed good.es good.call_traces good.core good.kept) where
       kept_deaf : IsConsistent eq hash s'.mode s'.store s'.callers good.es good.call_traces
       kept_deaf = kept_scan.unheard_kept eq hash law says hashes refuse s c s' event reply x as_hashed good.es good.call_traces good.core good.kept deaf
@@ -571,7 +571,7 @@ module _ {K V S A : Type 0} (eq : K → K → Bool) (hash : K → ℕ) (law : Is
       deaf_logged : AreInArena s'.store (newest ∷ good.maps)
       deaf_logged = logged_more s.store s'.store (newest ∷ good.maps) deaf_stay good.logged
 
-      -- all others stand as they stood
+      -- all others stay as they were
       tied_deaf : (d : ℕ) (r : Running K V A) (call : Call K V A) → running s'.callers d ≡ Some r → open_call schedule d deaf_history ≡ Some call → IsTied eq s'.store r call d (good.call_traces d) deaf_history (newest ∷ newest ∷ good.maps) (None ∷ good.answers)
       tied_deaf d r call now e =
           let (differ, before) = runs_other d r now in
@@ -641,7 +641,7 @@ module _ {K V S A : Type 0} (eq : K → K → Bool) (hash : K → ℕ) (law : Is
                 (tied_deaf d r call now (further d call (ne d r now) e));
           }
 
-    -- what was heard, or not
+    -- both cases: the answer reached the scanner, or its list could not grow
     stepped : (o : Option Reply) → reply ≡ o → IsGood eq says hash schedule first start s' (with_step turn c event o h)
     stepped None is = elim (kept_scan.heard_so eq hash law says hashes refuse s c s' event reply x as_hashed good.es good.call_traces good.core good.kept) [
       | inl deaf ↦ (let f : None ≡ Some (Refused Memory) = sym is ∙ kept_scan.unheard_reply eq hash law says hashes refuse s c s' event reply x as_hashed good.es good.call_traces good.core good.kept deaf in absurd cc)

@@ -35,7 +35,8 @@ use Rattle.papaya_call_law.specs.ScanAnswers.{LoadedPairs, nothing_loaded}
 use Rattle.papaya_core_store.specs.declared.scans.Scanning.{Scanning}
 use Rattle.papaya_core_store.specs.declared.store.Mode.{Mode}
 
--- what a caller's call has given, and what it was answered, after another's entry and after its own
+-- the pairs that a caller's call has returned, and the results of its closure, after another
+-- caller's entry and after its own
 pub given_by-other : (c d turn : ℕ) (event : Event) (before : History) → c ≢ d → given_by d (entry turn c event ∷ before) ≡ given_by d before
 given_by-other c d turn event before h = ap (λ b. cond b (given_then event (given_by d before)) (given_by d before)) (differs c d h)
 
@@ -72,7 +73,7 @@ module _ {K V : Type 0} where
   began_used P c (e ∷ h) (m ∷ maps) k p has (inl (begun, is)) unused = unused.0 k p (has m is) refl
   began_used P c (e ∷ h) (m ∷ maps) k p has (inr (other, x)) unused = began_used P c h maps k p has x unused.1
 
-  -- what held at the begin, and what follows from it
+  -- a fact at the begin implies each weaker one
   pub began_weaker : (P Q : Map K V → Type 0) (c : ℕ) (h : History) (maps : List (Map K V)) → ((m : Map K V) → P m → Q m) → AtBegin P c h maps
       → AtBegin Q c h maps
   began_weaker P Q c [] maps f x = x
@@ -106,7 +107,7 @@ module _ {K V : Type 0} (eq : K → K → Bool) where
   taken (Abort n) k q m out has = let f : false ≡ true = out in absurd cc
   taken (Take n) k q m out has = let f : false ≡ true = out in absurd cc
 
-  -- what was taken out of the map, was taken out before the last exchange or by it
+  -- a pair that was taken out of the map was taken out before the last exchange or by it
   taken_cases : (since made : List (Exchange (Stored K V))) (k : K) → (made ≡ []) ⊎ ((x : Exchange (Stored K V)) × (made ≡ x ∷ []))
       → IsTakenOut (replaying eq) (since ++ made) k → IsTakenOut (replaying eq) since k
       ⊎ ((x : Exchange (Stored K V)) × (made ≡ x ∷ []) × (takes_out (replaying eq) x k ≡ true))
@@ -131,7 +132,7 @@ module _ {K V : Type 0} (eq : K → K → Bool) where
           let same : out.by ≡ x = last_same out.so_far since out.by x (whole ∙ ap (λ l. since ++ l) is) in
           inr (x, is, ap (λ y. takes_out (replaying eq) y k) (sym same) ∙ out.out)
 
-  -- a pair that comes to a class has a key of it
+  -- a pair that is put into a class has a key of it
   put_keyed : (m : Map K V) → IsKeyed eq m → (l : K) (came : Option (Stored K V))
       → ((k : K) (p : Stored K V) → came ≡ Some p → eq k l ≡ true → eq k p.key ≡ true) → (k : K) (p : Stored K V) → cond (eq k l) came (m k) ≡ Some p
       → eq k p.key ≡ true
@@ -170,7 +171,8 @@ module _ {K V : Type 0} (eq : K → K → Bool) where
     replay_keyed es may = replayed_keyed es start (λ k. None) (λ k p e. absurd cc) may
 
   module _ {S A : Type 0} (says : Says K V A) (schedule : List (Turn K V A)) where
-    -- A scanner's trace after an entry that begins no call of its caller. A map has come with it, of one exchange more at most.
+    -- A scanner's trace after an entry that begins no call of its caller. The entry adds one map,
+    -- and at most one exchange.
     module _ (store store' : StoreState K V S) (v v' : Scanning A) (call : Call K V A) (d : ℕ) (call_trace : ScanTrace K V)
         (since' made : List (Exchange (Stored K V))) (loaded' : LoadedPairs (Stored K V)) (e : Entry) (h : History) (m m' : Map K V)
         (maps : List (Map K V)) (o : Option (Operation V ℕ)) (answers : Answered V)
@@ -216,7 +218,7 @@ module _ {K V : Type 0} (eq : K → K → Bool) where
           (λ unused. used unused)
           (steady k p there)
 
-      -- where the maps since its making go on
+      -- if the maps since it took its table continue
       making_on : loaded'.before ≡ call_trace.loaded.before → ((n : ℕ) → e.caller ≡ d → e.event ≡ Gave n → OfSome (HasNumber n) tied.making.since)
           → IsMaking eq d call_trace' (e ∷ h) (m' ∷ m ∷ maps)
       making_on same there = record {
@@ -244,7 +246,7 @@ module _ {K V : Type 0} (eq : K → K → Bool) where
               ∙ ap (λ l. replay eq l) (sym (append_assoc call_trace.begun loaded'.before (tied.making.fs ++ made)))
               ∙ replay-append eq (call_trace.begun ++ loaded'.before) (tied.making.fs ++ made)
 
-      -- and where it is made anew, before it gives anything
+      -- and if they begin again, before it returns anything
       making_now : loaded'.before ≡ call_trace.since ++ made → given_by d (e ∷ h) ≡ [] → ((n : ℕ) → e.event ≡ Gave n → ⊥)
           → IsMaking eq d call_trace' (e ∷ h) (m' ∷ m ∷ maps)
       making_now now none no_gift = record {
@@ -261,7 +263,7 @@ module _ {K V : Type 0} (eq : K → K → Bool) where
           all : loaded'.before ≡ since'
           all = now ∙ sym since_is
 
-      -- so it stands to the longer history
+      -- so it is related to the longer history
       pub scan_tied : IsScanOf call v'.scanner.scan → (v'.scanner.scan ≡ scans.Walk → change_of d (e ∷ h) ≡ None)
           → given_by d (e ∷ h) ≡ numbers_of loaded'.given → ((n : ℕ) → last_asked d n (e ∷ h) ≡ answer_about loaded'.shown n)
           → ((loaded'.before ≡ call_trace.loaded.before) × ((n : ℕ) → e.caller ≡ d → e.event ≡ Gave n → OfSome (HasNumber n) tied.making.since))
@@ -282,7 +284,7 @@ module _ {K V : Type 0} (eq : K → K → Bool) where
         left = left;
       }
 
-    -- another caller's entry leaves how a scanner stands to its history
+    -- another caller's entry leaves how a scanner is related to its history
     pub scan_other : (store store' : StoreState K V S) (v : Scanning A) (call : Call K V A) (c d turn : ℕ) (event : Event)
         (call_trace : ScanTrace K V) (since' made : List (Exchange (Stored K V))) (h : History) (m m' : Map K V) (maps : List (Map K V))
         (o : Option (Operation V ℕ)) (answers : Answered V)
@@ -313,7 +315,7 @@ module _ {K V : Type 0} (eq : K → K → Bool) where
         scan_other store store' v call c d turn event call_trace call_trace.since [] h m m maps o answers differ stay (inl refl)
         (sym (append-nil call_trace.since)) m_was m_was keyed (λ j p e. inl e) (λ t y p q e. absurd cc) tied
 
-    -- a scanner that begins stands so
+    -- so is a scanner that begins
     pub scan_begins : (store : StoreState K V S) (v : Scanning A) (call : Call K V A) (c turn : ℕ) (es : List (Exchange (Stored K V))) (h : History)
         (maps : List (Map K V)) (o : Option (Operation V ℕ)) (answers : Answered V)
         → IsScanOf call v.scanner.scan → IsKeyed eq (replay eq es)

@@ -52,7 +52,7 @@ use Rattle.papaya_core_timeline.proofs.StoreLemmas.{performed_ask, performed_cop
 use Rattle.papaya_core_timeline.proofs.TiedLemmas.{grown}
 
 module _ {K V S A : Type 0} where
-  -- what always holds of a core holds after a step
+  -- the invariant of a core holds after a step
   pub advance-core : (eq : K → K → Bool) (says : Says K V A) (hash : S → K → ℕ) (refuse : Bool) (s : CoreState K V S A) (caller : ℕ)
       (s' : CoreState K V S A) (event : Event) (reply : Option Reply) → Advances eq says hash refuse s caller s' event reply
       → IsCore s.store s.callers s.mode → IsCore s'.store s'.callers s'.mode
@@ -77,7 +77,7 @@ module _ {K V S A : Type 0} where
       still None r stands goes q e = subst (λ (y : Running K V A). IsValid y.machine × IsGoing y.machine) (same_item r q e) (stands, goes refl)
       still (Some rep) r stands goes q e = let f : None ≡ Some q = e in cc
 
-  -- so it does after a step of a resizer
+  -- the same for a step of a resizer
   pub resize-core : (eq : K → K → Bool) (hash : S → K → ℕ) (refuse : Bool) (s : CoreState K V S A) (caller : ℕ) (s' : CoreState K V S A)
       (event : Event) (reply : Option Reply) → Resizes eq hash refuse s caller s' event reply → IsCore s.store s.callers s.mode
       → IsCore s'.store s'.callers s'.mode
@@ -102,7 +102,7 @@ module _ {K V S A : Type 0} where
       going None z w e = refl
       going (Some rep) z w e = let f : None ≡ Some z = ap resizer_in e in absurd cc
 
-  -- and after a begin
+  -- and for a begin
   pub begin-core : (hash : K → ℕ) (s : CoreState K V S A) (caller : ℕ) (call : Call K V A) (s' : CoreState K V S A) → Begins hash s caller call s'
       → IsCore s.store s.callers s.mode → IsCore s'.store s'.callers s'.mode
   begin-core hash s caller call s' x core =
@@ -134,7 +134,7 @@ module _ {K V S A : Type 0} (eq : K → K → Bool) (says : Says K V A) (hash : 
         (advance-core eq says hash refuse s caller s' event reply x good.core) good),
   )
     where
-      -- only a compute shows its closure that there is none
+      -- only a compute calls its closure with `None`
       offers : ask_of x.before.machine ≡ asks.Call ShowNone → x.before.machine.call.task ≡ Compute
       offers asking =
           let call = good.kept.calls caller x.before x.was in
@@ -183,7 +183,7 @@ module _ {K V S A : Type 0} (eq : K → K → Bool) (says : Says K V A) (hash : 
   turns_run (suc turn) s s' h (what, middle, so_far, there, runs, last) good =
       turn_runs turn what middle s' so_far h there last (turns_run turn s middle so_far runs good)
 
-  -- a turn that was cut short leaves the pairs of the first log there
+  -- a turn that was cut short leaves the pairs of the first arena there
   cut_short : (turn : ℕ) (what : Turn K V A) (s s' : CoreState K V S A) (before : History) → IsCutShort eq says hash turn what s before s'
       → Good s before → KeepsPairs first s'.store
   cut_short turn (Begin caller call) s s' before same good = subst (λ (y : CoreState K V S A). KeepsPairs first y.store) (sym same) good.1.kept_pairs
@@ -200,10 +200,10 @@ run_timeline eq says hash schedule turns s s' h law core es call_traces kept run
     (turns_run eq says hash s.store.hasher law schedule s.store (map_of eq s) turns s s' h runs
     (refl, good_start eq (hash s.store.hasher) law says schedule s es call_traces core kept)).1
 
--- The same of a core whose invariant holds, with keys that are hashed as its hasher does.
+-- The same for a core whose invariant holds, with keys that are hashed with its hasher.
 module _ {K V S A H : Type 0} (eq : K → K → Bool) (input : K → List (List ℕ)) (build : S → H) (write : H → List ℕ → H) (finish : H → ℕ)
     (classes : IsEquivalence eq) (respects : (x y : K) → eq x y ≡ true → input x ≡ input y) where
-  -- what always holds of a core
+  -- the invariant of a core
   abbrev pub Always : CoreState K V S A → Type 0
   Always s = IsLawfulCore eq (hash_of input build write finish s.store.hasher) s.store s.callers s.mode
 
@@ -215,7 +215,7 @@ module _ {K V S A H : Type 0} (eq : K → K → Bool) (input : K → List (List 
       run_timeline eq says (hash_of input build write finish) schedule turns s s' h
       (keys_lawful eq input build write finish classes respects s.store.hasher) always.core es call_traces kept runs
 
-  -- no pair is gone from the log after a run, nor after a run that stopped
+  -- every pair stays in the arena after a run, also after a run that stopped
   pub lawful_logs : (says : Says K V A) (schedule : List (Turn K V A)) (turns : ℕ) (s s' : CoreState K V S A) (h : History) → Always s
       → TurnsRun eq says (hash_of input build write finish) schedule turns s s' h → KeepsPairs s.store s'.store
   lawful_logs says schedule turns s s' h always runs =
@@ -233,7 +233,7 @@ module _ {K V S A H : Type 0} (eq : K → K → Bool) (input : K → List (List 
       (turns_run eq says (hash_of input build write finish) s.store.hasher law schedule s.store (map_of eq s) turn s middle so_far runs
       (refl, good_start eq (hash_of input build write finish s.store.hasher) law says schedule s es call_traces always.core kept))
 
-  -- a step moves the map in the class of its call's key alone
+  -- a step changes the map only in the class of its call's key
   pub lawful_moves : (says : Says K V A) (refuse : Bool) (s s' : CoreState K V S A) (caller : ℕ) (event : Event) (reply : Option Reply) → Always s
       → Advances eq says (hash_of input build write finish) refuse s caller s' event reply → MovesMap eq s caller s' event
   lawful_moves says refuse s s' caller event reply always x =
@@ -244,7 +244,7 @@ module _ {K V S A H : Type 0} (eq : K → K → Bool) (input : K → List (List 
       (advance-core eq says (hash_of input build write finish) refuse s caller s' event reply x always.core) es call_traces kept
       (kept_step eq hash law refuse s caller s' event reply x refl es call_traces always.core kept)
 
-  -- and no pair is gone from the log
+  -- and every pair stays in the arena
   pub lawful_keeps : (says : Says K V A) (refuse : Bool) (s s' : CoreState K V S A) (caller : ℕ) (event : Event) (reply : Option Reply) → Always s
       → Advances eq says (hash_of input build write finish) refuse s caller s' event reply → KeepsPairs s.store s'.store
   lawful_keeps says refuse s s' caller event reply always

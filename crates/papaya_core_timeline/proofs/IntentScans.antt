@@ -1,4 +1,4 @@
--- What a retain intends: the pair that it removes is one for which its closure has just returned
+-- The intent of a retain: the pair that it removes is one for which its closure has just returned
 -- that it does not stay.
 use Rattle.std.proofs.Common.{◌≡◌, negsuc, ◌⊎◌, inl, inr, ⊎_elim, ℕ, ◌+◌, ◌==◌, nat_lt, Bool, true, false, Option, None, Some, refl, sym, ◌∙◌, ap, subst}
 use Rattle.std.proofs.lemmas.Bool.{cond_both}
@@ -42,7 +42,7 @@ use Rattle.papaya_core_timeline.specs.ScanGoes.{event_of_scan}
 use Rattle.papaya_core_timeline.proofs.CallersLemmas.{same_item}
 use Rattle.papaya_core_timeline.proofs.ScanMoves.{quiet, stage_quiet}
 
--- an event tells no change
+-- an event has no such change
 abbrev IsNone : StepKind → (old new : Option ℕ) → Event → Type 0
 IsNone kind old new e = e ≡ Changed kind old new → ⊥
 
@@ -125,7 +125,7 @@ next_none spot = looks_none (record spot { slot = spot.slot + 1 })
 root_none : (root : ℕ) → TakesNone (at_root root)
 root_none root = cond_both (root == 0) Done (Sizing root) TakesNone (λ _ n h. h) (λ _ n h. h)
 
--- a retain shows what it meets
+-- a retain calls its closure with the pair that it meets
 meets_none : (spot : Spot) (word : ℕ) (kind : Kind) → TakesNone (meets Retain spot word kind)
 meets_none spot word kinds.Live = λ n h. h
 meets_none spot word kinds.Marked = λ n h. h
@@ -144,11 +144,11 @@ copied_none from (stages.Linking link) = λ n h. h
 copied_none from (stages.Copying root copying) = λ n h. h
 copied_none from stage = λ n h. h
 
--- its closure answered that the pair does not stay
+-- its closure returned that the pair does not stay
 abbrev SaysNo : ScannerState → Answer → ℕ → Type 0
 SaysNo state a n = (spot : Spot) × (word : ℕ) × (state ≡ Showing spot word) × (pair_in word ≡ n) × (a ≡ answers.Call (Yes false))
 
--- A retain is about to take out a pair where it was, or where its closure answers so.
+-- A retain is about to take out a pair if it was before, or if its closure returns so.
 retain_takes : (mode : ResizeMode) (initial number : ℕ) (a : Answer) (state : ScannerState) (n : ℕ)
     → TakesOut (after_in Retain mode initial number a state) n → TakesOut state n ⊎ SaysNo state a n
 retain_takes mode initial number a (Copying stage) n h = absurd (copied_none stage (resizers.after_in CopyAll mode initial number a stage) n h)
@@ -179,7 +179,7 @@ retain_takes mode initial number (answers.Count count) (Refused refused) n h = a
 module _ {K V S A : Type 0} (eq : K → K → Bool) (says : Says K V A) (hash : S → K → ℕ) (refuse : Bool) (s : StoreState K V S) (v : Scanning A)
     (ask : ScanAsk) (asked : ask_of v.scanner ≡ Some ask) (a : Answer) (s' : StoreState K V S) (v' : Scanning A)
     (performs : PerformsScan eq says hash refuse ask s v a s' v') (event : Event) (is : event ≡ event_of_scan (kind_of_ask v.scanner) ask a) where
-  -- the closure answers now
+  -- the closure returns so in this step
   says_no : (n : ℕ) → SaysNo v.scanner.state a n → AnswersNow says s' event (works.Scan v) (Some n) ops.Remove
   says_no n (spot, word, state, number, told) =
       let ask_is : Show n ≡ ask = same_item (Show n) ask (ap (λ m. Some (Show m)) (sym number) ∙ ap asks_in (sym state) ∙ asked) in

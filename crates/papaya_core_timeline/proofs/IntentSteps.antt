@@ -1,4 +1,4 @@
--- A step gives what is under way no other intent than what a closure returns in it.
+-- A step gives the work under way no other intent than the result of a closure in that step.
 use Rattle.std.proofs.Common.{◌≡◌, ◌⊎◌, inl, inr, ⊎_elim, ℕ, Bool, true, Option, None, Some, List, refl, sym, ◌∙◌, ap, subst}
 use Rattle.std.specs.Cmp.{IsEquivalence}
 use Rattle.papaya_call.specs.declared.ask.Ask.TheVariants.{ShowNone}
@@ -56,7 +56,7 @@ use Rattle.papaya_core_timeline.proofs.StoreLemmas.{copy_pairs}
 
 module _ {K V S A : Type 0} (eq : K → K → Bool) (hash : K → ℕ) (s : CoreState K V S A) (es : List (Exchange (Stored K V)))
     (call_traces : ℕ → CallTrace K V) (kept : IsConsistent eq hash s.mode s.store s.callers es call_traces) where
-  -- the pairs of a call are logged
+  -- the pairs of a call are stored in the arena
   call_logged : (d : ℕ) (r : Running K V A) → running s.callers d ≡ Some r → HasLogged s.store r
   call_logged d r runs =
       let call = kept.calls d r runs in
@@ -77,7 +77,7 @@ module _ {K V S A : Type 0} (eq : K → K → Bool) (hash : K → ℕ) (s : Core
             shown n stands);
       }
 
-  -- a longer log gives what is under way no intent
+  -- a longer arena gives no intent to the work under way
   work_still : (store' : StoreState K V S) → KeepsPairs s.store store' → KeepsParts s.store store' → (d : ℕ) (work : Work K V A)
       → working s.callers d ≡ Some work → (shown : Option ℕ) (op : Operation V ℕ) → Intends store' work shown op → Intends s.store work shown op
   work_still store' stay parts d (works.Call r) was shown op h = still_intends s.store store' stay parts.values r (call_logged d r (ap call_in was)) shown op h
@@ -90,7 +90,7 @@ module _ {K V S A : Type 0} (eq : K → K → Bool) (hash : K → ℕ) (s : Core
       by_operation (ops.Abort t) h = absurd h
   work_still store' stay parts d (works.Scan v) was None op h = absurd h
 
-  -- so it is enough to look at the caller that makes the step
+  -- so it suffices to consider the caller that makes the step
   keeps : {says : Says K V A} (caller : ℕ) (s' : CoreState K V S A) (event : Event) (work : Work K V A) (rest : Option (Work K V A))
       → working s.callers caller ≡ Some work → s'.callers ≡ with_work s.callers caller rest → KeepsPairs s.store s'.store → KeepsParts s.store s'.store
       → ((later : Work K V A) → rest ≡ Some later → (shown : Option ℕ) (op : Operation V ℕ) → Intends s'.store later shown op
@@ -107,7 +107,7 @@ module _ {K V S A : Type 0} (eq : K → K → Bool) (hash : K → ℕ) (s : Core
   ]
 
 module _ {K V S A : Type 0} (eq : K → K → Bool) (hash : K → ℕ) (law : IsLawfulKeys eq hash) where
-  -- of a call on one key
+  -- for a call on one key
   pub advance_intents : {says : Says K V A} {hashes : S → K → ℕ} (refuse : Bool) (s s' : CoreState K V S A) (c : ℕ) (event : Event)
       (reply : Option Reply) (x : Advances eq says hashes refuse s c s' event reply) (core : IsCore s.store s.callers s.mode)
       (core' : IsCore s'.store s'.callers s'.mode)
@@ -135,7 +135,7 @@ module _ {K V S A : Type 0} (eq : K → K → Bool) (hash : K → ℕ) (law : Is
       order : IsInOrder m x.answer m.phase
       order = advance.order eq hash law refuse s s' c event reply x core core' es call_traces kept step
 
-      -- only a compute shows its closure that there is none
+      -- only a compute calls its closure with `None`
       offers : ask_of x.before.machine ≡ asks.Call ShowNone → x.before.machine.call.task ≡ Compute
       offers asking = machine_offers (setting_of eq (low hash) s.mode s.store.words.tables) (coding_of (low hash)) (call_traces c).begun
           (call_traces c).since step.call.key x.before.machine.call (call_traces c).loaded.call step.call.relies.call
@@ -148,21 +148,21 @@ module _ {K V S A : Type 0} (eq : K → K → Bool) (hash : K → ℕ) (law : Is
       answering = subst (λ y. IsAnswering says s'.store x.before x.later y) (sym x.event_is)
           (answered_by eq says hashes refuse (kind_of_ask x.before.machine) s.store x.before x.answer s'.store x.later (ask_of x.before.machine) x.performs)
 
-      -- a pair that is made in the step is of the value at hand
+      -- a pair that is made in the step has the value of the call
       made_now : (n : ℕ) → MakesOver (ask_of x.before.machine) → x.answer ≡ told_to.Call (Made_number n) → (q : Stored K V)
           × (pair_of s'.store n ≡ Some q) × (own_value s.store x.before ≡ Some q.value)
       made_now n makes is = let made = step.made_now n makes is in (made.pair, made.there, made.before)
 
--- The same of a core whose invariant holds, with keys that are hashed as its hasher does.
+-- The same for a core whose invariant holds, with keys that are hashed with its hasher.
 module _ {K V S A H : Type 0} (eq : K → K → Bool) (input : K → List (List ℕ)) (build : S → H) (write : H → List ℕ → H) (finish : H → ℕ)
     (classes : IsEquivalence eq) (respects : (x y : K) → eq x y ≡ true → input x ≡ input y) (says : Says K V A) (refuse : Bool)
     (s : CoreState K V S A) (lawful : IsLawfulCore eq (hash_of input build write finish s.store.hasher) s.store s.callers s.mode) (caller : ℕ)
     (s' : CoreState K V S A) (event : Event) (reply : Option Reply) where
-  -- keys are hashed so
+  -- keys are hashed with the hasher
   abbrev hashes : S → K → ℕ
   hashes = hash_of input build write finish
 
-  -- of a call on one key
+  -- for a call on one key
   pub call_kept : Advances eq says hashes refuse s caller s' event reply → KeepsIntents says s caller s' event
   call_kept x =
       let (es, (call_traces, kept)) = lawful.law in
@@ -186,7 +186,7 @@ module _ {K V S A H : Type 0} (eq : K → K → Bool) (input : K → List (List 
       goes None later put = sym (same_item (works.Resize (resizer.after x.before x.answer)) later put)
       goes (Some rep) later put = let f : None ≡ Some later = put in absurd cc
 
-  -- of a call that scans a table
+  -- for a call that scans a table
   pub scanner_kept : Scans eq says hashes refuse s caller s' event reply → KeepsIntents says s caller s' event
   scanner_kept x =
       let (es, (call_traces, kept)) = lawful.law in

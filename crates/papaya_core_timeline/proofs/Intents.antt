@@ -1,5 +1,5 @@
--- What a call on one key intends: this is how the call changes the map, and a step gives it no
--- other intent than what its closure returns in it.
+-- The intent of a call on one key: it determines how the call changes the map, and a step gives the
+-- call no other intent than the result of its closure in that step.
 use Rattle.std.proofs.Common.{rules, ◌≡◌, ◌⊎◌, inl, inr, ⊎_elim, ℕ, Bool, true, Option, None, Some, refl, sym, ◌∙◌, ap, subst, List}
 use Rattle.papaya_words.specs.declared.resize_mode.ResizeMode.{ResizeMode}
 use Rattle.papaya_words.specs.declared.resize_mode.ResizeMode.TheVariants.{Incremental, Blocking}
@@ -61,7 +61,7 @@ use Rattle.papaya_core_timeline.proofs.MadeBefore.{after_made}
 use Rattle.papaya_core_timeline.proofs.MadePairs.{MakesOver}
 use Rattle.papaya_core_timeline.proofs.TiedLemmas.{value_back}
 
--- a pair that a machine stands on is one that its call made
+-- a pair on which a machine acts is one that its call made
 module _ {K P : Type 0} (g : Setting K P) (c : Coding K P) (begun since : List (Exchange P)) (k : K) where
   pub stands_own : (m : Call_machine) (loaded : LoadedPairs P) → Relies g c begun since k m loaded → (shown : Option ℕ) (n : ℕ)
       → ActsOn m (Makes shown n) → IsMadePair g c begun since k loaded n
@@ -73,7 +73,7 @@ writes_made : (made : Made) (hash : ℕ) (stage : Stage) (replace : Bool) → Is
     → HasMade made n
 writes_made made hash stage replace stands at from to e old n change = search rules
 
--- where an event tells a change, the exchange was made
+-- if the event has a change, the exchange was made
 exchanged : (kind : Option StepKind) (from to : ℕ) (told : Call_answer) (by : StepKind) (old new : Option ℕ)
     → answered_event kind from to told ≡ Changed by old new → told ≡ Exchanged
 exchanged kind from to told by old new e = search rules
@@ -107,7 +107,7 @@ chain_made m answer (inr (inr (inl enters))) n e = inl (subst (λ (d : Call_mach
 chain_made m answer (inr (inr (inr (inl begins)))) n e = inl (subst (λ (d : Call_machine). HasMade d.made n) begins.call e)
 chain_made m answer (inr (inr (inr (inr ends)))) n e = inl (subst (λ (d : Call_machine). HasMade d.made n) ends.call e)
 
--- the value that is at hand as an insertion begins
+-- the value of an insertion that begins
 handed : {V : Type 0} (w : V) (made : Type 0) (op : Operation V ℕ) (v : V) → op ≡ ops.Insert v → (Some w ≡ Some v) ⊎ made → (made → ⊥) → (u : V)
     × (op ≡ ops.Insert u) × (Some w ≡ Some u)
 handed w made op v is (inl same) none = (v, is, same)
@@ -118,7 +118,7 @@ made_none : (limit : Option ℕ) (n : ℕ) → HasMade (nothing_made limit) n �
 made_none limit n (inl own) = cc
 made_none limit n (inr (of, is, number)) = cc
 
--- A call that begins intends to store what it was handed.
+-- A call that begins intends to store the value that was passed in.
 module _ {K V S A : Type 0} (store : StoreState K V S) (hash : K → ℕ) (mode : Mode) (initial number : ℕ) where
   pub begun_intends : (call : Call K V A) → IntendsHanded store call (begun_work hash mode initial number call)
   begun_intends (Get k) shown op h = absurd h
@@ -164,7 +164,7 @@ module _ {K V S : Type 0} where
   same_pair : (store : StoreState K V S) (n : ℕ) (p q : Stored K V) → pair_of store n ≡ Some p → pair_of store n ≡ Some q → p ≡ q
   same_pair store n p q is there = same_item p q (sym is ∙ there)
 
-  -- the value of a pair that was logged before
+  -- the value of a pair that was stored in the arena before
   value_before : (store store' : StoreState K V S) → KeepsPairs store store' → (n : ℕ) (v : V) → ((q : Stored K V) × (pair_of store n ≡ Some q))
       → HasValue store' n v → HasValue store n v
   value_before store store' stay n v (q, logged) (p, there, value) = let same : p ≡ q = same_pair store' n p q there (stay n q logged) in
@@ -193,13 +193,13 @@ module _ {K V S A : Type 0} where
       by_task tasks.Compute is (Some n) None logged made closure said = said
       by_task tasks.Compute is None None logged made closure said = absurd said
 
-  -- What its pairs are, where they were logged before.
+  -- The pairs of a call that were stored in the arena before.
   pub record HasLogged (store : StoreState K V S) (r : Running K V A) : Type 0 where
     pub made : (n : ℕ) → HasMade r.machine.call.made n → (q : Stored K V) × (pair_of store n ≡ Some q)
     pub valued : (part : Part V) → r.value ≡ Some part → (v : V) × (value_in store.pairs part ≡ Some v)
     pub stood : (shown : Option ℕ) (n : ℕ) → ActsOn r.machine.call (Makes shown n) → (q : Stored K V) × (pair_of store n ≡ Some q)
 
-  -- where its machine stays, a longer log gives a call no intent
+  -- if its machine stays as it is, a longer arena gives a call no intent
   pub still_intends : (store store' : StoreState K V S) → KeepsPairs store store'
       → ((at : Part V) (v : V) → value_in store.pairs at ≡ Some v → value_in store'.pairs at ≡ Some v) → (r : Running K V A) → HasLogged store r
       → (shown : Option ℕ) (op : Operation V ℕ) → Intends store' (works.Call r) shown op → Intends store (works.Call r) shown op
@@ -227,7 +227,8 @@ module _ {K V S A : Type 0} where
 
 module _ {K V S A : Type 0} (eq : K → K → Bool) (says : Says K V A) (hash : S → K → ℕ) (refuse : Bool) (s : StoreState K V S) (r : Running K V A)
     (a : Answer) (s' : StoreState K V S) (r' : Running K V A) where
-  -- A step of the call r, which answers what its machine asks; a pair that it makes is of the value at hand.
+  -- A step of the call r, which answers the ask of its machine; a pair that it makes has the value
+  -- of the call.
   module _ (performs : PerformsAsk eq says hash refuse (ask_of r.machine) s r a s' r') (stay : KeepsPairs s s')
       (valued : (part : Part V) → r.value ≡ Some part → (v : V) × (value_in s.pairs part ≡ Some v))
       (value_stays : (v : V) → own_value s' r' ≡ Some v → (own_value s r ≡ Some v) ⊎ (r.machine.call.task ≡ tasks.Compute))
@@ -249,7 +250,7 @@ module _ {K V S A : Type 0} (eq : K → K → Bool) (says : Says K V A) (hash : 
     abbrev Before : Task → Option ℕ → Operation V ℕ → Type 0
     Before task shown op = IntendsAs s task r shown op ⊎ Now event shown op
 
-    -- its closure was shown something now, and answered by an operation
+    -- its closure was called in this step, and returned an operation
     answers_now : (shown : Option ℕ) (op : Operation V ℕ) → event ≡ Shown shown (op_kind op) → answering.answered ≡ Some op → Now event shown op
     answers_now shown op event_is now =
         let (a', had') = answering.gave (ap asks_closure event_is) in
@@ -264,7 +265,7 @@ module _ {K V S A : Type 0} (eq : K → K → Bool) (says : Says K V A) (hash : 
               (subst (λ e. GivesIn says s' e answering.answered b a') event_is gives);
         })
 
-    -- or it was asked of a pair, and agreed
+    -- or it was called with a pair, and agreed
     agrees_now : (n : ℕ) → event ≡ Asked n true → Now event (Some n) ops.Remove
     agrees_now n event_is =
         let (a', had') = answering.gave (ap asks_closure event_is) in
@@ -272,7 +273,7 @@ module _ {K V S A : Type 0} (eq : K → K → Bool) (says : Says K V A) (hash : 
         subst (λ e. Now e (Some n) ops.Remove) (sym event_is)
         (record { told = (refl, refl, refl); answers = b; had = had; left = a'; gives = subst (λ e. GivesIn says s' e answering.answered b a') event_is gives })
 
-    -- what the closure of a compute answers now
+    -- the result of a compute's closure in this step
     operation : (shown : Option ℕ) (kind : OpKind) (own : IsOwnStep r.machine a) → calls.ask_of r.machine.call ≡ show shown → own.told ≡ Op kind
         → (event ≡ Shown shown kind) × ((op : Operation V ℕ) × (answering.answered ≡ Some op) × (op_kind op ≡ kind))
     operation shown kind own asking told =
@@ -281,7 +282,7 @@ module _ {K V S A : Type 0} (eq : K → K → Bool) (says : Says K V A) (hash : 
         (own.is ∙ ap given.Call told) in
         (event_is, subst (λ e. IsAnsweredIn e answering.answered) event_is answering.fits)
 
-    -- the value of a pair that was made now
+    -- the value of a pair that was made in this step
     made_value : (n : ℕ) (v : V) → MakesOver (ask_of r.machine) → a ≡ given.Call (Made_number n) → HasValue s' n v → own_value s r ≡ Some v
     made_value n v asking told (p, there, value) =
         let (q, logs, of) = made n asking told in
@@ -359,7 +360,7 @@ module _ {K V S A : Type 0} (eq : K → K → Bool) (says : Says K V A) (hash : 
           ∙ ap (λ y. event_of (kind_of_ask r.machine) (asks.Call (ShowPair n)) y) (own.is ∙ ap given.Call told)))
     ]
 
-    -- so a call intends what it did, or what its closure answers now
+    -- so a call intends what it did before, or what its closure returned in this step
     pub call_intends : (shown : Option ℕ) (op : Operation V ℕ) → Intends s' (works.Call later) shown op → Intends s (works.Call r) shown op
         ⊎ AnswersNow says s' event (works.Call r) shown op
     call_intends shown op h = by_task r.machine.call.task refl shown op (subst (λ t. IntendsAs s' t later shown op) task_stays h)

@@ -56,7 +56,7 @@ module _ {V A : Type 0} (a : A) (w v : V) where
   said = None ∷ None ∷ None ∷ None ∷ None ∷ Some (ops.Insert v) ∷ None ∷ []
 
   module _ {S : Type 0} (says : Says (Unit {0}) V A) (store : StoreState (Unit {0}) V S) where
-    -- what the call began with is left at its first showing
+    -- the answers with which the call began are left for the first call of its closure
     begun_left : (a0 : A) → HasLeft says store schedule a0 0 (entry 0 0 Begun ∷ []) (None ∷ []) → a ≡ a0
     begun_left a0 (inl (own, is, had)) = cc had
     begun_left a0 (inr (inl (own, on, rest))) = absurd cc

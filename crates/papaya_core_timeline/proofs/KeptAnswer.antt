@@ -41,18 +41,20 @@ use Rattle.papaya_core_store.specs.Tables.{put, word_at}
 use Rattle.papaya_core_timeline.proofs.KeptTables.{HasMoreTables, IsPlaced, cases_place, grown-same, placed-grown, placed-many, placed-here, placed-other}
 use Rattle.papaya_core_timeline.proofs.KeptHints.{KeepsHints, placed-hints}
 
--- the pair stands in a slot
+-- the pair is in a slot
 abbrev pub Stands : {P : Type 0} → State P → P → Type 0
 Stands s p = (t : ℕ) × (x : ℕ) × (named (s.slot t x) ≡ Some p)
 
--- The words of a store keep to the law in this setting, with this coding. Keys of the law are keys of the map, or, for a call by a query, keys of the map and the query. `own` is the call's own key in the log's terms, where it has one.
+-- The words of a store keep to the law in this setting, with this coding. Keys of the law are keys
+-- of the map, or, for a call by a query, keys of the map and the query. `own` is the call's own key
+-- as the arena has it, if it has one.
 module _ {Q K V S A : Type 0} (g : Setting Q (Stored K V)) (c : Coding Q (Stored K V)) (store : StoreState K V S) (r : Running K V A)
     (es : List (Exchange (Stored K V))) (call_trace : CallTrace K V) (own : Option K) where
   -- the words as the law has them
   abbrev pub words_now : State (Stored K V)
   words_now = run es start
 
-  -- what a call is told of an ask of its own, and a copy of its
+  -- the record of an ask of a call itself, and of an ask of its copy
   abbrev pub Tells : Q → Ask → Answer → List (Exchange (Stored K V)) → LoadedPairs (Stored K V) → Type 0
   Tells key ask a made loaded = IsTrueOf g c key words_now (kind_of_ask r.machine) (follows_of r.machine) call_trace.loaded ask a made loaded
 
@@ -61,7 +63,7 @@ module _ {Q K V S A : Type 0} (g : Setting Q (Stored K V)) (c : Coding Q (Stored
     pub same : (v : V) → own_value store r ≡ Some v → own_value store' later ≡ Some v
     pub had : (part : Part V) → later.value ≡ Some part → (before : Part V) × (r.value ≡ Some before)
 
-  -- Or its closure answered another: it was shown that its key is absent, or it is that of a compute.
+  -- Or its closure returned another: it was called with `None`, or it is the closure of a compute.
   pub record AnswersValue (ask : Ask) (a : Answer) (later : Running K V A) : Type 0 where
     pub value : V
     pub is : later.value ≡ Some (Own value)
@@ -80,12 +82,12 @@ module _ {Q K V S A : Type 0} (g : Setting Q (Stored K V)) (c : Coding Q (Stored
       by_part None v h = let f : None ≡ Some v = h in absurd cc
       by_part (Some at) v h = values at v h
 
-  -- What an answered ask leaves.
+  -- The effect of an answered ask.
   pub record IsAnswered (key : Q) (ask : Ask) (a : Answer) (store' : StoreState K V S) (later : Running K V A) : Type 0 where
     pub made : List (Exchange (Stored K V))
     pub loaded : LoadedPairs (Stored K V)
     pub told : Tells key ask a made loaded
-    -- the log and the tables grow
+    -- the arena and the tables grow
     pub keys : (at : Part K) (k : K) → key_in store.pairs at ≡ Some k → key_in store'.pairs at ≡ Some k
     pub values : (at : Part V) (v : V) → value_in store.pairs at ≡ Some v → value_in store'.pairs at ≡ Some v
     pub own_is : own_key store' later ≡ own
@@ -98,11 +100,11 @@ module _ {Q K V S A : Type 0} (g : Setting Q (Stored K V)) (c : Coding Q (Stored
     pub coded : (at : At) → word_of g c (run (es ++ made) start) at ≡ word_at store'.words at
     pub hints : KeepsHints g c words_now store.words store'.words
     pub there : (t : ℕ) → 0 < t → Comes (run (es ++ made) start) t → IsMade store t
-    -- a pair that a slot names stood in one before, or is one that the call made
+    -- a pair that a slot names was in a slot before, or is one that the call made
     pub slots : (t x : ℕ) (p : Stored K V) → named ((run (es ++ made) start).slot t x) ≡ Some p → Stands words_now p ⊎ IsOneOf call_trace.loaded.call.made p
     pub unchanged : change_in (after r.machine a).call.state ≡ None → (change_in r.machine.call.state ≡ None)
         × ((t x : ℕ) (p : Stored K V) → named ((run (es ++ made) start).slot t x) ≡ Some p → Stands words_now p)
-    -- the pairs that the machine was told of
+    -- the pairs that the machine has loaded
     pub last : (p : Stored K V) → loaded.call.last ≡ Some p → (call_trace.loaded.call.last ≡ Some p) ⊎ Stands words_now p
     pub carried : (p : Stored K V) → loaded.kept ≡ Some p → (call_trace.loaded.kept ≡ Some p) ⊎ (call_trace.loaded.call.last ≡ Some p)
     pub new : (q : Stored K V) → IsOneOf loaded.call.made q → IsOneOf call_trace.loaded.call.made q
@@ -114,7 +116,7 @@ module _ {Q K V S A : Type 0} (g : Setting Q (Stored K V)) (c : Coding Q (Stored
         → ((slots : ℕ) × (limit : ℕ) × (chunks : ℕ) × (ask ≡ asks.Call (MakeTable slots limit chunks)))
         ⊎ ((slots : ℕ) × (limit : ℕ) × (chunks : ℕ) × (ask ≡ asks.Copy (Make_next slots limit chunks))) → IsMade store' t
 
-  -- What an answer without an exchange leaves of the logs: they may grow.
+  -- The arena after an answer without an exchange: it may have grown.
   pub record HasLogs (key : Q) (store' : StoreState K V S) (later : Running K V A) : Type 0 where
     pub keys : (at : Part K) (k : K) → key_in store.pairs at ≡ Some k → key_in store'.pairs at ≡ Some k
     pub values : (at : Part V) (v : V) → value_in store.pairs at ≡ Some v → value_in store'.pairs at ≡ Some v
@@ -127,7 +129,7 @@ module _ {Q K V S A : Type 0} (g : Setting Q (Stored K V)) (c : Coding Q (Stored
     pub words : (at : At) → word_at store'.words at ≡ word_at store.words at
     pub hints : KeepsHints g c words_now store.words store'.words
 
-  -- What it tells of pairs.
+  -- The pairs in the trace after it.
   pub record HasLoaded (store' : StoreState K V S) (loaded : LoadedPairs (Stored K V)) : Type 0 where
     pub last : (p : Stored K V) → loaded.call.last ≡ Some p → (call_trace.loaded.call.last ≡ Some p) ⊎ Stands words_now p
     pub carried : (p : Stored K V) → loaded.kept ≡ Some p → (call_trace.loaded.kept ≡ Some p) ⊎ (call_trace.loaded.call.last ≡ Some p)
@@ -141,7 +143,7 @@ module _ {Q K V S A : Type 0} (g : Setting Q (Stored K V)) (c : Coding Q (Stored
   module _ (hashed : IsHashed g c) (key : Q) (relies : Relies g c call_trace.begun call_trace.since key r.machine call_trace.loaded)
       (coded : (at : At) → word_of g c words_now at ≡ word_at store.words at)
       (there : (t : ℕ) → 0 < t → Comes words_now t → IsMade store t) where
-    -- what a call has changed after its ask was answered
+    -- the change of a call after its ask was answered
     pub changed : (ask : Ask) → ask_of r.machine ≡ ask → (a : Answer) (made : List (Exchange (Stored K V))) (loaded : LoadedPairs (Stored K V))
         → Tells key ask a made loaded → change_in (after r.machine a).call.state ≡ change_by (kind_of_ask r.machine) ask a (change_in r.machine.call.state)
     changed ask e a made loaded told =
@@ -187,7 +189,7 @@ module _ {Q K V S A : Type 0} (g : Setting Q (Stored K V)) (c : Coding Q (Stored
       opens = opens;
     }
 
-    -- the logs as they were, but for the count
+    -- the arena as it was; the count may differ
     pub same_logs : own_key store r ≡ own → (count : Count) → HasLogs key (record store { count = count }) r
     same_logs owns count = record {
       keys = λ at k h. h;
@@ -203,7 +205,7 @@ module _ {Q K V S A : Type 0} (g : Setting Q (Stored K V)) (c : Coding Q (Stored
       hints = λ n i. inl refl;
     }
 
-    -- an answer that leaves words, logs and call, but for the count
+    -- an answer that leaves words, arena and call, but may change the count
     pub quiet : own_key store r ≡ own → (ask : Ask) → ask_of r.machine ≡ ask
         → (a : Answer) (store' : StoreState K V S) (later : Running K V A) (loaded : LoadedPairs (Stored K V)) (count : Count)
         → store' ≡ record store { count = count } → later ≡ r
@@ -268,7 +270,7 @@ module _ {Q K V S A : Type 0} (g : Setting Q (Stored K V)) (c : Coding Q (Stored
           | inr differ ↦ written.others other differ ∙ coded other ∙ sym (placed-other store.words at new placed other differ)
         ]
 
-    -- what a call is told for itself, of which its copy hears nothing
+    -- an answer to the call itself, which is not in the trace of its copy
     pub own_told : (ask : Call_ask) (a : Call_answer) (made : List (Exchange (Stored K V))) (loaded : Call_loaded (Stored K V))
         → IsTrueOfCall g c key words_now (kind_of_ask r.machine) call_trace.loaded.call ask a made loaded
         → Tells key (asks.Call ask) (answers.Call a) made (record call_trace.loaded { call = loaded })
@@ -280,7 +282,7 @@ module _ {Q K V S A : Type 0} (g : Setting Q (Stored K V)) (c : Coding Q (Stored
   named_last last t x p None e h = inl h
   named_last last t x p (Some q) e h = inr (t, x, e ∙ h)
 
-  -- the pair that a machine was told of stood in the slot that was loaded, or it was told of before
+  -- the last pair that a machine loaded was in the slot that was loaded, or had been loaded before
   pub told_last : (at : At) (p : Stored K V) → (told_of words_now at call_trace.loaded.call).last ≡ Some p → (call_trace.loaded.call.last ≡ Some p)
       ⊎ Stands words_now p
   told_last Root p h = inl h
@@ -290,7 +292,7 @@ module _ {Q K V S A : Type 0} (g : Setting Q (Stored K V)) (c : Coding Q (Stored
   told_last (Done t chunk) p h = inl h
   told_last (Slot t x) p h = named_last call_trace.loaded.call.last t x p (named (words_now.slot t x)) refl h
 
-  -- and so it is for a copier
+  -- the same for a copier
   pub copy_last : (at : At) (p : Stored K V) → copy_told_last words_now at call_trace.loaded.call.last ≡ Some p
       → (call_trace.loaded.call.last ≡ Some p) ⊎ Stands words_now p
   copy_last Root p h = inl h
@@ -300,7 +302,7 @@ module _ {Q K V S A : Type 0} (g : Setting Q (Stored K V)) (c : Coding Q (Stored
   copy_last (Done t chunk) p h = inl h
   copy_last (Slot t x) p h = named_last call_trace.loaded.call.last t x p (named (words_now.slot t x)) refl h
 
-  -- what stands at a place says nothing of the pair that the call made
+  -- a load does not change the record of the pairs that the call made
   pub told_made : (at : At) → (told_of words_now at call_trace.loaded.call).made ≡ call_trace.loaded.call.made
   told_made Root = refl
   told_made (Next t) = refl

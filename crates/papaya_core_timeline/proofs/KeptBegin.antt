@@ -79,19 +79,19 @@ no_hints n i = elim (n == 0) as (λ b. word_in (λ t. slot_hint t i) (cond b Non
 module _ {K V S A : Type 0} (eq : K → K → Bool) (hash : K → ℕ) where
   module _ (s : CoreState K V S A) (caller : ℕ) (call : Call K V A) (fits : (k : K) → key_of call ≡ Some k → hash k < 2 ^ 64) (number : ℕ)
       (es : List (Exchange (Stored K V))) (call_traces : ℕ → CallTrace K V) (kept : IsConsistent eq hash s.mode s.store s.callers es call_traces) where
-    -- the call as it begins, what is told of it, and the callers then
+    -- the call as it begins, with its trace, and the callers at that point
     abbrev work : Work K V A
     work = begun_work hash s.mode s.initial number call
 
-    -- what is told of it: nothing was exchanged since
+    -- its trace: nothing was exchanged since
     abbrev new_call_trace : CallTrace K V
     new_call_trace = record { begun = es; since = []; loaded = nothing_loaded; scan = scans.nothing_loaded }
 
-    -- the callers then
+    -- the callers at that point
     abbrev callers' : List (Seat K V A)
     callers' = with_work (with_seat s.callers caller) caller (Some work)
 
-    -- the traces then
+    -- the traces at that point
     abbrev call_traces' : ℕ → CallTrace K V
     call_traces' = begun_call_traces call_traces caller es
 
@@ -179,7 +179,7 @@ module _ {K V S A : Type 0} (eq : K → K → Bool) (hash : K → ℕ) where
     other_scans d v differ scans = sym (scanning-with_seat s.callers caller d)
         ∙ sym (scanning-elsewhere (with_seat s.callers caller) caller d (Some work) differ) ∙ scans
 
-    -- each call relies on what is told of it
+    -- each call relies on its trace
     calls : (d : ℕ) (q : Running K V A) → running callers' d ≡ Some q → IsCall eq hash s.mode s.store q es (call_traces' d)
     calls d q runs = elim (cases_same d caller) [
       | inl same ↦

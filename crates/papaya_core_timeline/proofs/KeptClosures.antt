@@ -25,7 +25,7 @@ use Rattle.papaya_core_store.specs.Store.{StoreState}
 use Rattle.papaya_core_timeline.proofs.ShowLemmas.{IsShowing, none_shown, pair_shown}
 use Rattle.papaya_core_timeline.proofs.StoreLemmas.{LogsOrNot, matched, of_logs, own_logs, part_logs}
 
--- the closure's answers are there
+-- the answers of the closure are there
 abbrev pub HasAnswers : {A : Type 0} → Option A → Type 0
 HasAnswers {A = A} answers = (a : A) × (answers ≡ Some a)
 
@@ -48,20 +48,20 @@ module _ {K V A : Type 0} where
   same_call r r' has e = (has.0, ap (λ (y : Running K V A). y.answers) e ∙ has.1)
 
 module _ {K V S A : Type 0} where
-  -- a closure that was shown something has answers left
+  -- a closure that was called has answers left
   shown_answers : {Computes : Type 0} (s : StoreState K V S) (r : Running K V A) (a : Call_answer) (s' : StoreState K V S) (r' : Running K V A)
       → IsShowing Computes s r a s' r' → HasAnswers r.answers → HasAnswers r'.answers
   shown_answers s r a s' r' shown has = elim shown.call
       [ inl same ↦ same_call r r' has same | inr (v, x, later, of) ↦ (x, ap (λ (y : Running K V A). y.answers) later) ]
 
-  -- a call for which a pair was logged keeps them
+  -- a call for which a pair was stored in the arena keeps them
   logged_keeps : (s : StoreState K V S) (r : Running K V A) (a : Call_answer) (s' : StoreState K V S) (r' : Running K V A) → HasAnswers r.answers
       → LogsOrNot s r a s' r' → HasAnswers r'.answers
   logged_keeps s r a s' r' has (inl (unlogged, stays)) = same_call r r' has stays.1
   logged_keeps s r a s' r' has (inr (key, left, (value, was, is, few, grown, moved))) = (has.0, ap (λ (y : Running K V A). y.answers) moved ∙ has.1)
 
 module _ {K V S A : Type 0} (eq : K → K → Bool) (says : Says K V A) where
-  -- whatever was asked
+  -- for each ask of the call itself
   pub answers_performed : (refuse : Bool) (ask : Call_ask) (s : StoreState K V S) (r : Running K V A) (a : Call_answer) (s' : StoreState K V S)
       (r' : Running K V A) → Performs eq says refuse ask s r a s' r' → HasAnswers r.answers → HasAnswers r'.answers
   answers_performed refuse (Load at) s r a s' r' h has = same_call r r' has h.1.1
@@ -82,7 +82,7 @@ module _ {K V S A : Type 0} (eq : K → K → Bool) (says : Says K V A) where
   answers_performed refuse (Ask_done reply) s r a s' r' h has = same_call r r' has h.1.1
 
 module _ {K V S A : Type 0} (eq : K → K → Bool) (says : Says K V A) (hash : S → K → ℕ) where
-  -- and whatever was asked for its copy
+  -- and for each ask of its copy
   pub answers_asked : (refuse : Bool) (ask : Ask) (s : StoreState K V S) (r : Running K V A) (a : Answer) (s' : StoreState K V S) (r' : Running K V A)
       → PerformsAsk eq says hash refuse ask s r a s' r' → HasAnswers r.answers → HasAnswers r'.answers
   answers_asked refuse (asks.Call ask) s r a s' r' (told, is, h) has = answers_performed eq says refuse ask s r told s' r' h has

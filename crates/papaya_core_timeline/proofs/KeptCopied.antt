@@ -50,7 +50,7 @@ module _ {Q K V S A : Type 0} (eq : K → K → Bool) (hashes : S → K → ℕ)
     (links : (behind t chunks : ℕ) → link_in r.machine.phase ≡ Some (Linking behind t chunks) → IsMadeFor store t chunks)
     (owns : own_key store r ≡ own)
     (suits : Suits eq hashes g c store) where
-  -- what an answer leaves, where it is this
+  -- the effect of an answer, given the ask
   abbrev Leaves : CopyAsk → Answer → StoreState K V S → Running K V A → Type 0
   Leaves ask a store' later = IsAnswered g c store r es call_trace own key (asks.Copy ask) a store' later
 

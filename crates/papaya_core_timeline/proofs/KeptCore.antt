@@ -85,7 +85,7 @@ module _ {K V S A : Type 0} (eq : K → K → Bool) (says : Says K V A) where
   call-hasher refuse (Ask_done reply) s r a s' r' (e, stays) = stays-hasher s r s' r' stays
 
 module _ {K V S A : Type 0} (eq : K → K → Bool) (says : Says K V A) (hash : S → K → ℕ) where
-  -- whoever asked
+  -- whichever machine asked
   pub performs-hasher : (refuse : Bool) (ask : Ask) (s : StoreState K V S) (r : Running K V A) (a : Answer) (s' : StoreState K V S)
       (r' : Running K V A) → PerformsAsk eq says hash refuse ask s r a s' r' → s'.hasher ≡ s.hasher
   performs-hasher refuse (asks.Call ask) s r a s' r' (told, is, h) = call-hasher eq says refuse ask s r told s' r' h
@@ -99,7 +99,7 @@ keys_lawful eq input build write finish classes respects
 
 module _ {K V S A H : Type 0} (eq : K → K → Bool) (input : K → List (List ℕ)) (build : S → H) (write : H → List ℕ → H) (finish : H → ℕ)
     (classes : IsEquivalence eq) (respects : (x y : K) → eq x y ≡ true → input x ≡ input y) where
-  -- what holds of each core
+  -- the invariant of each core
   abbrev pub Lawful : CoreState K V S A → Type 0
   Lawful s = IsLawfulCore eq (hash_of input build write finish s.store.hasher) s.store s.callers s.mode
 
@@ -144,7 +144,7 @@ module _ {K V S A H : Type 0} (eq : K → K → Bool) (input : K → List (List 
             (es ++ step.made, (_, step.kept));
       }
 
-  -- a call that goes on is refused for a cause
+  -- a call that continues is refused for a cause
   pub lawful_caused : (says : Says K V A) (refuse : Bool) (s : CoreState K V S A) → Lawful s → (caller : ℕ) (r : Running K V A)
       → running s.callers caller ≡ Some r → (answer : Answer) (store' : StoreState K V S) (later : Running K V A)
       → PerformsAsk eq says (hash_of input build write finish) refuse (ask_of r.machine) s.store r answer store' later → (refused : Refused)
@@ -163,7 +163,7 @@ module _ {K V S A H : Type 0} (eq : K → K → Bool) (input : K → List (List 
       left.made left.loaded call.relies left.told)
       (lawful.core.going caller r was) (reply_asked (ask_of (after r.machine answer)) (Reply_refused refused) e)
 
-  -- the same of what the code has: the store and the callers after it
+  -- the same in the terms of the code: the store and the callers after it
   pub stepped_lawful : (says : Says K V A) (refuse : Bool) (s : CoreState K V S A) (caller : ℕ) (store' : StoreState K V S)
       (callers' : List (Seat K V A)) (before : Running K V A) (a : Answer) (later : Running K V A) → running s.callers caller ≡ Some before
       → PerformsAsk eq says (hash_of input build write finish) refuse (ask_of before.machine) s.store before a store' later → later.machine ≡ before.machine

@@ -1,4 +1,4 @@
--- What an exchange changes for which a machine asked, for the call itself or for its copy.
+-- The changes of an exchange for which a machine asked, for the call itself or for its copy.
 use Rattle.std.proofs.Common.{◌≡◌, ℕ, ◌==◌, ◌&&◌, Bool, true, false, cond, Option, None, Some, ◌⊎◌, inl, inr, refl, sym, ◌∙◌, ap, subst}
 use Rattle.papaya_call.specs.declared.ask.At.{At}
 use Rattle.papaya_call.specs.declared.ask.At.TheVariants.{Root, Next, Aborted, Done, Slot, Made}
@@ -22,21 +22,23 @@ both : (a b : Bool) → (a && b) ≡ true → (a ≡ true) × (b ≡ true)
 both true b h = (refl, h)
 both false b h = absurd cc
 
--- the root is exchanged where there is none yet
+-- the root is exchanged if there is none yet
 pub root_empty : {K P : Type 0} (g : Setting K P) (c : Coding K P) (k : K) (s : State P) (loaded : LoadedPairs P) (new : ℕ) (kind : Option StepKind)
     (e : Exchange P) → IsAsked g c k kind Root new s loaded e → Allows g s e → s.root ≡ 0
 root_empty g c k s loaded new (Some kinds.Open) e is allows = (subst (Allows g s) is allows).0
 root_empty g c k s loaded new _ e h allows = absurd h
 
 module _ {P : Type 0} (s : State P) where
-  -- a slot after a word was put into one that names nothing, or a pair that stood somewhere
+  -- a slot after a write of a word that names nothing, or names a pair that was in a slot
   put_stood : (t x : ℕ) (w : Word P) → ((p : P) → named w ≡ Some p → Stands s p) → (u y : ℕ) (p : P) (b : Bool)
       → named (cond b w (s.slot u y)) ≡ Some p → Stands s p
   put_stood t x w stood u y p true e = stood p e
   put_stood t x w stood u y p false e = (u, y, e)
 
 module _ {P : Type 0} (s : State P) (loaded : LoadedPairs P) (new : ℕ) where
-  -- The tables that have come are those of before, and the one that was opened; a pair that a slot names stood in one before, or is one that the call made. Where it changes no pair of the map, each slot names what one named.
+  -- The tables that have come are those of before, and the one that was opened. A pair that a slot
+  -- names was in a slot before, or is one that the call made. If the exchange changes no pair of
+  -- the map, each pair that a slot names was in a slot before.
   pub record IsChanged (kind : Option StepKind) (at : At) (e : Exchange P) : Type 0 where
     pub place : (at ≡ Root) ⊎ (at ≡ Made) ⊎ ((t : ℕ) × (x : ℕ) × (at ≡ Slot t x))
     pub comes : (t : ℕ) → Comes (after s e) t → Comes s t ⊎ ((at ≡ Root) × (new ≡ t))
@@ -61,7 +63,7 @@ module _ {P : Type 0} (s : State P) (loaded : LoadedPairs P) (new : ℕ) where
   numbered : IsChanged (Some kinds.Take) Made (Take s.made)
   numbered = record { place = inr (inl refl); comes = λ t h. inl h; slots = λ t x p e. inl (t, x, e); unchanged = λ old word none t x p e. (t, x, e) }
 
-  -- what an asked exchange changes
+  -- the changes of an exchange that was asked for
   pub changes : {K : Type 0} (g : Setting K P) (c : Coding K P) (k : K) (kind : Option StepKind) (at : At) (e : Exchange P)
       → IsAsked g c k kind at new s loaded e → IsChanged kind at e
   changes g c k (Some kinds.Take) Made e is = subst (IsChanged (Some kinds.Take) Made) (sym is) numbered
@@ -87,7 +89,9 @@ module _ {P : Type 0} (s : State P) (loaded : LoadedPairs P) (new : ℕ) where
   changes g c k _ _ e h = absurd h
 
 module _ {P : Type 0} (s : State P) (last : Option P) (new : ℕ) where
-  -- What an exchange of a copier changes: the tables that have come are those of before, and the one that was linked; a pair that a slot names stood in one before; and the copier is told of a pair that stood in one.
+  -- The changes of an exchange of a copier. The tables that have come are those of before, and the
+  -- one that was linked. A pair that a slot names was in a slot before. The last pair that the
+  -- copier has loaded was in a slot.
   pub record IsCopied_on (at : At) (e : Exchange P) : Type 0 where
     pub comes : (t : ℕ) → Comes (after s e) t → Comes s t ⊎ ((u : ℕ) × (at ≡ Next u) × (new ≡ t))
     pub slots : (t x : ℕ) (p : P) → named ((after s e).slot t x) ≡ Some p → Stands s p
@@ -110,12 +114,12 @@ module _ {P : Type 0} (s : State P) (last : Option P) (new : ℕ) where
       comes v (inl first) = inl (inl first)
       comes v (inr (u, e)) = next u v (u == t) e
 
-  -- a pair that is copied stands in a slot
+  -- a pair that is copied is in a slot
   copied_stands : {K : Type 0} (g : Setting K P) (n : ℕ) (p : P) → IsCopied g s n p → Stands s p
   copied_stands g n p source = elim source.stood
       [ inl marked ↦ (source.from, source.slot, ap named marked) | inr copied ↦ (source.from, source.slot, ap named copied) ]
 
-  -- what an asked exchange changes
+  -- the changes of an exchange that was asked for
   pub copies : {K : Type 0} (g : Setting K P) (c : Coding K P) (kept : Option P) (kind : Option StepKind) (at : At) (e : Exchange P)
       → IsCopyAsked c kind at new s kept e → Allows g s e → IsCopied_on at e
   copies g c kept (Some kinds.Link) (Next t) e is may = subst (IsCopied_on (Next t)) (sym is) (linked t)

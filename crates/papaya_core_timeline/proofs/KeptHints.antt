@@ -1,4 +1,4 @@
--- The hints in tables: what writes them, and what leaves them as they are.
+-- The hints in tables: the steps that write them, and the steps that leave them as they are.
 use Rattle.std.proofs.Common.{◌≡◌, ℕ, zero, suc, ◌-◌, ◌==◌, Bool, true, false, cond, List, [], ◌∷◌}
 use Rattle.std.proofs.Common.{◌++◌, length, slice_get, slice_set, slice_index, nat_lt, replicate}
 use Rattle.std.proofs.Common.{Option, Some, None, ◌⊎◌, inl, inr, refl, sym, ◌∙◌, ap, subst}
@@ -16,7 +16,7 @@ use Rattle.papaya_core_timeline.proofs.KeptTables.{index-zeros, swapped-grown, s
 use Rattle.papaya_core_timeline.proofs.KeptTables.{swapped-left, swapped-other, table_at, table_there}
 use Rattle.papaya_core_timeline.proofs.KeptTables.{word-grown, written-left}
 
--- each hint that stands is as it was, or may be there
+-- each hint is as it was, or is one that may be there
 abbrev pub KeepsHints : {K P : Type 0} → Setting K P → Coding K P → State P → Tables → Tables → Type 0
 KeepsHints g c s w w' = (n i : ℕ) → (hint_at w' n i ≡ hint_at w n i) ⊎ IsHint g c s n i (hint_at w' n i)
 
@@ -34,7 +34,7 @@ noted-or hints i hint y = elim (slice_index hints i == 0)
     as (λ b. (slice_index (cond b (slice_set hints i hint) hints) y ≡ slice_index hints y)
     ⊎ ((y ≡ i) × (slice_index (cond b (slice_set hints i hint) hints) y ≡ hint))) [ true ↦ set-or hints i hint y | false ↦ inl refl ]
 
--- of the table whose hints were written
+-- the table whose hints were written
 module _ (t : TableWords) (i hint : ℕ) where
   -- all but its hints is as it was
   pub hinted-same : {A : Type 0} (read : TableWords → A) → read (record t { hints = noted t.hints i hint }) ≡ read t → read (hinted t i hint) ≡ read t
@@ -83,7 +83,7 @@ module _ (w : Tables) (n i hint : ℕ) where
   there-words t there (Slot u y) = swapped-left w n t (hinted t i hint) there (λ v. slice_index v.slots y)
       (hinted-same t i hint (λ v. slice_index v.slots y) refl) u
 
-  -- what is the same where there is such a table, and where there is none
+  -- a fact that holds both if there is such a table and if there is none
   pub by-table : (Is : Tables → Type 0) → Is w
       → ((t : TableWords) → table_of w.tables n ≡ Some t → Is (record w { tables = slice_set w.tables (n - 1) (hinted t i hint) })) → Is (note w n i hint)
   by-table Is none there = go (table_of w.tables n) refl
@@ -121,7 +121,7 @@ module _ (w : Tables) (n i hint : ℕ) where
   noted-hints m y = by-table (λ v. (hint_at v m y ≡ hint_at w m y) ⊎ ((m ≡ n) × (y ≡ i) × (hint_at v m y ≡ hint))) (inl refl)
       (λ t there. there-hints t there m y)
 
--- so each hint is true, where the one that is written is
+-- so each hint is true, if the one that is written is
 pub noted-keeps : {K P : Type 0} (g : Setting K P) (c : Coding K P) (s : State P) (w : Tables) (n i hint : ℕ) → IsHint g c s n i hint
     → KeepsHints g c s w (note w n i hint)
 noted-keeps g c s w n i hint is m y = elim (noted-hints w n i hint m y) [

@@ -31,7 +31,7 @@ use Rattle.papaya_core_store.specs.Performs.{own_value}
 use Rattle.papaya_core_timeline.proofs.MadePairs.{IsMadeNow, MakesOver}
 pub use Rattle.papaya_core_timeline.proofs.KeptSettings.{IsLawfulKeys}
 
--- a call that goes on is the one that was put back
+-- a call that continues is the one that was put back
 gone_on : {A : Type 0} (reply : Option Reply) (r q : A) → goes_on reply r ≡ Some q → r ≡ q
 gone_on None r q e = cc
 gone_on (Some reply) r q e = let f : None ≡ Some q = e in cc
@@ -42,7 +42,8 @@ module _ {K V S A : Type 0} (eq : K → K → Bool) (hash : K → ℕ) (law : Is
       → IsHashed (setting_of {V = V} eq (low hash) s.mode s.store.words.tables) (coding_of (low hash))
   hashed_setting s core = tables_hashed eq hash law s.mode s.store.words.tables core.sizes
 
-  -- what a step leaves: the exchange that it made, if it made one, and what is told of each call since
+  -- the result of a step: the exchange that it made, if it made one, and the traces of all calls
+  -- since
   pub record IsStep {says : Says K V A} {hashes : S → K → ℕ} (refuse : Bool) (s : CoreState K V S A) (caller : ℕ) (s' : CoreState K V S A)
       (event : Event) (reply : Option Reply) (a : Advances eq says hashes refuse s caller s' event reply) (es : List (Exchange (Stored K V)))
       (call_traces : ℕ → CallTrace K V) : Type 0 where
@@ -52,19 +53,20 @@ module _ {K V S A : Type 0} (eq : K → K → Bool) (hash : K → ℕ) (law : Is
     pub told : IsTrueOf (setting_of eq (low hash) s.mode s.store.words.tables) (coding_of (low hash)) call.key (run es start)
         (kind_of_ask a.before.machine) (follows_of a.before.machine) (call_traces caller).loaded (ask_of a.before.machine) a.answer made loaded
     pub kept : IsConsistent eq hash s'.mode s'.store s'.callers (es ++ made) (told_call_traces call_traces caller made loaded)
-    -- the stepping call's own facts after its step, also where it has replied
+    -- the stepping call's own facts after its step, also if it has replied
     pub own : IsCall eq hash s'.mode s'.store (record a.later { machine = after a.before.machine a.answer }) (es ++ made)
         (told_call_traces call_traces caller made loaded caller)
     pub own_key : own.key ≡ call.key
     -- the map changes as the exchange says, also in the setting after the step
     pub map_same : (k : K) → map_left (setting_of eq (low hash) s'.mode s'.store.words.tables) es k ≡ map_left
         (setting_of eq (low hash) s.mode s.store.words.tables) es k
-    -- longer logs keep their pairs
+    -- longer arenas keep their pairs
     pub logged : (p : Stored K V) → pair_of s.store p.number ≡ Some p → pair_of s'.store p.number ≡ Some p
     pub longer : length s.store.pairs ≤ length s'.store.pairs
     -- and so do the tables
     pub grown : HasMoreTables s.store.words.tables s'.store.words.tables
-    -- a pair that was made in this step has the number after all others, and the value of the call, and is logged
+    -- a pair that was made in this step has the number after all others and the value of the call,
+    -- and is stored in the arena
     pub made_now : (n : ℕ) → MakesOver (ask_of a.before.machine) → a.answer ≡ answers.Call (Made_number n) → IsMadeNow s.store a.before s'.store a.later n
     pub new : (q : Stored K V) → IsOneOf loaded.call.made q → IsOneOf (call_traces caller).loaded.call.made q
         ⊎ ((q.number ≡ length s.store.pairs) × (own_value s.store a.before ≡ Some q.value) × (pair_of s'.store q.number ≡ Some q))

@@ -49,11 +49,11 @@ module _ {Q K V S A : Type 0} (g : Setting Q (Stored K V)) (c : Coding Q (Stored
     (coded : (at : At) → word_of g c (run es start) at ≡ word_at store.words at)
     (there : (t : ℕ) → 0 < t → Comes (run es start) t → IsMade store t)
     (owns : own_key store r ≡ own) where
-  -- what an answer leaves, where it is this
+  -- the effect of an answer, given the ask
   abbrev Leaves : Ask → Answer → StoreState K V S → Running K V A → Type 0
   Leaves ask a store' later = IsAnswered g c store r es call_trace own key ask a store' later
 
-  -- what is told of it
+  -- the record of it
   abbrev Hears : Ask → Answer → LoadedPairs (Stored K V) → Type 0
   Hears ask a loaded = Tells g c store r es call_trace own key ask a [] loaded
 
@@ -73,13 +73,13 @@ module _ {Q K V S A : Type 0} (g : Setting Q (Stored K V)) (c : Coding Q (Stored
       quiet g c store r es call_trace own hashed key relies coded there owns ask e a store' later call_trace.loaded store.count same_store same_call
       told still (λ p h. inl h) (λ p h. inl h) refl never
 
-  -- what a call is told for itself
+  -- the record of an ask of the call itself
   told_own : (ask : Call_ask) (a : Call_answer) (loaded : Call_loaded (Stored K V))
       → IsTrueOfCall g c key (run es start) (kind_of_ask r.machine) call_trace.loaded.call ask a [] loaded
       → Hears (asks.Call ask) (answers.Call a) (record call_trace.loaded { call = loaded })
   told_own ask a loaded told = own_told g c store r es call_trace own hashed key relies coded there ask a [] loaded told
 
-  -- a call's own ask, where nothing was made
+  -- a call's own ask, if nothing was made
   own_nothing : (ask : Call_ask) → ask_of r.machine ≡ asks.Call ask → (a : Call_answer) (store' : StoreState K V S) (later : Running K V A)
       → store' ≡ store → later ≡ r → IsTrueOfCall g c key (run es start) (kind_of_ask r.machine) call_trace.loaded.call ask a [] call_trace.loaded.call
       → change_after (kind_of_ask r.machine) ask a (change_in r.machine.call.state) ≡ change_in r.machine.call.state
@@ -94,7 +94,7 @@ module _ {Q K V S A : Type 0} (g : Setting Q (Stored K V)) (c : Coding Q (Stored
         | inr (slots, limit, chunks, f) ↦ absurd cc
       ])
 
-  -- a key or a value, which goes into the log with a pair
+  -- a key or a value, which is stored in the arena together with a pair
   pub put_off : (ask : Call_ask) → ask_of r.machine ≡ asks.Call ask → (a : Call_answer) (store' : StoreState K V S) (later : Running K V A)
       → IsPutOff a store r store' later → IsTrueOfCall g c key (run es start) (kind_of_ask r.machine) call_trace.loaded.call ask a [] call_trace.loaded.call
       → change_after (kind_of_ask r.machine) ask a (change_in r.machine.call.state) ≡ change_in r.machine.call.state
@@ -156,7 +156,7 @@ module _ {Q K V S A : Type 0} (g : Setting Q (Stored K V)) (c : Coding Q (Stored
         | inr (slots, limit, chunks, f) ↦ absurd cc
       ])
 
-  -- of the call's own key
+  -- for the call's own key
   pub pair_made : (k : K) → own ≡ Some k → ((q : Stored K V) → q.key ≡ k → g.key q ≡ key) → ((q : Stored K V) → c.number q ≡ q.number)
       → ((part : Part V) → r.value ≡ Some part → (v : V) × (value_in store.pairs part ≡ Some v))
       → ask_of r.machine ≡ asks.Call MakePair → (a : Call_answer) (store' : StoreState K V S) (later : Running K V A)
@@ -173,7 +173,7 @@ module _ {Q K V S A : Type 0} (g : Setting Q (Stored K V)) (c : Coding Q (Stored
       logged_pair MakePair e r.key (Logged (brought_by (length store.pairs) r.key)) a store' later logs k (owns ∙ is_key) (known.1 ∙ sym is_key)
       (λ q same number made. inr (q, keyed q same, (made ∙ ap Made_number (sym number), refl, refl))) numbered valued refl (λ slots limit chunks f. absurd cc)
 
-  -- of the key of the pair last loaded
+  -- for the key of the pair last loaded
   pub pair_of_made : (k : K) → own ≡ Some k → (n : ℕ) (p : Stored K V) → call_trace.loaded.call.last ≡ Some p → pair_of store n ≡ Some p
       → ((q : Stored K V) → q.key ≡ p.key → g.key q ≡ g.key p) → ((q : Stored K V) → c.number q ≡ q.number)
       → ((part : Part V) → r.value ≡ Some part → (v : V) × (value_in store.pairs part ≡ Some v)) → ask_of r.machine ≡ asks.Call (MakePairOf n)
@@ -196,7 +196,7 @@ module _ {Q K V S A : Type 0} (g : Setting Q (Stored K V)) (c : Coding Q (Stored
         (made ∙ ap Made_number (sym number), refl, refl),
       )) numbered valued refl (λ slots limit chunks f. absurd cc)
 
-  -- a table, asked for by a call or by its copy
+  -- a table, for which a call or its copy asked
   pub table_made : (ask : Ask) → ask_of r.machine ≡ ask → (slots limit chunks : ℕ) (a : Call_answer) → Hears ask (answers.Call a) call_trace.loaded
       → change_by (kind_of_ask r.machine) ask (answers.Call a) (change_in r.machine.call.state) ≡ change_in r.machine.call.state
       → (store' : StoreState K V S) (later : Running K V A) → later ≡ r → (Refuses MAX_TABLES (length store.words.tables) a × (store' ≡ store))
@@ -230,7 +230,7 @@ module _ {Q K V S A : Type 0} (g : Setting Q (Stored K V)) (c : Coding Q (Stored
             (made-there store.words n slots limit chunks),
       ))))
 
-  -- where memory is refused nothing is made
+  -- if memory runs out, nothing is made
   pub none_made : (ask : Ask) → ask_of r.machine ≡ ask → (a : Call_answer) (store' : StoreState K V S) (later : Running K V A)
       → Hears ask (answers.Call a) call_trace.loaded
       → change_by (kind_of_ask r.machine) ask (answers.Call a) (change_in r.machine.call.state) ≡ change_in r.machine.call.state

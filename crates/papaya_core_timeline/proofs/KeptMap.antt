@@ -57,7 +57,7 @@ module _ {K V S : Type 0} (eq : K → K → Bool) (hash : K → ℕ) (mode : Mod
   kind_pairs (Copied p) logged = refl
   kind_pairs (Buried p) logged = refl
 
-  -- the pair of a number that stands for a word
+  -- the pair whose number a word has
   word_pairs : (w : Word (Stored K V)) (word : ℕ) → code g c w ≡ word → ((p : Stored K V) → named w ≡ Some p → IsInArena store p)
       → pairs_of_kind store (kind_of word) (number_of word) ≡ pairs_of_word w
   word_pairs w word is logged =

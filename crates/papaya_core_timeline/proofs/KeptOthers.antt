@@ -72,7 +72,8 @@ module _ {K V S A : Type 0} (eq : K → K → Bool) (hash : K → ℕ) (law : Is
   abbrev pub call_traces' : ℕ → CallTrace K V
   call_traces' = told_call_traces call_traces caller made loaded
 
-  -- What a step leaves: what was exchanged was allowed, the log and the tables grow, and a pair that a slot names stood in one before, or is the stepping call's.
+  -- The effect of a step: each exchange was allowed, the arena and the tables grow, and a pair that
+  -- a slot names was in a slot before, or is the stepping call's.
   pub record IsLeaving (Mine : Stored K V → Type 0) : Type 0 where
     pub allowed : AllAllowed g start es'
     pub keys : (at : Part K) (k : K) → key_in s.store.pairs at ≡ Some k → key_in s'.store.pairs at ≡ Some k
@@ -85,7 +86,7 @@ module _ {K V S A : Type 0} (eq : K → K → Bool) (hash : K → ℕ) (law : Is
     pub hints : KeepsHints g c (run es start) s.store.words s'.store.words
     pub there : (t : ℕ) → 0 < t → Comes (run es' start) t → IsMade s.store t
     pub slots : (t x : ℕ) (p : Stored K V) → named ((run es' start).slot t x) ≡ Some p → Stands (run es start) p ⊎ Mine p
-    -- the stepping call's pairs are logged, and are no other call's
+    -- the stepping call's pairs are in the arena, and are no other call's
     pub mine_logged : (p : Stored K V) → Mine p → IsInArena s'.store p
     pub mine_apart : (d : ℕ) (r : Running K V A) → running s.callers d ≡ Some r → d ≢ caller → (p p' : Stored K V) → Mine p
         → IsOneOf (call_traces d).loaded.call.made p' → p.number ≢ p'.number
@@ -116,7 +117,7 @@ module _ {K V S A : Type 0} (eq : K → K → Bool) (hash : K → ℕ) (law : Is
     pub longer_split : (call_trace : CallTrace K V) → call_trace.begun ++ call_trace.since ≡ es → call_trace.begun ++ (call_trace.since ++ made) ≡ es'
     longer_split call_trace split = sym (append_assoc call_trace.begun call_trace.since made) ∙ ap (λ l. l ++ made) split
 
-    -- what a call relies on in the grown setting
+    -- the facts on which a call relies, in the grown setting
     pub grown_relies : (call_trace : CallTrace K V) (split : call_trace.begun ++ call_trace.since ≡ es) (k : K) (m : _)
         (loaded : LoadedPairs (Stored K V)) → Relies g c call_trace.begun (call_trace.since ++ made) k m loaded
         → Relies g' c call_trace.begun (call_trace.since ++ made) k m loaded
@@ -125,12 +126,12 @@ module _ {K V S A : Type 0} (eq : K → K → Bool) (hash : K → ℕ) (law : Is
         relies_carries g g' c hashed call_trace.begun (call_trace.since ++ made) (subst (AllAllowed g start) to left.allowed)
         (subst (λ l. Agrees (IsOn (run l start).first (run l start).next) g g') to agrees) k m loaded relies
 
-    -- and so what a resizer relies on
+    -- and those on which a resizer relies
     pub grown_resizer : (z : Resizer) (loaded : LoadedPairs (Stored K V)) → ReliesResizer g c (run es' start) z loaded
         → ReliesResizer g' c (run es' start) z loaded
     grown_resizer z loaded relies = resizer_carries g g' c (run es' start) (map_left g es') (keeping g hashed.lawful es' left.allowed) agrees z loaded relies
 
-    -- a pair that stood in a slot is logged
+    -- a pair that was in a slot is in the arena
     pub stood_logged : (p : Stored K V) → Stands (run es start) p → IsInArena s'.store p
     stood_logged p (t, x, names) = left.logged p.number p (kept.logged t x p names)
 
@@ -148,7 +149,7 @@ module _ {K V S A : Type 0} (eq : K → K → Bool) (hash : K → ℕ) (law : Is
     other_value None v h = let f : None ≡ Some v = h in absurd cc
     other_value (Some part) v h = left.values part v h
 
-    -- so it relies on what is told of it after the step
+    -- so it relies on its trace after the step
     other_call : (d : ℕ) (r : Running K V A) → running s.callers d ≡ Some r → d ≢ caller → (loaded : LoadedPairs (Stored K V))
         → (call_traces d).loaded ≡ loaded → IsCall eq hash s'.mode s'.store r es'
         (record { begun = (call_traces d).begun; since = (call_traces d).since ++ made; loaded = loaded; scan = (call_traces d).scan })
@@ -197,7 +198,7 @@ module _ {K V S A : Type 0} (eq : K → K → Bool) (hash : K → ℕ) (law : Is
           links = λ behind t chunks linking. still_made t chunks (o.links behind t chunks linking);
         }
 
-    -- and so does another scanner, whose trace goes on
+    -- and so does another scanner, whose trace continues
     module _ (v : Scanning A) (call_trace : ScanTrace K V) (scans : IsScanning eq hash s.mode s.store v es call_trace) where
       abbrev first : Words (Stored K V)
       first = run call_trace.begun start
@@ -254,11 +255,11 @@ module _ {K V S A : Type 0} (eq : K → K → Bool) (hash : K → ℕ) (law : Is
         links = λ behind t chunks e. still_made t chunks (scans.links behind t chunks e);
       }
 
-    -- the stepping caller was told of what its answer says
+    -- the stepping caller's trace has the record of its answer
     pub own_loaded : (d : ℕ) → d ≡ caller → loaded ≡ (call_traces' d).loaded
     own_loaded d same = sym (ap (λ b. cond b loaded (call_traces d).loaded) (eq-eqb d caller same))
 
-    -- and no other of anything
+    -- and no other trace changes
     other_loaded : (d : ℕ) → d ≢ caller → (call_traces d).loaded ≡ (call_traces' d).loaded
     other_loaded d differ = sym (ap (λ b. cond b loaded (call_traces d).loaded) (differs d caller differ))
 
@@ -279,7 +280,7 @@ module _ {K V S A : Type 0} (eq : K → K → Bool) (hash : K → ℕ) (law : Is
       other_scans : (d : ℕ) (v : Scanning A) → d ≢ caller → scanning s'.callers d ≡ Some v → scanning s.callers d ≡ Some v
       other_scans d v differ runs = sym (scanning-elsewhere s.callers caller d work differ) ∙ sym (ap (λ (y : List (Seat K V A)). scanning y d) callers) ∙ runs
 
-      -- the stepping caller goes on with its work
+      -- the stepping caller continues with its work
       own_runs : (d : ℕ) (r : Running K V A) → d ≡ caller → running s'.callers d ≡ Some r → work ≡ Some (works.Call r)
       own_runs d r same runs = running-here s.callers caller work r
           (sym (ap (λ (y : List (Seat K V A)). running y caller) callers) ∙ ap (running s'.callers) (sym same) ∙ runs)
@@ -292,7 +293,7 @@ module _ {K V S A : Type 0} (eq : K → K → Bool) (hash : K → ℕ) (law : Is
       own_scans d v same runs = scanning-here s.callers caller work v
           (sym (ap (λ (y : List (Seat K V A)). scanning y caller) callers) ∙ ap (scanning s'.callers) (sym same) ∙ runs)
 
-      -- each call relies on what is told of it
+      -- each call relies on its trace
       calls : (d : ℕ) (r : Running K V A) → running s'.callers d ≡ Some r → IsCall eq hash s'.mode s'.store r es' (call_traces' d)
       calls d r runs = elim (cases_same d caller) [
         | inl same ↦ subst (λ y. IsCall eq hash s'.mode s'.store r es' (call_traces' y)) (sym same) (own_call r (own_runs d r same runs))
@@ -331,11 +332,11 @@ module _ {K V S A : Type 0} (eq : K → K → Bool) (hash : K → ℕ) (law : Is
         ]
       ]
 
-      -- a pair that a slot names is logged
+      -- a pair that a slot names is in the arena
       logged : (t x : ℕ) (p : Stored K V) → named ((run es' start).slot t x) ≡ Some p → IsInArena s'.store p
       logged t x p names = elim (left.slots t x p names) [ inl stood ↦ stood_logged p stood | inr mine ↦ left.mine_logged p mine ]
 
-      -- what a hint says lasts
+      -- a hint stays true
       hint_later : (n i h : ℕ) → IsHint g c (run es start) n i h → IsHint g' c (run es' start) n i h
       hint_later n i h is =
           let later : IsLater g (run es start) (run es' start) = subst (IsLater g (run es start)) (sym (run-append es made start))

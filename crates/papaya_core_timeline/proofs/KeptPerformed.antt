@@ -73,12 +73,12 @@ module _ {K V S A : Type 0} (eq : K → K → Bool) (says : Says K V A) (hash : 
     (opens : (t : ℕ) → ask_of r.machine ≡ asks.Call (Ask_exchange Root 0 t) → IsMade store t)
     (links : (behind t chunks : ℕ) → link_in r.machine.phase ≡ Some (Linking behind t chunks) → IsMadeFor store t chunks)
     (own : own_key store r ≡ Some key) where
-  -- what an answer leaves, where it is this
+  -- the effect of an answer, given the ask
   abbrev Leaves : Call_ask → Call_answer → StoreState K V S → Running K V A → Type 0
   Leaves ask a store' later = IsAnswered (law_setting eq hash mode store) (law_coding hash) store r es call_trace (Some key) key (asks.Call ask)
       (answers.Call a) store' later
 
-  -- what the call is told
+  -- the record of the call
   abbrev Hears : Call_ask → Call_answer → Call_loaded (Stored K V) → Type 0
   Hears ask a loaded = IsTrueOfCall (law_setting eq hash mode store) (law_coding hash) key (run es start) (kind_of_ask r.machine) call_trace.loaded.call
       ask a [] loaded
@@ -89,7 +89,7 @@ module _ {K V S A : Type 0} (eq : K → K → Bool) (says : Says K V A) (hash : 
       → ((slots : ℕ) × (limit : ℕ) × (chunks : ℕ) × (asks.Call ask ≡ asks.Call (MakeTable slots limit chunks)))
       ⊎ ((slots : ℕ) × (limit : ℕ) × (chunks : ℕ) × (asks.Call ask ≡ asks.Copy (Make_next slots limit chunks))) → ⊥
 
-  -- an ask of which nothing is left but what was told
+  -- an ask that has no effect but its record
   answered_quietly : (ask : Call_ask) → ask_of r.machine ≡ asks.Call ask
       → (a : Call_answer) (store' : StoreState K V S) (later : Running K V A) (loaded : Call_loaded (Stored K V)) → store' ≡ store → later ≡ r
       → Hears ask a loaded
@@ -102,7 +102,7 @@ module _ {K V S A : Type 0} (eq : K → K → Bool) (says : Says K V A) (hash : 
       (own_told (law_setting eq hash mode store) (law_coding hash) store r es call_trace (Some key) hashed key relies coded there ask a [] loaded
       told) still stood (λ p h. inl h) made never
 
-  -- a showing
+  -- a call of a closure
   shown : (Computes : Type 0) (ask : Call_ask)
       → (Computes → (asks.Call ask ≡ asks.Call ShowNone) ⊎ ((n : ℕ) × (asks.Call ask ≡ asks.Call (ShowPair n)) × (r.machine.call.task ≡ tasks.Compute)))
       → ask_of r.machine ≡ asks.Call ask → (a : Call_answer) (store' : StoreState K V S) (later : Running K V A)
@@ -167,7 +167,7 @@ module _ {K V S A : Type 0} (eq : K → K → Bool) (says : Says K V A) (hash : 
       (told_made (law_setting eq hash mode store) (law_coding hash) store r es call_trace (Some key) at)
       (λ t f which. elim which [ inl (slots, limit, chunks, g) ↦ absurd cc | inr (slots, limit, chunks, g) ↦ absurd cc ]))
 
-  -- no table is made but where one is asked for
+  -- no table is made unless one was asked for
   untabled : (ask : Call_ask) (a : Call_answer) → ((slots limit chunks : ℕ) → ask ≡ MakeTable slots limit chunks → ⊥) → NoTable ask a
   untabled ask a none t is which = elim which [
     | inl (slots, limit, chunks, f) ↦ (let asked : ask ≡ MakeTable slots limit chunks = cc in none slots limit chunks asked)

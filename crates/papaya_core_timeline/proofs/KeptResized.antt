@@ -62,7 +62,7 @@ use Rattle.papaya_core_timeline.proofs.ResizerTables.{stage_is, stage_links, sta
 use Rattle.papaya_core_timeline.proofs.StoreLemmas.{matched}
 use Rattle.papaya_words_law.specs.Hints.{IsHint}
 
--- what is told more is told less
+-- a longer record implies a shorter one
 left_weaker : {Q K V S : Type 0} (g : Setting Q (Stored K V)) (c : Coding Q (Stored K V)) (store : StoreState K V S)
     (es : List (Exchange (Stored K V))) (loaded : LoadedPairs (Stored K V)) (T T' : List (Exchange (Stored K V)) → LoadedPairs (Stored K V) → Type 0)
     (a : Answer) (store' : StoreState K V S)
@@ -87,7 +87,7 @@ left_weaker g c store es loaded T T' a store' f left = record {
   opens = left.opens;
 }
 
--- work that goes on is no call on one key, and is the resizer
+-- work that continues is no call on one key, and is the resizer
 pub goes_on-resizer : {K V A : Type 0} (reply : Option Reply) (y z : Resizer) (w : Work K V A) → w ≡ works.Resize y
     → goes_on reply w ≡ Some (works.Resize z) → y ≡ z
 goes_on-resizer None y z w is e = same_item y z (ap (λ (v : Work _ _ _). resizer_in (Some v)) (sym is) ∙ ap resizer_in e)
@@ -147,7 +147,7 @@ module _ {K V S A : Type 0} (eq : K → K → Bool) (hash : K → ℕ) (law : Is
   on_low : (t : ℕ) → IsOn now.first now.next t → t ≤ length s.store.words.tables
   on_low t on = let words = there t on.0 (on_comes now t on) in table_low s.store.words.tables t words.0 words.1
 
-  -- what an answer leaves
+  -- the effect of an answer
   abbrev pub IsStageLeft : Stage → Answer → StoreState K V S → Type 0
   IsStageLeft stage a store' = IsLeft g c s.store es call_trace.loaded (λ made loaded'. IsTrueOfStage g c now stage call_trace.loaded a made loaded') a store'
 
@@ -271,7 +271,7 @@ module _ {K V S A : Type 0} (eq : K → K → Bool) (hash : K → ℕ) (law : Is
   abbrev pub resizing : IsResizing eq hash s.mode s.store x.before es (call_traces caller)
   resizing = kept.resizers caller x.before x.was
 
-  -- what its answer leaves
+  -- the effect of its answer
   pub left : IsStageLeft eq hash law hashes refuse s es (call_traces caller) core x.before hasher kept.allowed kept.coded kept.made kept.hints
       resizing x.before.state x.answer s'.store
   left = stage_left eq hash law hashes refuse s es (call_traces caller) core x.before hasher kept.allowed kept.coded kept.made kept.hints resizing
@@ -287,7 +287,7 @@ module _ {K V S A : Type 0} (eq : K → K → Bool) (hash : K → ℕ) (law : Is
   hashed_now : IsHashed g_now c_now
   hashed_now = tables_hashed eq hash law s.mode s.store.words.tables core.sizes
 
-  -- it learns, and what was exchanged was allowed
+  -- it relies on its new record, and the exchanges were allowed
   learnt : AllAllowed g_now (run es start) left.made × ReliesResizer g_now c_now (run left.made (run es start)) (after x.before x.answer) left.loaded'
   learnt = resizer_learns g_now c_now hashed_now (run es start) (map_left g_now es) (keeping g_now hashed_now.lawful es kept.allowed) x.before
       (call_traces caller).loaded resizing.relies (stage_words g_now s.store (λ t. refl) x.before.state resizing.links) x.answer left.made left.loaded' left.told
@@ -299,7 +299,7 @@ module _ {K V S A : Type 0} (eq : K → K → Bool) (hash : K → ℕ) (law : Is
   abbrev pub call_traces' : ℕ → CallTrace K V
   call_traces' = told_call_traces call_traces caller left.made left.loaded'
 
-  -- what the step leaves of the core: it makes no pair
+  -- the effect of the step on the core: it makes no pair
   pub leaving : others.IsLeaving eq hash law s caller s' x.mode es call_traces core kept left.made left.loaded' (λ p. ⊥)
   leaving = record {
     allowed = allowed_append g_now es left.made start kept.allowed learnt.0;
@@ -320,7 +320,7 @@ module _ {K V S A : Type 0} (eq : K → K → Bool) (hash : K → ℕ) (law : Is
   own_loaded : left.loaded' ≡ (call_traces' caller).loaded
   own_loaded = others.own_loaded eq hash law s caller s' x.mode es call_traces core kept left.made left.loaded' leaving caller refl
 
-  -- a pair that it was told of is logged
+  -- the last pair that it loaded is in the arena
   own_last : (p : Stored K V) → (((call_traces caller).loaded.call.last ≡ Some p) ⊎ Stands (run es start) p) → pair_of s'.store p.number ≡ Some p
   own_last p (inl old) = leaving.logged p.number p (resizing.last p old)
   own_last p (inr stood) = others.stood_logged eq hash law s caller s' x.mode es call_traces core kept left.made left.loaded' leaving p stood
@@ -338,14 +338,14 @@ module _ {K V S A : Type 0} (eq : K → K → Bool) (hash : K → ℕ) (law : Is
   still_made : (t chunks : ℕ) → IsMadeFor s.store t chunks → IsMadeFor s'.store t chunks
   still_made = others.still_made eq hash law s caller s' x.mode es call_traces core kept left.made left.loaded' leaving
 
-  -- a table that it was told of was made as it asked
+  -- a table that its answer names was made as it asked
   newly_made : (n slots limit chunks : ℕ) → x.answer ≡ answers.Call (Made_number n) → asks_in x.before.state ≡ Some (MakeTable slots limit chunks)
       → IsMadeFor s'.store n chunks
   newly_made n slots limit chunks is making =
       copier_made eq hashes refuse s.store x.answer s'.store slots limit chunks
       (subst (λ y. PerformsCopy eq hashes refuse y s.store x.answer s'.store) (same_item _ _ (sym x.asked ∙ making)) x.performs) n is
 
-  -- so it relies on what is told of it after the step
+  -- so it relies on its trace after the step
   pub own_resizing : IsResizing eq hash s'.mode s'.store (after x.before x.answer) es' (call_traces' caller)
   own_resizing =
       let stage = stage_made (IsMadeFor s'.store) x.before.resize x.before.mode x.before.initial x.before.number x.answer x.before.state newly_made

@@ -39,7 +39,7 @@ use Rattle.papaya_words.specs.Word.{pair_of}
 use Rattle.papaya_call_law.specs.ScanAnswers as scans
 use Rattle.papaya_core_store.specs.declared.scans.Scanning.{Scanning}
 
--- a scanner that goes on is the one that was put back, and nothing else
+-- a scanner that continues is the one that was put back, and nothing else
 pub goes_on-scan : {K V A : Type 0} (reply : Option Reply) (u v : Scanning A) (w : Work K V A) → w ≡ works.Scan u
     → goes_on reply w ≡ Some (works.Scan v) → (reply ≡ None) × (u ≡ v)
 goes_on-scan None u v w is e = (refl, same_item u v (ap (λ (y : Work _ _ _). scanner_in (Some y)) (sym is) ∙ ap scanner_in e))
@@ -55,7 +55,7 @@ pub scan_no-resizer : {K V A : Type 0} (reply : Option Reply) (u : Scanning A) (
 scan_no-resizer None u z w is e = let f : None ≡ Some z = ap (λ (y : Work _ _ _). resizer_in (Some y)) (sym is) ∙ ap resizer_in e in absurd cc
 scan_no-resizer (Some reply) u z w is e = let f : None ≡ Some z = ap resizer_in e in absurd cc
 
--- where it was told nothing the call has replied
+-- if the answer did not reach the scanner, the call has replied
 module _ {K V S A : Type 0} (store store' : StoreState K V S) (v : Scanning A) (answer : Answer) (ask : ScanAsk) (asked : ask_of v.scanner ≡ Some ask)
     (u : IsListRefused store v answer store') where
   gave : Some (Given (pair_of u.giving.1)) ≡ Some ask
@@ -65,13 +65,13 @@ module _ {K V S A : Type 0} (store store' : StoreState K V S) (v : Scanning A) (
   was_unheard = ap (λ a. list_refusal ask a) u.refused
       ∙ ap (λ a. list_refusal a (answers.Call (Was_refused Memory))) (sym (same_item (Given (pair_of u.giving.1)) ask gave))
 
--- the others rely on what they did where a caller's call is taken out
+-- all others rely on the same facts after a caller's call is taken out
 module _ {K V S A : Type 0} (eq : K → K → Bool) (hash : K → ℕ) (s : CoreState K V S A) (caller : ℕ) (es : List (Exchange (Stored K V)))
     (call_traces : ℕ → CallTrace K V) (kept : IsConsistent eq hash s.mode s.store s.callers es call_traces) where
   abbrev fewer : List (Seat K V A)
   fewer = with_work s.callers caller None
 
-  -- what a caller has under way then, it had
+  -- the work that a caller has under way then, it had before
   left_call : (d : ℕ) (r : Running K V A) → running fewer d ≡ Some r → running s.callers d ≡ Some r
   left_call d r e = ap call_in (left-working s.callers caller d (works.Call r) (call-under_way (working fewer d) r e)).1
 
@@ -103,11 +103,11 @@ module _ {K V S A : Type 0} (eq : K → K → Bool) (hash : K → ℕ) (law : Is
   abbrev pub bare : CoreState K V S A
   bare = record s { callers = with_work s.callers caller None }
 
-  -- the scanner that goes on
+  -- the scanner that continues
   abbrev pub own : Scanning A
   own = record x.later { scanner = after x.before.scanner x.answer }
 
-  -- the work that goes on
+  -- the work that continues
   abbrev work : Option (Work K V A)
   work = goes_on reply (works.Scan own)
 
@@ -137,14 +137,14 @@ module _ {K V S A : Type 0} (eq : K → K → Bool) (hash : K → ℕ) (law : Is
     pub bare_kept : IsConsistent eq hash bare.mode bare.store bare.callers es call_traces
     bare_kept = without_kept eq hash s caller es call_traces kept
 
-    -- what it relies on
+    -- the facts on which it relies
     abbrev pub call_trace : ScanTrace K V
     call_trace = scan_trace (call_traces caller)
 
     pub before_scanning : IsScanning eq hash s.mode s.store x.before es call_trace
     before_scanning = kept.scanners caller x.before x.was
 
-    -- what was told to it
+    -- its list could not grow
     abbrev pub Unheard : Type 0
     Unheard = IsListRefused s.store x.before x.answer s'.store
 
@@ -159,7 +159,7 @@ module _ {K V S A : Type 0} (eq : K → K → Bool) (hash : K → ℕ) (law : Is
         w x.ask x.asked x.answer s'.store x.later x.performs)
         bare_kept before_scanning
 
-    -- it was told nothing: its call is over, and all rely on what they did
+    -- if its list could not grow, its call is over, and all others rely on the same facts
     pub unheard_reply : Unheard → reply ≡ Some (Reply_refused Memory)
     unheard_reply u = x.reply_is ∙ ap (λ o. reply_or o (reply_of own.scanner)) (was_unheard s.store s'.store x.before x.answer x.ask x.asked u)
 
@@ -181,7 +181,7 @@ module _ {K V S A : Type 0} (eq : K → K → Bool) (hash : K → ℕ) (law : Is
       abbrev pub call_traces' : ℕ → CallTrace K V
       call_traces' = scanned_call_traces call_traces caller h.made h.loaded
 
-      -- what a scanner is told tells a call nothing
+      -- the trace of a scan does not matter to a call on one key
       same_call : (r : Running K V A) (t : CallTrace K V) (loaded : scans.LoadedPairs (Stored K V)) → IsCall eq hash s.mode s'.store r es' t
           → IsCall eq hash s.mode s'.store r es' (record t { scan = loaded })
       same_call r t loaded o = record {
@@ -205,7 +205,7 @@ module _ {K V S A : Type 0} (eq : K → K → Bool) (hash : K → ℕ) (law : Is
           → IsResizing eq hash s.mode s'.store z es' (record t { scan = loaded })
       same_resizer z t loaded o = record { relies = o.relies; last = o.last; carried = o.carried; opens = o.opens; links = o.links }
 
-      -- the callers then
+      -- the callers at that point
       abbrev callers' : List (Seat K V A)
       callers' = with_work s.callers caller work
 
@@ -266,7 +266,7 @@ module _ {K V S A : Type 0} (eq : K → K → Bool) (hash : K → ℕ) (law : Is
           subst (λ y. IsConsistent eq hash y s'.store s'.callers es' call_traces') (sym x.mode)
           (subst (λ (y : List (Seat K V A)). IsConsistent eq hash s.mode s'.store y es' call_traces') (sym x.callers) kept_then)
 
-    -- what the step leaves of what all rely on
+    -- the effect of the step on the facts on which all rely
     pub record IsAfter : Type 0 where
       pub es_then : List (Exchange (Stored K V))
       pub call_traces_then : ℕ → CallTrace K V

@@ -58,7 +58,7 @@ module _ {K V : Type 0} (eq : K → K → Bool) (hash : K → ℕ) where
         places = λ k t j. refl;
       }
 
-  -- where tables grow, the setting says of the made ones what it said
+  -- after tables grow, the setting agrees with the old one on the tables that were there
   pub grown_agrees : (mode mode' : Mode) (tables tables' : List TableWords) → mode' ≡ mode → HasMoreTables tables tables' → (On : ℕ → Type 0)
       → ((t : ℕ) → On t → (words : TableWords) × (table_of tables t ≡ Some words))
       → Agrees On (setting_of {V = V} eq (low hash) mode tables) (setting_of {V = V} eq (low hash) mode' tables')
@@ -84,7 +84,7 @@ module _ {K V : Type 0} (eq : K → K → Bool) (hash : K → ℕ) where
           let g = grown t m.0 m.1 in
           ap slots_in g.1 ∙ g.2 ∙ sym (ap slots_in m.1)
 
-      -- and a search of it looks at as many places
+      -- and a search of it visits as many places
       places : (t : ℕ) → On t → places_in (table_of tables' t) ≡ places_in (table_of tables t)
       places t on =
           let m = made t on in
@@ -98,7 +98,7 @@ module _ {K V : Type 0} (eq : K → K → Bool) (hash : K → ℕ) where
           let g = grown t m.0 m.1 in
           ap chunks_in g.1 ∙ g.4 ∙ sym (ap chunks_in m.1)
 
--- what copies as one of two settings that agree does so as the other
+-- if two settings agree, a copy in one is a copy in the other
 pub cut_carries : {K P : Type 0} {On : ℕ → Type 0} {g g' : Setting K P} → Agrees On g g' → (mode : ResizeMode) → IsCutAs mode g.chunk_of
     → IsCutAs mode g'.chunk_of
 cut_carries agrees mode cut x = agrees.chunk_of x ∙ cut x

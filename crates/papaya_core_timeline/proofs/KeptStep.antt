@@ -83,11 +83,11 @@ module _ {K V S A : Type 0} (eq : K → K → Bool) (hash : K → ℕ) (law : Is
   hashed : IsHashed g c
   hashed = tables_hashed eq hash law s.mode s.store.words.tables core.sizes
 
-  -- what is told of a call was allowed
+  -- the exchanges in the trace of a call were allowed
   may : (call_trace : CallTrace K V) → call_trace.begun ++ call_trace.since ≡ es → AllAllowed g start (call_trace.begun ++ call_trace.since)
   may call_trace split = subst (AllAllowed g start) (sym split) kept.allowed
 
-  -- what its answer leaves
+  -- the effect of its answer
   pub left : IsAnswered g c s.store before es (call_traces caller) (Some call.key) call.key (ask_of before.machine) a s'.store later
   left = by_ask (ask_of before.machine) refl performs
     where
@@ -118,7 +118,7 @@ module _ {K V S A : Type 0} (eq : K → K → Bool) (hash : K → ℕ) (law : Is
   longer_split : (call_trace : CallTrace K V) → call_trace.begun ++ call_trace.since ≡ es → call_trace.begun ++ (call_trace.since ++ left.made) ≡ es'
   longer_split call_trace split = sym (append_assoc call_trace.begun call_trace.since left.made) ∙ ap (λ l. l ++ left.made) split
 
-  -- the machine learns, and what was exchanged was allowed
+  -- the machine relies on its new record, and the exchanges were allowed
   learnt : AllAllowed g start ((call_traces caller).begun ++ ((call_traces caller).since ++ left.made))
       × Relies g c (call_traces caller).begun ((call_traces caller).since ++ left.made) call.key (after before.machine a) left.loaded
   learnt = all_learns g c hashed (call_traces caller).begun (call_traces caller).since (may (call_traces caller) call.split) call.key before.machine
@@ -130,7 +130,7 @@ module _ {K V S A : Type 0} (eq : K → K → Bool) (hash : K → ℕ) (law : Is
   all : AllAllowed g start es'
   all = subst (AllAllowed g start) (longer_split (call_traces caller) call.split) learnt.0
 
-  -- what the step leaves of the core
+  -- the effect of the step on the core
   pub leaving : others.IsLeaving eq hash law s caller s' mode_is es call_traces core kept left.made left.loaded (IsOneOf (call_traces caller).loaded.call.made)
   leaving = record {
     allowed = all;
@@ -157,7 +157,7 @@ module _ {K V S A : Type 0} (eq : K → K → Bool) (hash : K → ℕ) (law : Is
   same_task : (after before.machine a).call.task ≡ before.machine.call.task
   same_task = (chain_task before.machine a order).0
 
-  -- what its call relies on in the grown setting
+  -- the facts on which its call relies, in the grown setting
   grown_relies : (call_trace : CallTrace K V) (split : call_trace.begun ++ call_trace.since ≡ es) (k : K) (m : _) (loaded : LoadedPairs (Stored K V))
       → Relies g c call_trace.begun (call_trace.since ++ left.made) k m loaded → Relies g' c call_trace.begun (call_trace.since ++ left.made) k m loaded
   grown_relies = others.grown_relies eq hash law s caller s' mode_is es call_traces core kept left.made left.loaded leaving
@@ -174,11 +174,11 @@ module _ {K V S A : Type 0} (eq : K → K → Bool) (hash : K → ℕ) (law : Is
   still_made : (t chunks : ℕ) → IsMadeFor s.store t chunks → IsMadeFor s'.store t chunks
   still_made = others.still_made eq hash law s caller s' mode_is es call_traces core kept left.made left.loaded leaving
 
-  -- a pair of the log has a number below its length
+  -- a pair of the arena has a number below its length
   below : (p : Stored K V) → IsInArena s.store p → p.number < length s.store.pairs
   below p logged = pair_below s.store p.number p logged
 
-  -- a pair that stood in a slot is logged
+  -- a pair that was in a slot is in the arena
   stood_logged : (p : Stored K V) → Stands (run es start) p → IsInArena s'.store p
   stood_logged p (t, x, names) = left.logged p.number p (kept.logged t x p names)
 
@@ -191,7 +191,7 @@ module _ {K V S A : Type 0} (eq : K → K → Bool) (hash : K → ℕ) (law : Is
   own_carried p (inl old) = left.logged p.number p (call.carried p old)
   own_carried p (inr told) = left.logged p.number p (call.last p told)
 
-  -- each pair that it made is logged
+  -- each pair that it made is in the arena
   own_made : (p : Stored K V) → (IsOneOf (call_traces caller).loaded.call.made p
       ⊎ ((p.number ≡ length s.store.pairs) × (own_value s.store before ≡ Some p.value) × (pair_of s'.store p.number ≡ Some p))) → IsInArena s'.store p
   own_made p (inl old) = left.logged p.number p (call.made p old)
@@ -213,7 +213,7 @@ module _ {K V S A : Type 0} (eq : K → K → Bool) (hash : K → ℕ) (law : Is
       copy_made eq says hashes refuse s.store before a s'.store later before.machine behind slots limit chunks making performs n is)
       (made_is (IsMadeFor s'.store) (link_in before.machine.phase) (λ behind t chunks linking. still_made t chunks (call.links behind t chunks linking))))
 
-  -- a pair that it made and did not write stands in no slot
+  -- a pair that it made and did not write is in no slot
   own_unwritten : (p : Stored K V) → IsOneOf left.loaded.call.made p → change_in (after before.machine a).call.state ≡ None
       → (t x : ℕ) (q : Stored K V) → named ((run es' start).slot t x) ≡ Some q → q.number ≢ p.number
   own_unwritten p made none t x q names =
@@ -224,7 +224,7 @@ module _ {K V S A : Type 0} (eq : K → K → Bool) (hash : K → ℕ) (law : Is
         | inr (number, value, there) ↦ (λ same. let lt : q.number < length s.store.pairs = below q (kept.logged v y q stood) in omega arith)
       ]
 
-  -- its value is at hand or logged
+  -- its value is in the call itself or in the arena
   own_valued : (part : Part V) → later.value ≡ Some part → (v : V) × (value_in s'.store.pairs part ≡ Some v)
   own_valued part is = elim left.value [
     | inl keeps ↦
@@ -234,7 +234,7 @@ module _ {K V S A : Type 0} (eq : K → K → Bool) (hash : K → ℕ) (law : Is
     | inr said ↦ (said.value, ap (value_in s'.store.pairs) (same_item part (Own said.value) (sym is ∙ said.is)))
   ]
 
-  -- a pair of whose key one is to be made is logged
+  -- if a pair is to be made with the key of another pair, that other pair is in the arena
   as_loaded : (i : ℕ) → ask_of before.machine ≡ asks.Call (MakePairOf i) → (p : Stored K V) × (pair_of s.store i ≡ Some p)
   as_loaded i asking =
       let of = machine_copied g c hashed (call_traces caller).begun (call_traces caller).since call.key (call_traces caller).loaded.call
@@ -246,7 +246,7 @@ module _ {K V S A : Type 0} (eq : K → K → Bool) (hash : K → ℕ) (law : Is
   made_now n makes told = pair_made_now eq says refuse s.store before s'.store later hashes (ask_of before.machine) a performs makes n told call.key
       call.own call.valued as_loaded
 
-  -- and a pair that is to take the place of another has it, but while a newer answer waits
+  -- so has a pair that is to replace another, unless a newer result waits
   own_again : (i n : ℕ) → ActsOn (after before.machine a).call (Makes (Some i) n) → IsAnsweredStage (after before.machine a).call.state
       ⊎ ((p : Stored K V) × (pair_of s'.store n ≡ Some p) × (own_value s'.store later ≡ Some p.value))
   own_again i n stands = elim (chain_said before.machine a order (core.valid caller before was).call call.shows (Makes (Some i) n) stands) [
@@ -264,7 +264,7 @@ module _ {K V S A : Type 0} (eq : K → K → Bool) (hash : K → ℕ) (law : Is
         (own.is ∙ ap answers.Call told) in inr (m.pair, m.there, m.after))
   ]
 
-  -- so it relies on what is told of it after the step
+  -- so it relies on its trace after the step
   pub own_call : (loaded : LoadedPairs (Stored K V)) → left.loaded ≡ loaded
       → IsCall eq hash s'.mode s'.store (record later { machine = after before.machine a }) es'
       (record { begun = (call_traces caller).begun; since = (call_traces caller).since ++ left.made; loaded = loaded; scan = (call_traces caller).scan })
@@ -296,7 +296,7 @@ module _ {K V S A : Type 0} (eq : K → K → Bool) (hash : K → ℕ) (law : Is
   abbrev pub call_traces' : ℕ → CallTrace K V
   call_traces' = told_call_traces call_traces caller left.made left.loaded
 
-  -- the stepping call was told of what its answer says
+  -- the stepping call's trace has the record of its answer
   pub own_loaded : (d : ℕ) → d ≡ caller → left.loaded ≡ (call_traces' d).loaded
   own_loaded = others.own_loaded eq hash law s caller s' mode_is es call_traces core kept left.made left.loaded leaving
 

@@ -89,7 +89,7 @@ written-size (Slot n i) t word = elim (nat_lt i (length t.slots))
     [ true ↦ (length-set t.slots i word, refl, refl) | false ↦ (refl, refl, refl) ]
 written-size Made t word = (refl, refl, refl)
 
--- a table that is there gives way to another
+-- a table that is there is replaced with another
 module _ (w : Tables) (n : ℕ) (t t' : TableWords) (there : table_of w.tables n ≡ Some t) where
   -- the tables then
   abbrev swapped : List TableWords
@@ -119,7 +119,7 @@ module _ (w : Tables) (n : ℕ) (t t' : TableWords) (there : table_of w.tables n
               let a : n ≢ 0 = some in
               omega arith
 
-  -- where it is as long, each table is as long as it was
+  -- if the new table is as long, each table is as long as it was
   pub swapped-grown : length t'.slots ≡ length t.slots → t'.limit ≡ t.limit → length t'.done ≡ length t.done → HasMoreTables w.tables swapped
   swapped-grown slots limit done u v e = ⊎_elim
       (λ (same : u ≡ n).
@@ -134,7 +134,7 @@ module _ (w : Tables) (n : ℕ) (t t' : TableWords) (there : table_of w.tables n
       (λ (differ : u ≢ n). (v, swapped-other u differ ∙ e, refl, refl, refl))
       (cases_same u n)
 
-  -- what both tables say
+  -- a fact that both tables share
   pub swapped-left : (read : TableWords → ℕ) → read t' ≡ read t → (u : ℕ) → word_in read (table_of swapped u) ≡ word_in read (table_of w.tables u)
   swapped-left read same u = ⊎_elim
       (λ (e : u ≡ n). ap (λ y. word_in read (table_of swapped y)) e ∙ ap (word_in read) swapped-here ∙ same ∙ sym (ap (word_in read) there)
@@ -264,7 +264,7 @@ cases_place (Slot m x) (Slot n y) = elim (cases_same m n) [
 ]
 cases_place a b = inr (λ e. absurd cc)
 
--- a word that is written is the root's or the count of numbers, or stands in a table that is there
+-- a word that is written is the root, the count of numbers, or a word of a table that is there
 abbrev pub IsPlaced : List TableWords → At → Type 0
 IsPlaced tables Root = Unit {0}
 IsPlaced tables Made = Unit {0}
@@ -329,7 +329,7 @@ placed-other w (Aborted n) new (t, there) (Done u c) differ = written-left w (Ab
 placed-other w (Aborted n) new (t, there) (Slot u y) differ = written-left w (Aborted n) n new t there (λ v. slice_index v.slots y) refl u
 placed-other w (Done n chunk) new (t, there, lt) other differ = done-other w n chunk new t there lt other differ
 
--- what a table that is added says, where it says 0
+-- a word of an added table, if it is 0
 word-added : (read : TableWords → ℕ) (tables : List TableWords) (new : TableWords) → read new ≡ 0 → (i : ℕ)
     → word_in read (slice_get (tables ++ new ∷ []) i) ≡ word_in read (slice_get tables i)
 word-added read [] new none zero = none
@@ -342,7 +342,7 @@ module _ (w : Tables) (number slots limit chunks : ℕ) where
   abbrev added : Tables
   added = record w { tables = w.tables ++ new_table number slots limit chunks ∷ [] }
 
-  -- a word of which the new table says 0
+  -- a word that is 0 in the new table
   pub word-grown : (read : TableWords → ℕ) → read (new_table number slots limit chunks) ≡ 0 → (u : ℕ)
       → word_in read (table_of added.tables u) ≡ word_in read (table_of w.tables u)
   word-grown read none u = go (u == 0)

@@ -34,7 +34,7 @@ use Rattle.papaya_call_law.proofs.ScanOutcomes.{state_why}
 use Rattle.papaya_core_store.specs.declared.scans.Scanning.{Scanning}
 use Rattle.papaya_core_store.specs.Scans.{PerformsScan}
 
--- what it relies on tells why it ends refused
+-- the facts on which it relies give the cause of its refusal
 module _ {K V S A : Type 0} (eq : K → K → Bool) (hash : K → ℕ) (s : CoreState K V S A) (v : Scanning A) (call_trace : ScanTrace K V) (a : Answer)
     (made : List (Exchange (Stored K V))) (loaded : LoadedPairs (Stored K V)) where
   cause_told : (es : List (Exchange (Stored K V))) → IsScanning eq hash s.mode s.store v es call_trace
@@ -52,14 +52,14 @@ module _ {K V S A : Type 0} (eq : K → K → Bool) (hash : K → ℕ) (s : Core
 module _ {K V S A H : Type 0} (eq : K → K → Bool) (input : K → List (List ℕ)) (build : S → H) (write : H → List ℕ → H) (finish : H → ℕ)
     (classes : IsEquivalence eq) (respects : (x y : K) → eq x y ≡ true → input x ≡ input y) (says : Says K V A) (refuse : Bool)
     (s : CoreState K V S A) (lawful : IsLawfulCore eq (hash_of input build write finish s.store.hasher) s.store s.callers s.mode) (caller : ℕ) where
-  -- keys are hashed so, and the law of them
+  -- keys are hashed with the hasher, and the law holds for them
   abbrev hashes : S → K → ℕ
   hashes = hash_of input build write finish
 
   law : IsLawfulKeys eq (hashes s.store.hasher)
   law = keys_lawful eq input build write finish classes respects s.store.hasher
 
-  -- what a caller's scanner asks
+  -- a caller's scanner has an ask
   pub lawful_asks : (v : Scanning A) → scanning s.callers caller ≡ Some v → IsSome (ask_of v.scanner)
   lawful_asks v was =
       let (es, (call_traces, kept)) = lawful.law in
@@ -100,7 +100,8 @@ module _ {K V S A H : Type 0} (eq : K → K → Bool) (input : K → List (List 
               (then.es_then, (then.call_traces_then, then.kept_after));
         }
 
-    -- the count stays right, the map moves as the event tells, and no pair is gone from the log
+    -- the count stays right, the map changes as the event describes, and every pair stays in the
+    -- arena
     pub scan_counted : IsCounted eq s.store s.callers → IsCounted eq s'.store s'.callers
     scan_counted was =
         let (es, (call_traces, kept)) = lawful.law in

@@ -1,5 +1,5 @@
--- What a step's event does to the map, and that it is legal: an exchange changes the class of the
--- call's own key, as the call may, and any other event leaves the map as it is.
+-- A step's event describes how the map changes, and is legal. An exchange changes the class of the
+-- call's own key, as the call may; any other event leaves the map as it is.
 use mathlib.Core.Path.{fun_ext}
 use Rattle.std.proofs.Common.{◌≡◌, ◌⊎◌, inl, inr, ⊎_elim, ℕ, Bool, true, false, cond, Option, None}
 use Rattle.std.proofs.Common.{Some, List, [], ◌∷◌, ◌++◌, refl, sym, ◌∙◌, ap, subst, append-nil}
@@ -65,19 +65,22 @@ use Rattle.papaya_core_store.specs.declared.store.Mode.{Mode}
 abbrev pub MayReplace : {K V : Type 0} → Option (Stored K V) → Task → Type 0
 MayReplace went task = (went ≡ None) ⊎ (task ≡ Insert_task true) ⊎ (task ≡ Compute_task)
 
--- the key of a pair that comes is that of the one that goes, or the call's where none goes
+-- the key of a pair that is put in is that of the pair that is taken out, or the call's key if none
+-- is
 abbrev pub IsKeyFor : {K V : Type 0} → K → Option (Stored K V) → Stored K V → Type 0
 IsKeyFor k None q = q.key ≡ k
 IsKeyFor k (Some p) q = q.key ≡ p.key
 
--- a pair that comes is one that the call made of that key; where none comes, a pair goes, by a call that has a closure
+-- a pair that is put in is one that the call made for that key; if none is put in, one is taken
+-- out, by a call that has a closure
 abbrev pub MayPut : {K V : Type 0} → K → Task → List (Stored K V) → (went came : Option (Stored K V)) → Type 0
 MayPut k task made went (Some q) = IsOneOf made q × IsKeyFor k went q × MayReplace went task
 MayPut k task made (Some p) None = HasClosure task
 MayPut k task made None None = ⊥
 
 module _ {K V A : Type 0} where
-  -- an insertion puts in a pair of that key and of a value that may be the call's, in place of none or, where it replaces, of another
+  -- an insertion puts in a pair of that key and of a value that may be the call's, in place of none
+  -- or, if it replaces, of another
   pub insertion_does : (call : Call K V A) (k : K) (went : Option (Stored K V)) (q : Stored K V) → key_of call ≡ Some k → IsKeyFor k went q
       → IsValueOf call q.value → MayReplace went (the_task call) → (reply : Reply) × Does call went reply (Some q)
       × (change_of_reply reply ≡ Some (number_in went, number_in (Some q)))
@@ -135,7 +138,8 @@ module _ {K V : Type 0} where
       → IsUpdate eq k went came m m''
   update_by eq k went came m m' m'' e u = subst (λ y. IsUpdate eq k went came m y) (sym e) u
 
-  -- The class of the call's key has another pair, as such a call may bring about, and no other class has.
+  -- The class of the call's key has another pair, as such a call may bring about, and no other
+  -- class has.
   pub record IsMoved (eq : K → K → Bool) (k : K) (task : Task) (made : List (Stored K V)) (m m' : Map K V) (old new : Option ℕ) : Type 0 where
     pub went : Option (Stored K V)
     pub came : Option (Stored K V)
@@ -175,7 +179,7 @@ module _ {K V : Type 0} (eq : K → K → Bool) (hash : K → ℕ) (mode mode' :
     abbrev now : State (Stored K V)
     now = run es start
 
-    -- what the machine deletes is a pair of its key
+    -- a pair that the machine deletes has its key
     abbrev pub BuriesOwn : Type 0
     BuriesOwn = (t x old new : ℕ) (p : Stored K V) → calls.kind_of_ask m ≡ Some kinds.Bury → calls.ask_of m ≡ Ask_exchange (Slot t x) old new
         → now.slot t x ≡ Live p → pair_of old ≡ p.number → eq p.key k ≡ true
@@ -183,12 +187,12 @@ module _ {K V : Type 0} (eq : K → K → Bool) (hash : K → ℕ) (mode mode' :
     abbrev Moves_by : Event → List (Exchange (Stored K V)) → Type 0
     Moves_by event made = Moves eq k m.task loaded.made (replay eq es) (replay eq (es ++ made)) event
 
-    -- the word that stood there named the pair
+    -- the word in the slot named the pair
     stood_number : (t x old : ℕ) (p : Stored K V) → word_of g c now (Slot t x) ≡ old → now.slot t x ≡ Live p → pair_of old ≡ p.number
     stood_number t x old p stood live =
         sym (ap pair_of stood) ∙ ap (λ w. pair_of (code g c w)) live ∙ (code_pair g c hashed.coding (Live p) p refl)
 
-    -- maps with another pair for the classes of equal keys are one
+    -- maps with another pair for the classes of equal keys are the same
     classes_alike : (j l : K) (came : Option (Stored K V)) → eq j l ≡ true → with_class eq (replay eq es) j came ≡ with_class eq (replay eq es) l came
     classes_alike j l came alike = fun_ext (λ i. ap (λ b. cond b came (replay eq es i)) (same_right g' lawful' i j l alike))
 
@@ -284,7 +288,7 @@ module _ {K V : Type 0} (eq : K → K → Bool) (hash : K → ℕ) (mode mode' :
       exchange_moves (Some kinds.Take) (Done t chunk) old new e kind_is ask_is asked stood legal allows = absurd asked
       exchange_moves (Some kinds.Take) (Slot t x) old new e kind_is ask_is asked stood legal allows = absurd asked
 
-      -- the event of what the call itself asks moves the map so
+      -- the event of an ask of the call itself changes the map so
       pub call_moves : (answer : Call_answer) (made : List (Exchange (Stored K V))) (loaded' : LoadedPairs (Stored K V))
           → IsTrueOf g c k now (calls.kind_of_ask m) loaded (calls.ask_of m) answer made loaded' → AllAllowed g' start (es ++ made)
           → Moves_by (call_event (calls.kind_of_ask m) (calls.ask_of m) answer) made
@@ -328,7 +332,7 @@ module _ {K V : Type 0} (eq : K → K → Bool) where
   copied_same c (Some kinds.Abort) (Aborted n) new s kept e m is = ap (λ y. replayed eq m (y ∷ [])) is
   copied_same c kind at new s kept e m is = absurd is
 
-  -- what a copy is told leaves the map
+  -- the answer to a copy leaves the map
   pub copy_same : (g : Setting K (Stored K V)) (c : Coding K (Stored K V)) (s : State (Stored K V)) (kind : Option StepKind) (follows : ℕ)
       (loaded : Chain_loaded (Stored K V)) (ask : CopyAsk) (answer : Answer) (made : List (Exchange (Stored K V))) (loaded' : Chain_loaded (Stored K V))
       → IsTrueOfCopy g c s kind follows loaded ask answer made loaded' → (es : List (Exchange (Stored K V))) → Same (replay eq es) (replay eq (es ++ made))
@@ -344,7 +348,7 @@ module _ {K V : Type 0} (eq : K → K → Bool) (hash : K → ℕ) (mode mode' :
       (lawful' : IsLawful (setting_of {V = V} eq (low hash) mode' tables')) (begun since : List (Exchange (Stored K V))) (k : K) (m : Chain_machine)
       (loaded : Chain_loaded (Stored K V)) (relies : Chain_relies (setting_of eq (low hash) mode tables) (coding_of (low hash)) begun since k m loaded)
       (buries_own : BuriesOwn eq hash mode mode' tables tables' hashed lawful' begun since k m.call loaded.call relies.call) where
-    -- the event of a step moves the map so, and that of a copy leaves it
+    -- the event of a step changes the map so, and that of a copy leaves it
     pub step_moves : (answer : Answer) (made : List (Exchange (Stored K V))) (loaded' : Chain_loaded (Stored K V))
         → Chain_told (setting_of eq (low hash) mode tables) (coding_of (low hash)) k (run (begun ++ since) start) (kind_of_ask m) (follows_of m) loaded
         (ask_of m) answer made loaded' → AllAllowed (setting_of eq (low hash) mode' tables') start ((begun ++ since) ++ made)
@@ -383,7 +387,7 @@ asked_own g c k (Some kinds.Bury) (Slot u y) new s loaded e (r, live, asked) t x
 asked_own g c k (Some kinds.Take) Made new s loaded e asked t x p q is = absurd cc
 asked_own g c k kind at new s loaded e asked t x p q is = absurd asked
 
--- a step puts a pair in the place of another where its call asks for it
+-- a step puts a pair in the place of another only if its call asks for it
 pub replaces_own : {K V : Type 0} (eq : K → K → Bool) (g : Setting K (Stored K V)) (c : Coding K (Stored K V)) (k : K) (s : State (Stored K V))
     (kind : Option StepKind) (follows : ℕ) (loaded : Chain_loaded (Stored K V)) (ask : Ask) (answer : Answer) (made : List (Exchange (Stored K V)))
     (loaded' : Chain_loaded (Stored K V)) (t x : ℕ) (p q : Stored K V) → eq p.key p.key ≡ true → made ≡ Replace t x p q ∷ []
@@ -407,7 +411,7 @@ replaces_own {K = K} {V = V} eq g c k s kind follows loaded (asks.Copy ask) answ
     absurd cc
 
 module _ {K V A : Type 0} (eq : K → K → Bool) where
-  -- what a call on one key does with its class, it may
+  -- a change by a call on one key to its class is one that it may make
   pub own_change : (call : Call K V A) (made : Change) (k : K) (went came : Option (Stored K V)) → (key_of call ≡ Some k) × (made ≡ None)
       × ((reply : Reply) × Does call went reply came × (change_of_reply reply ≡ Some (number_in went, number_in came)))
       → MayChange eq (Some call) made k went came
@@ -422,7 +426,7 @@ module _ {K V A : Type 0} (eq : K → K → Bool) where
   own_change (Retain a) made k went came x = let f : None ≡ Some k = x.0 in absurd cc
   own_change Walk made k went came x = x
 
-  -- what the class of its key had is shown
+  -- the closure is called with the pair that the class of its key had
   pub fits_asked : (o : Option (Call K V A)) (n caller : ℕ) (h : History) (maps : List (Map K V)) → FitsShown eq o (Some n) caller h maps
       → FitsAsked eq o n caller h maps
   fits_asked None n caller h maps x = x
@@ -445,7 +449,7 @@ module _ {K V A : Type 0} (eq : K → K → Bool) (k : K) (task : Task) (made : 
       (went came : Option (Stored K V)) → number_in went ≡ old → number_in came ≡ new → MayPut k task made went came
       → MayChange eq (open_call schedule caller h) (change_of caller h) k went came × IsAgreed (open_call schedule caller h) caller old came h said
 
-  -- what a legal event needs beside what it does to the map
+  -- the conditions of a legal event beside its effect on the map
   abbrev pub MayTell : Event → Type 0
   MayTell (events.Changed kind old new) = ((q : Stored K V) → IsOneOf made q → IsUnused q.number (m ∷ maps)) × MayMove old new
   MayTell events.Begun = Unit {0}

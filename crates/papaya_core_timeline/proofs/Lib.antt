@@ -76,7 +76,7 @@ pub mod TiedLemmas
 pub mod TimelineLemmas
 -- an example: a value that no closure returned is refused
 pub mod InventedValue
--- what an answer leaves of the words and the logs
+-- the effect of an answer on the words and the arena
 pub mod ScanAnswers
 pub mod ScanBegins
 pub mod KeptScanned
@@ -85,21 +85,21 @@ pub mod SoloScans
 pub mod LawfulScans
 -- which tables are linked
 pub mod ScanLinks
--- what a step leaves to all calls
+-- the effect of a step on all calls
 pub mod ScanKept
--- what others' steps leave to it
+-- the effect of others' steps on a scan
 pub mod ScanOthers
 -- the laws
 pub mod ScanLaw
--- what a step does to the map
+-- the effect of a step on the map
 pub mod ScanMoves
--- where it stands
+-- its state is valid
 pub mod ScanStands
--- how it ends where nobody else changes the words
+-- how it ends if nobody else changes the words
 pub mod ScanAlone
 -- a pair enters the map once
 pub mod EntersOnce
--- what is so at the end
+-- the facts at the end
 pub mod ScanOver
 pub mod MadePairs
 pub mod Waits

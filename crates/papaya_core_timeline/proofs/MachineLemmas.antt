@@ -31,7 +31,8 @@ use Rattle.papaya_core_timeline.specs.Advances.{call_event}
 pub machine_once : (m : Machine) (at : At) (old new : ℕ) → ask_of m ≡ Ask_exchange at old new → change_in m.state ≡ None
 machine_once m at old new e = search rules
 
--- a machine that asks to open a table asked so before, or the table that it asked for was just made
+-- a machine that asks to open a table asked for that before, or the table was just made at its
+-- request
 pub machine_opens : (m : Machine) (answer : Answer) (t : ℕ) → ask_of (after m answer) ≡ Ask_exchange Root 0 t → (ask_of m ≡ Ask_exchange Root 0 t)
     ⊎ ((answer ≡ Made_number t) × (slots : ℕ) × (limit : ℕ) × (chunks : ℕ) × (ask_of m ≡ MakeTable slots limit chunks))
 machine_opens m answer t e = swapped (machine_opened m t answer e)
@@ -41,27 +42,28 @@ machine_opens m answer t e = swapped (machine_opened m t answer e)
     swapped (inl (is, (slots, limit, making))) = inr (is, slots, limit, 0, making)
     swapped (inr opens) = inl opens
 
--- a deletion is asked for where the closure agreed
+-- a call asks for a deletion only if its closure agreed
 machine_burying : (m : Machine) (at : At) (old new : ℕ) → kind_of_ask m ≡ Some kinds.Bury → ask_of m ≡ Ask_exchange at old new
     → (removal : Removal) × (m.state ≡ Burying removal) × (removal.word ≡ old)
 machine_burying m at old new kind e = search rules
 
--- a reply stands on what the closure said, where it tells of that
+-- a reply depends on the result of the closure, if it contains one
 pub machine_says : (m : Machine) (reply : Reply) → ask_of m ≡ Ask_done reply → result_in m.task m.state ≡ result_in_reply m.task reply
 machine_says m reply e = search rules
 
 module _ {K P : Type 0} (g : Setting K P) (c : Coding K P) (begun since : List (Exchange P)) (k : K) where
-  -- where a machine asks no more, the reply is that of its task
+  -- if a machine has replied, the reply is one of its task
   pub machine_replies : (m : Machine) (loaded : LoadedPairs P) → Relies g c begun since k m loaded → (reply : Reply) → ask_of m ≡ Ask_done reply
       → IsReply g c begun since k loaded m.task reply × (change_in m.state ≡ change_of_reply reply)
   machine_replies m loaded relies reply e = replied g c begun since k loaded m relies reply e
 
-  -- a pair that a closure is shown is the one last told of, has the call's key, and was the map's at a moment of the call
+  -- a pair with which a closure is called is the last one loaded, has the call's key, and was in
+  -- the map at some point of the call
   pub machine_shows : (hashed : IsHashed g c) (m : Machine) (loaded : LoadedPairs P) → Relies g c begun since k m loaded → (n : ℕ)
       → ask_of m ≡ ShowPair n → (p : P) × (loaded.last ≡ Some p) × (c.number p ≡ n) × (g.same k (g.key p) ≡ true) × WasAtMoment g c begun since k (Some p)
   machine_shows hashed m loaded relies n e = search rules
 
-  -- that there is none it is shown where that was so at a moment of the call
+  -- the closure is called with `None` if its key was absent at some point of the call
   pub machine_shows_none : (m : Machine) (loaded : LoadedPairs P) → Relies g c begun since k m loaded → ask_of m ≡ ShowNone → WasAtMoment g c begun since k None
   machine_shows_none m loaded relies e = search rules
 
@@ -100,7 +102,7 @@ pub machine_changes : (m : Machine) → IsValid m → (kind : StepKind) (old new
     → call_event (kind_of_ask m) (ask_of m) answer ≡ Changed kind old new → IsChanger m.task
 machine_changes m stands kind old new answer e = search rules
 
--- and where a pair comes, that of one that inserts
+-- and if it puts in a pair, that of one that inserts
 pub machine_inserts : (m : Machine) → IsValid m → (kind : StepKind) (old : Option ℕ) (n : ℕ) (answer : Answer)
     → call_event (kind_of_ask m) (ask_of m) answer ≡ Changed kind old (Some n) → MayInsert m.task
 machine_inserts m stands kind old n answer e = search rules

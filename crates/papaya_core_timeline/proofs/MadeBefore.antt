@@ -34,7 +34,7 @@ use Rattle.papaya_call_law.proofs.Makings.{makes_pair}
 use Rattle.papaya_core_timeline.specs.Intends.{HasMade}
 use Rattle.papaya_core_timeline.proofs.CallersLemmas.{same_item}
 
--- they are as before, whatever else the call has logged
+-- they are as before, whatever else the call has stored in the arena
 abbrev IsSameMade : Made → Made → Type 0
 IsSameMade made made' = (made'.own ≡ made.own) × (made'.of ≡ made.of)
 
@@ -169,7 +169,7 @@ module _ (m : Call_machine) (n : ℕ) where
   made_after Ok_done s has = inl has
   made_after (Was_refused refused) s has = inl has
 
--- what was made is the answer to an ask for it
+-- a pair that was made is the answer to an ask for it
 pub after_made : (m : Call_machine) (a : Call_answer) (n : ℕ) → HasMade (calls.after m a).made n → HasMade m.made n
     ⊎ (MakesPair (calls.ask_of m) × (a ≡ Made_number n))
 after_made m a n made = made_after m n a m.state made

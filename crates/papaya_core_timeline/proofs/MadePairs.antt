@@ -1,4 +1,4 @@
--- A pair that was made has the value that its call had, and has still.
+-- A pair that was made has the value that its call had, and still has.
 use Rattle.std.proofs.Common.{◌≡◌, ℕ, length, Bool, Some, ◌⊎◌, inl, inr, sym, ◌∙◌, ap, refl}
 use Rattle.papaya_words.specs.declared.limits.TheConstants.{MAX_LOG_LEN}
 use Rattle.papaya_call.specs.declared.ask.Ask.TheVariants.{MakePair, MakePairOf}
@@ -20,13 +20,13 @@ use Rattle.papaya_core_store.specs.Store.{StoreState, Stored, pair_of}
 use Rattle.papaya_core_store.proofs.Logs.{key_from-same, pair_logged}
 use Rattle.papaya_core_timeline.proofs.StoreLemmas.{matched}
 
--- a pair is asked for
+-- the call asks for a pair
 abbrev pub MakesOver : Ask → Type 0
 MakesOver (asks.Call ask) = MakesPair ask
 MakesOver (asks.Copy ask) = ⊥
 
 module _ {K V S A : Type 0} (s : StoreState K V S) (r : Running K V A) (s' : StoreState K V S) (r' : Running K V A) where
-  -- What is known of it.
+  -- The facts about such a pair.
   pub record IsMadeNow (n : ℕ) : Type 0 where
     pub pair : Stored K V
     pub there : pair_of s' n ≡ Some pair
@@ -38,7 +38,7 @@ module _ {K V S A : Type 0} (eq : K → K → Bool) (says : Says K V A) (refuse 
     (r' : Running K V A) where
   module _ (valued : (part : Part V) → r.value ≡ Some part → (v : V) × (value_in s.pairs part ≡ Some v)) (told : Call_answer) (n : ℕ)
       (is : told ≡ Made_number n) where
-    -- it was logged
+    -- it was stored in the arena
     logged_now : (key left : Part K) (k : K) → key_in s.pairs key ≡ Some k → PushesPair key left told s r s' r' → IsMadeNow s r s' r' n
     logged_now key left k key_is logs =
         let (value, has, e, few, grown, moved) = logs in
@@ -75,7 +75,7 @@ module _ {K V S A : Type 0} (eq : K → K → Bool) (says : Says K V A) (refuse 
         by_cases (inr (inl (has, stays))) = let f = sym is ∙ has.0 in absurd cc
         by_cases (inr (inr (first, from, logs))) = logged_now (Logged first) r.key p.key (key_from-same s m p as_loaded first from) logs
 
-  -- of a step
+  -- for a step
   pub pair_made_now : (hash : S → K → ℕ) (ask : Ask) (a : Answer) → PerformsAsk eq says hash refuse ask s r a s' r' → MakesOver ask → (n : ℕ)
       → a ≡ answers.Call (Made_number n) → (k : K) → own_key s r ≡ Some k → ((part : Part V) → r.value ≡ Some part → (v : V) × (value_in s.pairs part ≡ Some v))
       → ((m : ℕ) → ask ≡ asks.Call (MakePairOf m) → (p : Stored K V) × (pair_of s m ≡ Some p)) → IsMadeNow s r s' r' n

@@ -36,7 +36,7 @@ module _ (m : Call_machine) (shown : Option ℕ) (n : ℕ) where
   Before s = ActsOn (at_stage s) (Inserts shown) ⊎ ActsOn (at_stage s) (Makes shown n)
       ⊎ ((i : ℕ) × (before : ℕ) × (shown ≡ Some i) × ActsOn (at_stage s) (Makes (Some i) before) × (IsAnswered s → ⊥))
 
-  -- what is remembered stays, but for what the pair takes the place of
+  -- the remembered state stays, but for the pair that the new one replaces
   replaced : (write : Write) (word : ℕ) → 0 < word
       → (result_in m.task (Putting (record { write = record write { old = word }; pair = n })) ≡ Some (Makes shown n))
       ⊎ (result_to_fill m.remembered.fill ≡ Some (Makes shown n))
@@ -98,7 +98,8 @@ module _ (m : Call_machine) (shown : Option ℕ) (n : ℕ) where
   stands_in (Growing need) makes shows stands = absurd makes
   stands_in (Ended reply) makes shows stands = absurd makes
 
--- What a call that made a pair stands on of it was answered just now to be stored, or before: then the pair has the value that was logged last.
+-- If a call acts on a pair that it has just made, it acted before the step on a returned value
+-- without a pair, on this same pair, or on an earlier pair for the same argument of its closure.
 pub made_stands : (m : Call_machine) (shown : Option ℕ) (n : ℕ) → MakesPair (calls.ask_of m) → NamesPairs m
     → ActsOn (calls.after m (Made_number n)) (Makes shown n)
     → ActsOn m (Inserts shown) ⊎ ActsOn m (Makes shown n)

@@ -1,4 +1,4 @@
--- A table that a call asks to open, or learns of, is one that was made.
+-- A table that a call asks to open, or whose number it gets in an answer, is one that was made.
 use Rattle.std.proofs.Common.{◌≡◌, ◌⊎◌, inl, inr, ℕ, ◌+◌, Bool, [], ◌∷◌, ◌++◌, length, Some, refl, sym, ◌∙◌, ap, subst, arith, ◌≤◌}
 use Rattle.std.proofs.lemmas.List.{length-replicate}
 use Rattle.papaya_words.specs.Table.{new_table}
@@ -52,7 +52,8 @@ use Rattle.papaya_core_timeline.proofs.KeptTables.{made-there}
 use Rattle.papaya_core_timeline.proofs.MachineLemmas.{machine_opens}
 use Rattle.papaya_core_timeline.proofs.StoreLemmas.{matched}
 
--- A call that asks to open a table asked so before, or the table that it asked for was just made.
+-- A call that asks to open a table asked for that before, or the table was just made at its
+-- request.
 opens_at : (call : Call_machine) (phase : Phase) (t : ℕ) → machine.asks_in call phase ≡ asks.Call (Own_exchange Root 0 t)
     → call_machine.ask_of call ≡ Own_exchange Root 0 t
 opens_at call Calling t e = cc
@@ -87,7 +88,7 @@ chain_opens m answer t opening order = elim (machine_goes m answer order) [
     own_step own (inr (made, slots, limit, chunks, making)) = inr
         (own.is ∙ ap answers.Call made, slots, limit, chunks, ap (machine.asks_in m.call) own.phase ∙ ap asks.Call making)
 
--- One that is about to make a table for a copy asks for just that.
+-- a move of a pair that is about to make a table for a copy asks for that table
 carry_making : (goes : Carry) (marked behind slots limit chunks : ℕ) → link_in_carry goes ≡ Some (links.Making behind slots limit chunks)
     → carry.carry_ask goes marked ≡ copies.MakeTable slots limit chunks
 carry_making (carries.Linking hash made) marked behind slots limit chunks e = let is : made ≡ links.Making behind slots limit chunks = cc e in rw is refl
@@ -124,7 +125,7 @@ le-of-eq : (a b : ℕ) → a ≡ b → a ≤ b
 le-of-eq a b e = omega (arith, e)
 
 module _ {K V S : Type 0} (eq : K → K → Bool) (hash : S → K → ℕ) (refuse : Bool) (s : StoreState K V S) (a : Answer) (s' : StoreState K V S) where
-  -- a number that a copier is told of a table is that of one with as many words as were asked for
+  -- a number of a table in the answer to a copier is that of one with as many words as it asked for
   pub copier_made : (slots limit chunks : ℕ) → PerformsCopy eq hash refuse (copies.MakeTable slots limit chunks) s a s' → (n : ℕ)
       → a ≡ answers.Call (Made_number n) → IsMadeFor s' n chunks
   copier_made slots limit chunks (told, is, h) n made =
@@ -146,7 +147,7 @@ module _ {K V S : Type 0} (eq : K → K → Bool) (hash : S → K → ℕ) (refu
 
 module _ {K V S A : Type 0} (eq : K → K → Bool) (says : Says K V A) (hash : S → K → ℕ) (refuse : Bool) (s : StoreState K V S) (r : Running K V A)
     (a : Answer) (s' : StoreState K V S) (r' : Running K V A) where
-  -- so it is where a call was set aside
+  -- the same if a call was set aside
   pub copy_made : (m : Machine) (behind slots limit chunks : ℕ) → link_in m.phase ≡ Some (links.Making behind slots limit chunks)
       → PerformsAsk eq says hash refuse (machine.ask_of m) s r a s' r' → (n : ℕ) → a ≡ answers.Call (Made_number n) → IsMadeFor s' n chunks
   copy_made m behind slots limit chunks making h n made =

@@ -29,7 +29,7 @@ use Rattle.papaya_core_timeline.proofs.StoreLemmas.{LogsOrNot, matched, of_logs,
 pub makes_for : (m : Call_machine) → IsValidState m.task m.state → MakesPair (calls.ask_of m) → IsWriter m.task ⊎ IsToPair m
 makes_for m stands makes = search rules
 
--- only a call with a closure shows it something, and only a compute that there is none
+-- only a call with a closure calls one, and only a compute calls it with `None`
 pub shows_closure : (m : Call_machine) → IsValidState m.task m.state → (n : ℕ) → calls.ask_of m ≡ ShowPair n → HasClosure m.task
 shows_closure m stands n e = search rules
 
@@ -97,7 +97,7 @@ module _ {K V S A : Type 0} (eq : K → K → Bool) (says : Says K V A) (refuse 
       let kind : op_kind op ≡ op_kinds.Insert = (let f : Op (op_kind op) ≡ Op op_kinds.Insert = sym is ∙ e in cc) in
       subst IsThere (sym (ap (λ (y : Running K V A). y.value) later)) (insertion op kind r.value)
 
-  -- and where a closure answers one it is there
+  -- and if a closure returns a value, it is there
   pub answered_there : (ask : Call_ask) → Performs eq says refuse ask s r told s' r' → told ≡ Op op_kinds.Insert → (ask ≡ ShowNone)
       ⊎ ((n : ℕ) × (ask ≡ ShowPair n) × (r.machine.call.task ≡ tasks.Compute)) → IsThere r'.value
   answered_there ask h e (inl none) = of_none (subst (λ y. Performs eq says refuse y s r told s' r') none h)

@@ -1,5 +1,5 @@
--- After a step a call over a chain still has what it is to make, and what it asks to be made is
--- made or refused.
+-- After a step a call over a chain still has the value of the pair that it is to make, and whatever
+-- it asks for is made or refused.
 use Rattle.std.proofs.Common.{◌≡◌, ◌⊎◌, inl, inr, ℕ, ◌+◌, Bool, None, Some, length, refl, sym, ◌∙◌, ap, subst}
 use Rattle.papaya_words.specs.declared.limits.TheConstants.{MAX_LOG_LEN, MAX_TABLES}
 use Rattle.papaya_words.specs.declared.refused.Refused.TheVariants.{Memory}
@@ -80,12 +80,12 @@ module _ {K V S A : Type 0} (eq : K → K → Bool) (says : Says K V A) (hash : 
   kept_value tasks.RemoveIf v = tt
   kept_value tasks.Compute v = tt
 
-  -- where only the stage is another, and makes no pair
+  -- if only the stage differs, and makes no pair
   pairs_still : (stage : Stage) → ((purpose : Purpose) → stage ≡ Pairing purpose → ⊥) → IsToPair (record call { state = stage }) → IsThere r'.value
   pairs_still stage unpaired (inl (purpose, e)) = absurd (unpaired purpose e)
   pairs_still stage unpaired (inr choice) = stays_there (maker.answered (inr choice))
 
-  -- where it goes on for itself
+  -- if it continues for itself
   pairs_own : (told : Call_answer) → r.machine.phase ≡ Calling → answer ≡ answers.Call told → IsToPair (call_machine.after call told) → IsThere r'.value
   pairs_own told calling is pairs =
       let (other, also, h) = subst (λ phase. PerformsAsk eq says hash refuse (asks_in call phase) s r answer s' r') calling performs in
@@ -96,7 +96,7 @@ module _ {K V S A : Type 0} (eq : K → K → Bool) (says : Says K V A) (hash : 
         | inr (said, shown) ↦ answered_there eq says refuse s r other s' r' (call_machine.ask_of call) h (same ∙ said) shown
       ]
 
-  -- so it is after each step
+  -- the same after each step
   pub next_maker : IsInOrder r.machine answer r.machine.phase → IsMaker (record r' { machine = after r.machine answer })
   next_maker order = record {
     value = subst (λ task. HasValue task r'.value) (sym (chain_task r.machine answer order).0) (kept_value call.task maker.value);
@@ -161,7 +161,7 @@ module _ {K V S A : Type 0} (eq : K → K → Bool) (says : Says K V A) (hash : 
     no_answers : HasClosure call.task → r.answers ≡ None → ⊥
     no_answers closure none = let a = has closure in let f : None ≡ Some a.0 = sym none ∙ a.1 in cc
 
-    -- it answers of a pair
+    -- the answer to a call of the closure with a pair is one that its task allows
     pair_said : (told : Call_answer) (n : ℕ) → ((p : Stored K V) × (pair_of s n ≡ Some p)) → (task : Task) → call.task ≡ task → HasClosure task
         → ShowsPair task says n s r told s' r' → alone.IsClosureAnswer task told
     pair_said told n there tasks.Get e closure h = absurd closure
@@ -173,7 +173,7 @@ module _ {K V S A : Type 0} (eq : K → K → Bool) (says : Says K V A) (hash : 
     pair_said told n there tasks.Compute e closure (inl (inr none, h)) = let f : None ≡ Some there.0 = sym none ∙ there.1 in absurd cc
     pair_said told n there tasks.Compute e closure (inr (p, is_there, (a, op, a', has, gives, is, same, later))) = (op_kind op, is)
 
-    -- whatever is asked
+    -- for each ask
     served : (ask : Call_ask) (told : Call_answer) → call_machine.ask_of call ≡ ask → asks.Call ask ≡ ask_of r.machine
         → Performs eq says refuse ask s r told s' r' → IsServed call.task ask told
     served (Load at) told own e h = tt

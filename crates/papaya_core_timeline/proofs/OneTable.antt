@@ -19,7 +19,7 @@ pairs_of_table store None = []
 pairs_of_table store (Some t) = pairs_of_slots store t.slots
 
 module _ {K V S : Type 0} (eq : K → K → Bool) (store : StoreState K V S) where
-  -- where there is no table there is no pair
+  -- without a table there is no pair
   pairs_none : (n : ℕ) → pairs_from eq store n None ≡ []
   pairs_none zero = refl
   pairs_none (suc n) = refl

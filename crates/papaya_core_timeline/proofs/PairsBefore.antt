@@ -27,26 +27,26 @@ use Rattle.papaya_call.specs.Machine as calls
 use Rattle.papaya_call.specs.Machine.{at_root, beaten, decided_held, goes_as, left}
 use Rattle.papaya_core_timeline.specs.Ends.{IsToPair}
 
--- a stage in which a pair is made is one that a remembered answer leads to
+-- a stage in which a pair is made comes from a remembered result
 abbrev IsRecalled : Option Choice → Stage → Type 0
 IsRecalled choice stage = (purpose : Purpose) → stage ≡ Pairing purpose → (old : ℕ) × (new : Of) × (choice ≡ Some (To_replace old new))
 
--- of what a search saw
+-- the stage after a search
 goes_pairs : (task : Task) (mode : ResizeMode) (held : Remembered) (s : ProbeStep) → IsRecalled held.choice (goes_as task mode held s)
 goes_pairs task mode held s purpose e = search rules
 
--- so it is with the words of tables
+-- the same for the words of tables
 root_pairs : (task : Task) (choice : Option Choice) (fill : Option ℕ) (word : ℕ) → IsRecalled choice (at_root task fill word)
 root_pairs task choice fill word purpose e = search rules
 
 left_pairs : (task : Task) (choice : Option Choice) (fill : Option ℕ) (t word : ℕ) → IsRecalled choice (left task fill t word)
 left_pairs task choice fill t word purpose e = search rules
 
--- and with a lost deletion
+-- and for a lost deletion
 beaten_pairs : (m : Call_machine) (removal : Removal) (word : ℕ) → IsRecalled m.remembered.choice (beaten m removal word)
 beaten_pairs m removal word purpose e = search rules
 
--- it was so before, or the closure answers a value
+-- it was so before, or the closure returns a value
 abbrev pub WasPairs : Call_machine → Call_answer → Type 0
 WasPairs m told = IsToPair m ⊎ ((told ≡ Op op_kinds.Insert)
     × ((calls.ask_of m ≡ ShowNone) ⊎ ((n : ℕ) × (calls.ask_of m ≡ ShowPair n) × (m.task ≡ tasks.Compute))))
@@ -55,7 +55,7 @@ WasPairs m told = IsToPair m ⊎ ((told ≡ Op op_kinds.Insert)
 abbrev at_stage : Call_machine → Stage → Call_machine
 at_stage m stage = record m { state = stage }
 
--- that was so before
+-- it was so before
 recalled : (m : Call_machine) (stage next : Stage) (told : Call_answer) → IsRecalled m.remembered.choice next → (purpose : Purpose)
     → next ≡ Pairing purpose → WasPairs (at_stage m stage) told
 recalled m stage next told pairs purpose e = inl (inr (pairs purpose e))
@@ -81,7 +81,7 @@ stage_pairs m (Leaving t) told purpose e = search (rules, left_pairs)
 stage_pairs m (Growing need) told purpose e = search rules
 stage_pairs m (Ended reply) told purpose e = search rules
 
--- the answer of a closure leaves a pair that is to be made, or it has one removed
+-- the result of a closure adds no replacement to the remembered choice
 decided_choice : (task : Task) (held : Remembered) (removal : Removal) (kind : OpKind) (old : ℕ) (new : Of)
     → (decided_held task held removal kind).choice ≡ Some (To_replace old new) → held.choice ≡ Some (To_replace old new)
 decided_choice tasks.Compute held removal op_kinds.Insert old new e = e
@@ -91,7 +91,7 @@ decided_choice tasks.Get held removal kind old new e = e
 decided_choice (tasks.Insert replace) held removal kind old new e = e
 decided_choice tasks.RemoveIf held removal kind old new e = e
 
--- so of the answer that is remembered
+-- the same for the remembered choice
 choice_pairs : (m : Call_machine) (stage : Stage) (told : Call_answer) (old : ℕ) (new : Of)
     → (calls.after (at_stage m stage) told).remembered.choice ≡ Some (To_replace old new) → WasPairs (at_stage m stage) told
 choice_pairs m (Pairing other) told old new e = inl (inl (other, refl))
@@ -99,7 +99,7 @@ choice_pairs m (Showing removal) (Op kind) old new e = inl (inr (old, new, decid
 choice_pairs m stage (Word_read word) old new e = inl (inr (old, new, e))
 choice_pairs m stage told old new e = inl (inr (old, new, e))
 
--- of the machine
+-- for the machine
 pub pairs_before : (m : Call_machine) (told : Call_answer) → IsToPair (calls.after m told) → WasPairs m told
 pairs_before m told (inl (purpose, e)) = stage_pairs m m.state told purpose e
 pairs_before m told (inr (old, new, e)) = choice_pairs m m.state told old new e

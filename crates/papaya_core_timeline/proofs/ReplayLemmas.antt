@@ -24,7 +24,7 @@ use Rattle.papaya_core_store.specs.Store.{Stored}
 use Rattle.papaya_core_timeline.proofs.Good.{replayed, replay}
 use Rattle.papaya_core_store.specs.declared.store.Mode.{Mode}
 
--- of a list that may be longer by one, a beginning is one of the list, or it is the whole
+-- a prefix of a list that may be longer by one is a prefix of the list, or is the whole
 pub beginning-cases : {A : Type 0} (so_far rest since made : List A) → (made ≡ []) ⊎ ((e : A) × (made ≡ e ∷ [])) → so_far ++ rest ≡ since ++ made
     → ((left : List A) × (so_far ++ left ≡ since)) ⊎ (so_far ≡ since ++ made)
 beginning-cases [] rest since made one e = inl (since, refl)
@@ -115,7 +115,7 @@ module _ {K V : Type 0} (eq : K → K → Bool) where
     pub replay-alike : (es : List (Exchange (Stored K V))) (j k : K) → eq j k ≡ true → replay eq es j ≡ replay eq es k
     replay-alike es = respects es (λ k. None) (λ j k same. refl)
 
-    -- without blocking a pair of the map stands where a search comes to it
+    -- without blocking a pair of the map is in a slot that a search reaches
     held_incremental : (state : State (Stored K V)) (m : Map K V) → IsIncrementalState g state m → (j : K) (p : Stored K V) → m j ≡ Some p → (t : ℕ)
         × (x : ℕ) × (named (state.slot t x) ≡ Some p)
     held_incremental state m holds j p e =
@@ -127,7 +127,7 @@ module _ {K V : Type 0} (eq : K → K → Bool) where
               (λ (leaving : look g state j o.table o.at ≡ Leaving p). ap named (view_leaving g j word p leaving).0) o.has,
         )
 
-    -- with blocking it stands in the root
+    -- with blocking it is in the root
     held_blocking : (state : State (Stored K V)) (m : Map K V) → IsKeeping g state m → g.blocking ≡ true → (j : K) (p : Stored K V) → m j ≡ Some p
         → (t : ℕ) × (x : ℕ) × (named (state.slot t x) ≡ Some p)
     held_blocking state m keeps blocks j p e =
@@ -135,7 +135,7 @@ module _ {K V : Type 0} (eq : K → K → Bool) where
         let found = table_found g (state.slot state.root) (g.size state.root) j p there in
         (state.root, found.0, ⊎_elim (λ is. ap named is) (λ is. ap named is) found.2)
 
-    -- a pair of the map stands in a slot
+    -- a pair of the map is in a slot
     pub held_in_slot : (es : List (Exchange (Stored K V))) → AllAllowed g start es → (j : K) (p : Stored K V) → replay eq es j ≡ Some p → (t : ℕ)
         × (x : ℕ) × (named ((run es start).slot t x) ≡ Some p)
     held_in_slot es may j p e =
@@ -148,7 +148,7 @@ module _ {K V : Type 0} (eq : K → K → Bool) where
         held_blocking (run es start) (map_left g es) keeps blocks.0 j p there)
         keeps
 
-    -- the exchange after these takes out of the map what the map has there
+    -- the exchange after these takes out the pair that the map has there
     pub next_legal : (es : List (Exchange (Stored K V))) (e : Exchange (Stored K V)) → AllAllowed g start (es ++ e ∷ []) → IsLegal g (replay eq es) e
     next_legal es e may = subst (λ m. IsLegal g m e) (map_replayed hash mode tables es (λ k. None))
         (last es (λ k. None) (legal_changes g law (es ++ e ∷ []) may))

@@ -1,4 +1,4 @@
--- What a call that resizes the map relies on, in the form in which it is cited here.
+-- The facts on which a call that resizes the map relies, in the form in which they are cited here.
 use Rattle.std.proofs.Common.{◌≡◌, ℕ, List, Option, Some, sym, ◌∙◌, subst}
 use Rattle.papaya_words.specs.declared.refused.Refused.{Refused}
 use Rattle.papaya_words.specs.declared.resize_mode.ResizeMode.{ResizeMode}

@@ -32,14 +32,14 @@ use Rattle.papaya_call.specs.TableSize.{IsValidRoom, entries_of, room_of, room_o
 use Rattle.papaya_call_law.proofs.CopyStanding.{copying_fits, copying_stands, link_fits, link_stands}
 use Rattle.papaya_core_timeline.proofs.CallersLemmas.{same_item}
 
--- a logarithm is at most what it is sought up to
+-- a logarithm is at most the limit of its search
 log_most : (most n : ℕ) → log_upto most n ≤ most
 unfolding log_upto
 log_most zero n = omega arith
 log_most (suc most) n = cond_both (nat_le (2 ^ suc most) n) (suc most) (log_upto most n) (λ l. l ≤ suc most) (λ _. omega arith)
     (λ _. let below = log_most most n in omega (arith, below))
 
--- so many slots are a power of two
+-- the number of slots for this many pairs is a power of two
 entries_power : (pairs : ℕ) → IsPowerOfTwo (entries_of pairs)
 entries_power pairs = cond_both (nat_le (pairs * 8 / 6) 1) 1 (2 * 2 ^ log_upto 63 (pairs * 8 / 6 - 1)) IsPowerOfTwo (λ _. (0, refl))
     (λ _. (suc (log_upto 63 (pairs * 8 / 6 - 1)), omega (arith, pow-suc 2 (log_upto 63 (pairs * 8 / 6 - 1)))))
@@ -85,7 +85,7 @@ count_stands (resizes.Reserve more) root len count = judges_stands root len (roo
 count_stands resizes.Chunk root len count = tt
 count_stands resizes.CopyAll root len count = tt
 
--- what is told while nothing is linked or copied
+-- the state after an answer while nothing is linked or copied
 told_stands : (resize : Resize) (mode : ResizeMode) (stage : ResizerState) (a : Call_answer) → IsValidIn stage → IsValidIn (told_root resize mode stage a)
 told_stands resize mode stages.AtRoot (told.Word root) stands = root_stands resize root
 told_stands resize mode (stages.Making room) (told.Made table) stands = tt
@@ -105,7 +105,7 @@ called_stands resize mode stage (answers.Call a) stands = told_stands resize mod
 called_stands resize mode stage (answers.Count count) stands = counted_stands resize stage count stands
 called_stands resize mode stage (answers.Hash hash) stands = stands
 
--- the making of a table, or a copy, led here
+-- the state after the end of a link or of a copy
 linked_stands : (root : ℕ) (end : Linked) → IsValidLinked end → IsValidIn (linked root end)
 linked_stands root (linked_to.On link) stands = stands
 linked_stands root (linked_to.Table table) stands = tt
@@ -138,7 +138,7 @@ after_stands resize mode initial number a (stages.Looking root len room) power f
 after_stands resize mode initial number a stages.Done power fit stands = called_stands resize mode stages.Done a stands
 after_stands resize mode initial number a (stages.Refused refused) power fit stands = called_stands resize mode (stages.Refused refused) a stands
 
--- it stands after an answer
+-- it is valid after an answer
 pub resizer_stands : (z : Resizer) (a : Answer) → IsValidResizer z → IsFit a → IsValidResizer (after z a)
 resizer_stands z a stands fit = record {
   chunked = stands.chunked;

@@ -1,4 +1,4 @@
--- The table that a resizer is about to open or to link was made, and so it is after each answer.
+-- The table that a resizer is about to open or to link was made, and this holds after each answer.
 use Rattle.std.proofs.Common.{◌≡◌, ℕ, ◌+◌, ◌==◌, nat_le, Option, None, Some, refl, ap, subst}
 use Rattle.std.proofs.lemmas.Bool.{cond_both}
 use Rattle.papaya_words.specs.declared.resize_mode.ResizeMode.{ResizeMode}
@@ -30,7 +30,7 @@ use Rattle.papaya_call_law.proofs.LinkStates.{Copied_holds, In, Linked_in, Of, c
 use Rattle.papaya_call_law.proofs.LinkMade.{IsMadeLink, New, Told, is_made, made_is, stable}
 use Rattle.papaya_core_timeline.proofs.MadeTables.{copying_making}
 
--- `Made` is what a table is that was made, with so many words for chunks.
+-- `Made` states that a table was made, with this many words for chunks.
 module _ (Made : (table chunks : ℕ) → Type 0) where
   -- the table that is about to be opened or linked was made
   abbrev pub IsMadeStage : ResizerState → Type 0
@@ -69,7 +69,7 @@ module _ (Made : (table chunks : ℕ) → Type 0) where
   stage_links stages.Done h behind t chunks e = absurd e
   stage_links (stages.Refused refused) h behind t chunks e = absurd e
 
-  -- where it goes on while nothing is linked or copied
+  -- the next stage while nothing is linked or copied
   makes_made : (room : Option TableSize) → IsMadeStage (makes room)
   makes_made None = tt
   makes_made (Some room) = tt
@@ -139,7 +139,7 @@ module _ (Made : (table chunks : ℕ) → Type 0) where
   copied_made resize from (copied_to.Root root) h = over_made resize
   copied_made resize from copied_to.Chunk h = over_made resize
 
-  -- what is told of a link says nothing
+  -- there is nothing to prove about an answer to a link
   told_of_link : (o : Option Link) (slots : ℕ) → Of (Told Made) o slots
   told_of_link None slots = tt
   told_of_link (Some link) slots = tt

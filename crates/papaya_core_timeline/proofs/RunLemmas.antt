@@ -10,12 +10,12 @@ use Rattle.papaya_core_timeline.specs.declared.trace.Turn.{Turn}
 use Rattle.papaya_core_timeline.specs.Core.{CoreState, work_of}
 use Rattle.papaya_core_timeline.specs.Runs.{History, StepRuns, StepsRun, TurnRuns, TurnsRun, IsCutShort, StopsEarly}
 
--- what is not there is nothing
+-- a value that is not there is `None`
 pub is_none : {A : Type 0} (o : Option A) → is_some o ≡ false → o ≡ None
 is_none None e = refl
 is_none (Some x) e = let f : true ≡ false = e in cc
 
--- an item of a numbered list stands at its number
+-- an item of a numbered list is at its number
 pub numbered_item : {A : Type 0} (xs : List A) (n : ℕ) (p : ℕ × A) → n < length (enumerate_from 0 xs) → p ≡ get_or (enumerate_from 0 xs) n p
     → (p.0 ≡ n) × (slice_get xs n ≡ Some p.1)
 numbered_item xs n p lt e =

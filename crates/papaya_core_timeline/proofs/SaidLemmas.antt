@@ -37,7 +37,8 @@ use Rattle.papaya_core_store.specs.Pairs.{value_at}
 use Rattle.papaya_core_timeline.proofs.MadePairs.{MakesOver}
 use Rattle.papaya_core_timeline.proofs.MadeStands.{made_stands}
 
--- What a call that made a pair stands on of it was answered just now to be stored, or before: then the pair has the value that was logged last.
+-- If a call acts on a pair that it has just made, it acted before the step on a returned value
+-- without a pair, on this same pair, or on an earlier pair for the same argument of its closure.
 pub made_said : (m : Machine) (answer : Answer) (own : IsOwnStep m answer) (shown : Option ℕ) (n : ℕ) → MakesPair (calls.ask_of m.call)
     → own.told ≡ Made_number n → NamesPairs m.call → ActsOn (after m answer).call (Makes shown n)
     → ActsOn m.call (Inserts shown) ⊎ ActsOn m.call (Makes shown n)
@@ -46,7 +47,7 @@ made_said m answer own shown n makes told shows stands =
     made_stands m.call shown n makes shows (subst (λ y. ActsOn (calls.after m.call y) (Makes shown n)) told
     (subst (λ d. ActsOn d (Makes shown n)) own.call stands))
 
--- it was answered a value but once
+-- a call that has a returned value to store does not call its closure
 stands_once : (m : Call_machine) (shown other : Option ℕ) → ActsOn m (Inserts shown) → calls.ask_of m ≡ show other → ⊥
 stands_once m shown other stands e = search rules
 
@@ -67,7 +68,8 @@ inserting (ops.Abort t) e = absurd cc
 
 module _ {K V S A : Type 0} (eq : K → K → Bool) (says : Says K V A) (hash : S → K → ℕ) (refuse : Bool) (s : StoreState K V S) (r : Running K V A)
     (a : Answer) (s' : StoreState K V S) (r' : Running K V A) where
-  -- A step of the call r, which answers what its machine asks; a pair that it makes is of the value at hand.
+  -- A step of the call r, which answers the ask of its machine; a pair that it makes has the value
+  -- of the call.
   module _ (performs : PerformsAsk eq says hash refuse (ask_of r.machine) s r a s' r') (stay : KeepsPairs s s')
       (made : (n : ℕ) → MakesOver (ask_of r.machine) → a ≡ given.Call (Made_number n) → (q : Stored K V) × (pair_of s' n ≡ Some q)
       × (own_value s r ≡ Some q.value))
@@ -82,12 +84,12 @@ module _ {K V S A : Type 0} (eq : K → K → Bool) (says : Says K V A) (hash : 
       abbrev later : Running K V A
       later = record r' { machine = after r.machine a }
 
-      -- what was answered before stays
+      -- a result that was returned before stays in the history
       answered_still : (shown : Option ℕ) (op : Operation V ℕ) → WasAnswered c shown op h answers
           → WasAnswered c shown op (entry turn c event ∷ h) (o ∷ answers)
       answered_still shown op was = step_answered c turn shown op (kind_of_ask r.machine) (ask_of r.machine) a event h o answers is (inl was)
 
-      -- what the closure answers now
+      -- the result of the closure in this step
       operation : (shown : Option ℕ) (kind : OpKind) → ask_of r.machine ≡ asks.Call (show shown) → a ≡ given.Call (Op kind) → (op : Operation V ℕ)
           × (o ≡ Some op) × (op_kind op ≡ kind)
       operation shown kind asks said = subst (λ e. IsAnsweredIn e o)
@@ -98,7 +100,7 @@ module _ {K V S A : Type 0} (eq : K → K → Bool) (says : Says K V A) (hash : 
       answered_now shown op asks said now = step_answered c turn shown op (kind_of_ask r.machine) (ask_of r.machine) a event h o answers is
           (inr (asks, said, now))
 
-      -- what was said before and is stood on still
+      -- a result that was returned before, and on which the call still acts
       still_said : (said : ClosureResult) → ActsOn r.machine.call said → ActsOn (after r.machine a).call said → WasReturned s r c h answers said
           → WasReturned s' later c (entry turn c event ∷ h) (o ∷ answers) said
       still_said (Agrees n agrees) before stands was = step_asked c turn n agrees (kind_of_ask r.machine) (ask_of r.machine) a event h is (inl was)
@@ -110,7 +112,7 @@ module _ {K V S A : Type 0} (eq : K → K → Bool) (says : Says K V A) (hash : 
       still_said (Makes shown n) before stands (q, there, was) = (q, stay n q there, answered_still shown (ops.Insert q.value) was)
       still_said (Removes n) before stands was = answered_still (Some n) ops.Remove was
 
-      -- what is said now
+      -- a result that was returned in this step
       now_said : (said : ClosureResult) (own : IsOwnStep r.machine a) → IsResultBy r.machine.call own.told said → ActsOn (after r.machine a).call said
           → ((said : ClosureResult) → ActsOn r.machine.call said → WasReturned s r c h answers said) → WasReturned s' later c (entry turn c event ∷ h) (o ∷ answers) said
       now_said (Agrees n agrees) own (asking, answer) stands before = step_asked c turn n agrees (kind_of_ask r.machine) (ask_of r.machine) a event h
@@ -152,7 +154,8 @@ module _ {K V S A : Type 0} (eq : K → K → Bool) (says : Says K V A) (hash : 
           let (op, now, kind) = operation (Some n) kinds.Remove asking' answer' in
           answered_now (Some n) ops.Remove asking' answer' (now ∙ ap (λ y. Some y) (removing op kind))
 
-      -- of any of it, where the machine stands on what it stood on or on what is said now
+      -- either case: the machine acts on a result on which it acted before, or on one that was
+      -- returned in this step
       pub said_after : ((said : ClosureResult) → ActsOn (after r.machine a).call said → ActsOn r.machine.call said
           ⊎ ((own : IsOwnStep r.machine a) × IsResultBy r.machine.call own.told said))
           → ((said : ClosureResult) → ActsOn r.machine.call said → WasReturned s r c h answers said) → (said : ClosureResult) → ActsOn (after r.machine a).call said
@@ -164,7 +167,7 @@ module _ {K V S A : Type 0} (eq : K → K → Bool) (says : Says K V A) (hash : 
           (goes said stands)
 
 module _ {K V S A : Type 0} where
-  -- A change is one to which the closure of the call has agreed, where the call has one.
+  -- A change is one to which the closure of the call has agreed, if the call has one.
   pub change_agreed : (call : Call K V A) (s : StoreState K V S) (r : Running K V A) (c : ℕ) (h : History) (answers : Answered V)
       → ((said : ClosureResult) → ActsOn r.machine.call said → WasReturned s r c h answers said) → (old : Option ℕ) (came : Option (Stored K V))
       → ((q : Stored K V) → came ≡ Some q → pair_of s q.number ≡ Some q) → IsResultChange (the_task call) r.machine.call old (number_in came)

@@ -171,7 +171,7 @@ module _ {K V S A : Type 0} (eq : K → K → Bool) (hash : K → ℕ) (law : Is
       by_state Done r asks e asked may written here = absurd asked
       by_state (Refused refused) r asks e asked may written here = absurd asked
 
-  -- what the step spends of the budget
+  -- how much of the budget the step spends
   spends_so : (ask : ScanAsk) → ask_of v.scanner ≡ Some ask → PerformsScan eq says hashes refuse ask s.store v a store' v'
       → SpendsScan ask a (budget_of s.store) (budget_of store')
   spends_so (Copy ask) asks (performs, stays) =
@@ -201,7 +201,7 @@ module _ {K V S A : Type 0} (eq : K → K → Bool) (hash : K → ℕ) (law : Is
     read_now : IsScannerRead (word_of g c (run call_trace.since first)) v.scanner
     read_now = subst (λ words. IsScannerRead words v.scanner) (sym words_are) read
 
-    -- what it has read stands there still
+    -- a word that it has read is unchanged
     pub stays_read : IsScannerRead (word_at store'.words) (after v.scanner a)
     stays_read = subst (λ words. IsScannerRead words (after v.scanner a)) words_then
         (state_nearer g c hashed first m keeps_first call_trace.since may_since bounded v.scanner scanning.relies.mode scanning.relies.cut

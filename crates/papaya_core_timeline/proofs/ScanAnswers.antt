@@ -1,4 +1,4 @@
--- What an answered ask of a call that scans a table leaves of the words and the arena.
+-- The effect of an answered ask of a call that scans a table on the words and the arena.
 use Rattle.std.proofs.Common.{◌≡◌, ◌⊎◌, inl, inr, ⊎_elim, ℕ, ℤ, pos, ◌+ℤ◌, ◌%◌, ◌^◌, ◌==◌, ◌<◌}
 use Rattle.std.proofs.Common.{◌&&◌, Bool, true, false, cond, Option, None, Some, List, [], ◌∷◌}
 use Rattle.std.proofs.Common.{◌++◌, negsuc, MatchBool, refl, sym, ap, ◌∙◌, subst, eqb-true}
@@ -59,7 +59,7 @@ use Rattle.papaya_core_store.specs.Scans.{PerformsScan}
 use Rattle.papaya_core_timeline.specs.Scans.{IsListRefused}
 use Rattle.papaya_words_law.specs.Hints.{IsHint}
 
--- what is told otherwise, where all else is the same
+-- another record, if all else is the same
 retold : {Q K V S : Type 0} (g : Setting Q (Stored K V)) (c : Coding Q (Stored K V)) (store : StoreState K V S) (es : List (Exchange (Stored K V)))
     (loaded : copies.LoadedPairs (Stored K V)) (T T' : List (Exchange (Stored K V)) → copies.LoadedPairs (Stored K V) → Type 0) (a : Answer)
     (store' : StoreState K V S) (left : IsLeft g c store es loaded T a store') → T' left.made left.loaded' → IsLeft g c store es loaded T' a store'
@@ -82,19 +82,19 @@ retold g c store es loaded T T' a store' left told = record {
   opens = left.opens;
 }
 
--- where a pair that stood in a slot is deleted there, each slot names what one named
+-- after a pair is deleted in its slot, each pair that a slot names was in a slot before
 buried_stood : {P : Type 0} (s : Words P) (t x : ℕ) (p : P) → s.slot t x ≡ Live p → (u y : ℕ) (q : P) (b : Bool)
     → named (cond b (Buried p) (s.slot u y)) ≡ Some q → Stands s q
 buried_stood s t x p live u y q true e = (t, x, ap named live ∙ e)
 buried_stood s t x p live u y q false e = (u, y, e)
 
--- the pair last told of stood in the slot that was loaded, or was told of before
+-- the pair last loaded was in the slot that was loaded, or had been loaded before
 told_stood : {P : Type 0} (s : Words P) (t x : ℕ) (last : Option P) (q : P) (o : Option P) → named (s.slot t x) ≡ o → or_last o last ≡ Some q
     → (last ≡ Some q) ⊎ Stands s q
 told_stood s t x last q None names e = inl e
 told_stood s t x last q (Some p) names e = inr (t, x, names ∙ e)
 
--- what is asked for the copy of all is asked by a copier
+-- an ask for the copy of all tables is the ask of a copier
 pub copy_asked : (o : Option CopyAsk) (ask : ScanAsk) → copy_asks o ≡ Some ask → (a : CopyAsk) × (o ≡ Some a) × (ask ≡ Copy a)
 copy_asked None ask e = absurd cc
 copy_asked (Some a) ask e = let is : Copy a ≡ ask = cc e in (a, refl, sym is)
@@ -154,7 +154,8 @@ module _ {K V S A : Type 0} (eq : K → K → Bool) (hash : K → ℕ) (law : Is
     sames = λ p q. refl;
   }
 
-  -- What an answer leaves: the words and the logs as a copier's answer does, but for the count.
+  -- The effect of an answer: it changes the words and the arena as a copier's answer does; the
+  -- count may differ.
   pub record IsScanLeft (state : ScannerState) (a : Answer) (store' : StoreState K V S) (v' : Scanning A) : Type 0 where
     pub words : StoreState K V S
     pub loaded' : LoadedPairs (Stored K V)
@@ -166,12 +167,12 @@ module _ {K V S A : Type 0} (eq : K → K → Bool) (hash : K → ℕ) (law : Is
     pub sum : int_wrap w64 store'.count.sum ≡ int_wrap w64 (s.store.count.sum +ℤ owed_scan state)
     pub shown : (p : Stored K V) → WasShown loaded'.shown p → WasShown loaded.shown p ⊎ (loaded.copy.call.last ≡ Some p)
 
-  -- where the count stays
+  -- if the count stays
   same_sum : (state : ScannerState) → owed_scan state ≡ pos 0 → (store' : StoreState K V S) → store'.count.sum ≡ s.store.count.sum
       → int_wrap w64 store'.count.sum ≡ int_wrap w64 (s.store.count.sum +ℤ owed_scan state)
   same_sum state owes store' is = ap (int_wrap w64) (is ∙ sym (+ℤ_idr s.store.count.sum) ∙ ap (λ z. s.store.count.sum +ℤ z) (sym owes))
 
-  -- where nothing but the machine goes on
+  -- if only the machine continues
   same_given : (v' : Scanning A) → v' ≡ v → v'.given ≡ numbers_of loaded.given
   same_given v' is = ap (λ (y : Scanning A). y.given) is ∙ given_is
 
@@ -250,7 +251,7 @@ module _ {K V S A : Type 0} (eq : K → K → Bool) (hash : K → ℕ) (law : Is
         writes = λ t x n e. absurd cc;
       }) a store' performs
 
-  -- so it is told of the word, or the size
+  -- so the record has the word, or the size
   word_left : (state : ScannerState) (before : List (Exchange (Stored K V)) → List (Exchange (Stored K V))) → (ask : CopyAsk)
       → asks_in state ≡ Some (Copy ask) → (a : Answer) (store' : StoreState K V S) → (left : Hears ask a store')
       → ((loaded' : LoadedPairs (Stored K V)) → loaded' ≡ record loaded { copy = left.loaded'; before = before left.made }
@@ -268,7 +269,7 @@ module _ {K V S A : Type 0} (eq : K → K → Bool) (hash : K → ℕ) (law : Is
         shown = λ p h. inl h;
       }
 
-  -- an answer that leaves the store, and tells of no word
+  -- an answer that leaves the store, and gives no word
   still : (state : ScannerState) (a : Answer) (store' : StoreState K V S) (loaded' : LoadedPairs (Stored K V)) → loaded'.copy ≡ loaded.copy
       → store' ≡ record s.store { count = store'.count } → ((t : ℕ) → a ≡ answers.Call (Made_number t) → ⊥)
       → IsTrueOfScan g c now since state loaded a [] loaded' → (v' : Scanning A) → v'.given ≡ numbers_of loaded'.given
@@ -288,11 +289,11 @@ module _ {K V S A : Type 0} (eq : K → K → Bool) (hash : K → ℕ) (law : Is
     sum = sum;
   }
 
-  -- the pair that is met is logged
+  -- the pair that it meets is in the arena
   met : (n : ℕ) → (had : HadPair g c first m since loaded n) → pair_of s.store n ≡ Some had.pair
   met n had = subst (λ i. pair_of s.store i ≡ Some had.pair) had.number (last had.pair had.told)
 
-  -- a pair is given, or there was no memory for its number
+  -- a pair is returned, or there was no memory for its number
   abbrev Left : ScannerState → Answer → StoreState K V S → Scanning A → Type 0
   Left state a store' v' = IsListRefused s.store v a store' ⊎ IsScanLeft state a store' v'
 
@@ -314,7 +315,7 @@ module _ {K V S A : Type 0} (eq : K → K → Bool) (hash : K → ℕ) (law : Is
       (λ (lost : _). inl (record { giving = (spot, word, is); refused = answered ∙ ap answers.Call lost.0; same = stays }))
       how
 
-  -- a pair is shown
+  -- the closure is called with a pair
   show_left : (spot : Spot) (word : ℕ) → Relies (Showing spot word) → (a : Answer) (store' : StoreState K V S) (v' : Scanning A)
       → PerformsScan eq says hashes refuse (Show (number_in word)) s.store v a store' v' → IsScanLeft (Showing spot word) a store' v'
   show_left spot word r a store' v' (shows, stays) =
@@ -346,7 +347,7 @@ module _ {K V S A : Type 0} (eq : K → K → Bool) (hash : K → ℕ) (law : Is
       (let sum : ℤ = s.store.count.sum +ℤ negsuc 0 in
       ap (λ (y : StoreState K V S). int_wrap w64 y.count.sum) counted.1 ∙ int_wrap_fits w64 (int_wrap w64 sum) (SFits-int_wrap w64 sum))
 
-  -- the pair that stands in the slot is deleted, or another word was found there
+  -- the pair in the slot is deleted, or another word was found there
   bury_left : (spot : Spot) (word : ℕ) → Relies (Burying spot word) → (a : Answer) (store' : StoreState K V S)
       → PerformsCopy eq hashes refuse (buries spot word) s.store a store' → (v' : Scanning A) → v' ≡ v → IsScanLeft (Burying spot word) a store' v'
   bury_left spot word r a store' performs v' same_v =

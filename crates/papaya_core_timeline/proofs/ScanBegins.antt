@@ -1,4 +1,4 @@
--- What a call that scans a table relies on as it begins.
+-- The facts on which a call that scans a table relies as it begins.
 use Rattle.std.proofs.Common.{◌≡◌, ℕ, Bool, List, [], append-nil, refl, sym, subst}
 use Rattle.papaya_words.specs.declared.resize_mode.ResizeMode.{ResizeMode}
 use Rattle.papaya_words.specs.declared.resize_mode.ResizeMode.TheVariants.{Incremental, Blocking}
@@ -37,7 +37,7 @@ module _ {K V S A : Type 0} (eq : K → K → Bool) (hash : K → ℕ) (s : Core
   abbrev c_now : Coding K (Stored K V)
   c_now = coding_of (low hash)
 
-  -- it copies all first, or loads the root
+  -- it copies all tables first, or loads the root
   state_begins : (mode : ResizeMode) → IsModeOf mode g_now.blocking
       → ReliesState g_now c_now (run es start) (map_left g_now es) [] scan nothing_loaded (begun_in mode)
   state_begins (Incremental chunk) is = (refl, tt, tt)

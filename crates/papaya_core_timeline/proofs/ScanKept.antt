@@ -113,7 +113,7 @@ module _ {K V S A : Type 0} (eq : K → K → Bool) (hash : K → ℕ) (law : Is
   HasLeft = left_by.IsScanLeft eq hash law says hashes refuse s core hasher call_trace.begun call_trace.since kept.allowed kept.coded kept.made
       kept.hints v call_trace.loaded scanning.relies scanning.answers scanning.last scanning.carried scanning.given scanning.links v.scanner.state a store' v'
 
-  -- what the answer leaves
+  -- the effect of the answer
   left_so : IsListRefused s.store v a store' ⊎ HasLeft
   left_so = left_by.scan_left eq hash law says hashes refuse s core hasher call_trace.begun call_trace.since kept.allowed kept.coded kept.made
       kept.hints v call_trace.loaded scanning.relies scanning.answers scanning.last scanning.carried scanning.given scanning.links v.scanner.state refl
@@ -123,7 +123,7 @@ module _ {K V S A : Type 0} (eq : K → K → Bool) (hash : K → ℕ) (law : Is
     abbrev made : List (Exchange (Stored K V))
     made = l.left.made
 
-    -- what holds of the store but for the count holds of it
+    -- a fact about the store that does not depend on the count
     of_store : (P : StoreState K V S → Type 0) → P (record l.words { count = store'.count }) → P store'
     of_store P h = subst P (sym l.store_is) h
 
@@ -140,7 +140,7 @@ module _ {K V S A : Type 0} (eq : K → K → Bool) (hash : K → ℕ) (law : Is
         scanning.relies.cut v.scanner.initial v.scanner.number call_trace.loaded a made l.loaded' scanning.relies.gives v.scanner.state
         scanning.relies.state (λ _. words) told_first
 
-    -- so it relies on what it was told
+    -- so it relies on its record
     relies_then : ReliesScanner g c first m (call_trace.since ++ made) (after v.scanner a) l.loaded'
     relies_then = record {
       mode = scanning.relies.mode;
@@ -154,7 +154,7 @@ module _ {K V S A : Type 0} (eq : K → K → Bool) (hash : K → ℕ) (law : Is
     logged : KeepsPairs s.store store'
     logged n p h = of_store (λ y. pair_of y n ≡ Some p) (left_logged g c s.store es call_trace.loaded.copy l.left n p h)
 
-    -- what the step leaves of the core: it makes no pair
+    -- the effect of the step on the core: it makes no pair
     leaving : others.IsLeaving eq hash law s caller s' refl es call_traces core kept made (call_traces caller).loaded (λ p. ⊥)
     leaving = record {
       allowed = allowed_append g es made start kept.allowed (subst (λ w. AllAllowed g w made) same (allowed_rest g call_trace.since made first learnt.0));
@@ -180,7 +180,7 @@ module _ {K V S A : Type 0} (eq : K → K → Bool) (hash : K → ℕ) (law : Is
     still_made : (t chunks : ℕ) → IsMadeFor s.store t chunks → IsMadeFor store' t chunks
     still_made = others.still_made eq hash law s caller s' refl es call_traces core kept made (call_traces caller).loaded leaving
 
-    -- a table that it was told of was made as it asked
+    -- a table that its answer names was made as it asked
     newly_made : (stage : Stage) → v.scanner.state ≡ Copying stage → (n slots limit chunks : ℕ) → a ≡ answers.Call (Made_number n)
         → resizers.asks_in stage ≡ Some (MakeTable slots limit chunks) → IsMadeFor store' n chunks
     newly_made stage is n slots limit chunks told making =
@@ -189,13 +189,13 @@ module _ {K V S A : Type 0} (eq : K → K → Bool) (hash : K → ℕ) (law : Is
         copier_made eq hashes refuse s.store a store' slots limit chunks
         (subst (λ y. PerformsCopy eq hashes refuse y s.store a store') (same_item _ _ (sym at ∙ making)) h.0) n told
 
-    -- the calls of all callers rely on what is told of them
+    -- the calls of all callers rely on their traces
     kept_then : IsConsistent eq hash s.mode store' s.callers (es ++ made)
         (others.call_traces' eq hash law s caller s' refl es call_traces core kept made (call_traces caller).loaded)
     kept_then = others.leaves_kept eq hash law s caller s' refl es call_traces core kept made (call_traces caller).loaded leaving None
         (sym (no_work s.callers caller idle)) (λ r e. absurd cc) (λ z e. absurd cc) (λ v e. absurd cc) (λ r e. absurd cc)
 
-    -- the setting has grown, and says of the tables that have come what it said
+    -- the setting has grown, and agrees with the old one on the tables that have come
     same_then : run (call_trace.since ++ made) first ≡ run (es ++ made) start
     same_then = run-append call_trace.since made first ∙ ap (run made) same ∙ sym (run-append es made start)
 
@@ -220,7 +220,7 @@ module _ {K V S A : Type 0} (eq : K → K → Bool) (hash : K → ℕ) (law : Is
           (after v.scanner a).state relies_then.state;
     })
 
-    -- a pair that it was told of is logged
+    -- the last pair that it loaded is in the arena
     last_logged : (p : Stored K V) → (call_trace.loaded.copy.call.last ≡ Some p) ⊎ Stands (run es start) p → IsInArena store' p
     last_logged p (inl old) = logged p.number p (scanning.last p old)
     last_logged p (inr (t, x, names)) = logged p.number p (kept.logged t x p names)
@@ -273,6 +273,6 @@ module _ {K V S A : Type 0} (eq : K → K → Bool) (hash : K → ℕ) (law : Is
       sum = l.sum;
     }
 
-  -- it was told nothing, or relies on what it was told, as all others do
+  -- its list could not grow, or it relies on its record, as all others do
   pub scan_heard : IsListRefused s.store v a store' ⊎ IsScanAnswered eq hash s caller es call_traces v call_trace a store' v'
   scan_heard = ⊎_elim (λ (u : IsListRefused s.store v a store'). inl u) (λ (l : HasLeft). inr (heard l)) left_so

@@ -36,7 +36,7 @@ module _ {K V S A : Type 0} (eq : K → K → Bool) (hashes : S → K → ℕ) (
   abbrev hash : K → ℕ
   hash = hashes s.store.hasher
 
-  -- what is so after these exchanges
+  -- the facts after these exchanges
   abbrev pub Heard : Answer → StoreState K V S → Scanning A → (caller : ℕ) → List (Exchange (Stored K V)) → Type 0
   Heard a store' v' caller es = IsConsistent eq hash s.mode s.store s.callers es call_traces → IsScanning eq hash s.mode s.store v es call_trace
       → IsListRefused s.store v a store' ⊎ IsScanAnswered eq hash s caller es call_traces v call_trace a store' v'
@@ -66,7 +66,7 @@ module _ {K V S A : Type 0} (eq : K → K → Bool) (hashes : S → K → ℕ) (
 module _ {K V S A : Type 0} (eq : K → K → Bool) (hash : K → ℕ) (s : CoreState K V S A) (law : IsLawfulKeys eq hash)
     (core : IsCore s.store s.callers s.mode) (call_traces : ℕ → CallTrace K V) (v : Scanning A) (call_trace : ScanTrace K V) (caller : ℕ) (a : Answer)
     (store' : StoreState K V S) (v' : Scanning A) (core' : IsCore store' s.callers s.mode) where
-  -- what a step does after these exchanges
+  -- the effect of a step after these exchanges
   abbrev pub Moves : List (Exchange (Stored K V)) → Type 0
   Moves es = IsConsistent eq hash s.mode s.store s.callers es call_traces → IsScanning eq hash s.mode s.store v es call_trace
       → IsScanAnswered eq hash s caller es call_traces v call_trace a store' v' → MovesScan eq s.store store' v.scanner.scan call_trace.loaded.shown
@@ -106,7 +106,7 @@ module _ {K V S A : Type 0} (eq : K → K → Bool) (hashes : S → K → ℕ) (
     (call_trace : ScanTrace K V) (stands : IsValidScanner v.scanner) (read : IsScannerRead (word_at s.store.words) v.scanner)
     (ask : ScanAsk) (asks : ask_of v.scanner ≡ Some ask) (a : Answer) (store' : StoreState K V S) (v' : Scanning A)
     (performs : PerformsScan eq says hashes refuse ask s.store v a store' v') (caller : ℕ) where
-  -- what has come of a step, nearer the end
+  -- the state after a step, which is nearer the end
   abbrev pub Nearer : Type 0
   Nearer = IsScannerRead (word_at store'.words) (after v.scanner a)
       × (scanner_measure (budget_of store') (word_at store'.words) (after v.scanner a) < scanner_measure (budget_of s.store) (word_at s.store.words) v.scanner)
@@ -131,13 +131,13 @@ module _ {K V S A : Type 0} (eq : K → K → Bool) (hashes : S → K → ℕ) (
 
 module _ {K V S A : Type 0} (eq : K → K → Bool) (hash : K → ℕ) (mode : Mode) (store : StoreState K V S) (v : Scanning A)
     (es : List (Exchange (Stored K V))) (call_trace : ScanTrace K V) (scanning : IsScanning eq hash mode store v es call_trace) where
-  -- it asks something until it has replied
+  -- it has an ask until it has replied
   pub asks_so : reply_of v.scanner ≡ None → IsSome (ask_of v.scanner)
   asks_so going = scan_asks (setting_of eq (low hash) mode store.words.tables) (coding_of (low hash)) (run call_trace.begun start)
       (map_left (setting_of eq (low hash) mode store.words.tables) call_trace.begun) call_trace.since v.scanner.scan call_trace.loaded v.scanner.state
       scanning.relies.state going
 
-  -- and has scanned each slot then
+  -- and has then scanned each slot
   pub over_so : reply_of v.scanner ≡ Some Reply_done → HasScannedIn eq hash mode store v call_trace
   over_so over = record {
     scanned = scan_over (setting_of eq (low hash) mode store.words.tables) (coding_of (low hash)) (run call_trace.begun start)

@@ -1,4 +1,5 @@
--- A table that a scan is about to link was made; a scan makes tables only for the copy of all.
+-- A table that a scan is about to link was made; a scan makes tables only for the copy of all
+-- tables.
 use Rattle.std.proofs.Common.{◌≡◌, Some, ℕ, ◌+◌, ◌==◌, nat_lt, Bool, true, false, refl}
 use Rattle.std.proofs.lemmas.Bool.{cond_both}
 use Rattle.papaya_words.specs.declared.resize_mode.ResizeMode.{ResizeMode}
@@ -55,7 +56,7 @@ meets_none Retain spot word kinds.Marked = λ link h. h
 meets_none Retain spot word kinds.Copied = λ link h. h
 meets_none scan spot word kind = next_none spot
 
--- whatever is told while nothing is copied
+-- after each answer while nothing is copied
 told_none : (scan : Scan) (state : ScannerState) (answer : Call_answer) → LinksNone state → LinksNone (told scan state answer)
 told_none scan AtRoot (Word root) none = root_none root
 told_none scan (Sizing table) (Size slots limit) none = looks_none (record { table = table; len = slots; slot = 0 })
@@ -72,7 +73,7 @@ scanned_none scan state (answers.Call answer) none = told_none scan state answer
 scanned_none scan state (answers.Hash hash) none = none
 scanned_none scan state (answers.Count count) none = none
 
--- the copy of all leads to a link of its own
+-- the copy of all tables has a link of its own
 copied_link : (from to : Stage) (link : Link) → IsScanLink (copied from to) link → HasLink to link
 copied_link from stages.Done link h = absurd (root_none (found_by from) link h)
 copied_link from (stages.Refused refused) link h = h

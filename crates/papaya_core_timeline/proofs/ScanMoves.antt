@@ -1,4 +1,4 @@
--- What a scanner's step does to the map, and to the count of its pairs.
+-- The effect of a scanner's step on the map, and on the count of its pairs.
 use Rattle.std.proofs.Common.{◌≡◌, inl, inr, ⊎_elim, ℕ, ℤ, pos, negsuc, ◌+ℤ◌, ◌==◌, ◌≤◌, ◌^◌, Bool}
 use Rattle.std.proofs.Common.{true, false, Option, None, Some, List, [], ◌∷◌, ◌++◌, length, refl}
 use Rattle.std.proofs.Common.{sym, ap, ◌∙◌, subst, arith, eqb-true}
@@ -60,20 +60,20 @@ use Rattle.papaya_core_timeline.proofs.StepEvents.{stage_moves}
 use Rattle.papaya_call.specs.declared.chain.ask.ScanAsk.{ScanAsk}
 use Rattle.papaya_call.specs.declared.chain.ask.ScanAsk.TheVariants.{AddToShard, Copy, Given, Show}
 
--- a pair of which an answer is known was shown
+-- if a result for a pair is known, the closure was called with that pair
 answered_shown : {P : Type 0} (l : List (P × Bool)) (p : P) (stays : Bool) → IsLastAnswer l p stays → WasShown l p
 answered_shown [] p stays h = h
 answered_shown (one ∷ older) p stays (inl (is, said)) = inl is
 answered_shown (one ∷ older) p stays (inr (other, h)) = inr (answered_shown older p stays h)
 
--- what is loaded, and what a size is asked for, is no change
+-- a load, or an ask for a size, is no change
 pub quiet : (P : Event → Type 0) → P Other → (kind : Option StepKind) (ask : CopyAsk) → ((answer : Call_answer) → copy_event kind ask answer ≡ Other)
     → (a : Answer) → P (event_of_scan kind (Copy ask) a)
 quiet P other kind ask none (answers.Call answer) = subst P (sym (none answer)) other
 quiet P other kind ask none (answers.Hash hash) = other
 quiet P other kind ask none (answers.Count count) = other
 
--- nor is what is asked for the copy of all
+-- nor is an ask for the copy of all tables
 copied_event : (kind : Option StepKind) (ask : CopyAsk) (a : Answer) → event_of kind (asks.Copy ask) a ≡ event_of_scan kind (Copy ask) a
 copied_event kind ask (answers.Call answer) = refl
 copied_event kind ask (answers.Hash hash) = refl
@@ -86,7 +86,7 @@ stage_quiet P other moved stage (Some is) ask e a =
     subst (λ y. P (event_of_scan (resizers.kind_in stage) y a)) (same_item (Copy is) ask e)
     (subst P (copied_event (resizers.kind_in stage) is a) (stage_moves P other moved stage is a))
 
--- 1 is owed just where a pair was deleted
+-- the call owes 1 exactly if a pair was deleted
 owed_by : (state : ScannerState) (owes : Bool) → owes_in state ≡ owes → owed_scan state ≡ (elim owes as (λ b. ℤ) [ true ↦ negsuc 0 | false ↦ pos 0 ])
 owed_by (Uncounting spot) true e = refl
 owed_by (Uncounting spot) false e = absurd cc
@@ -181,11 +181,11 @@ module _ {K V S A : Type 0} (eq : K → K → Bool) (hash : K → ℕ) (law : Is
     others = λ j other. is_then j ∙ ap (λ l. map_of g old_map l j) one ∙ cond-false (eq j p.key) None (old_map j) other ∙ sym (was j);
   }
 
-  -- two pairs of the log under one number are one
+  -- two pairs of the arena with one number are one pair
   one_pair : (p q : Stored K V) → IsInArena s.store p → IsInArena s.store q → p.number ≡ q.number → p ≡ q
   one_pair p q is_p is_q number = let both : Some p ≡ Some q = sym is_p ∙ ap (pair_of s.store) number ∙ is_q in cc
 
-  -- a retain deletes what its closure answered no to
+  -- a retain deletes a pair for which its closure returned that it does not stay
   dropped : (spot : Spot) (word : ℕ) (p : Stored K V) → now.slot spot.table spot.slot ≡ Live p → code g c (now.slot spot.table spot.slot) ≡ word
       → (scan : Scan) → MayTake g c first m call_trace.since scan call_trace.loaded word → scan ≡ Retain → IsLastAnswer call_trace.loaded.shown p false
   dropped spot word p live stands Walk takes is = absurd cc
@@ -196,7 +196,7 @@ module _ {K V S A : Type 0} (eq : K → K → Bool) (hash : K → ℕ) (law : Is
       (kept.logged spot.table spot.slot p (ap named live)) (number ∙ of_word) in
       subst (λ r. IsLastAnswer call_trace.loaded.shown r false) one said
 
-  -- it deletes in one state alone
+  -- it deletes in only one state
   abbrev Goes : ScannerState → ScannerState
   Goes = after_in v.scanner.scan v.scanner.mode v.scanner.initial v.scanner.number a
 
@@ -245,17 +245,17 @@ module _ {K V S A : Type 0} (eq : K → K → Bool) (hash : K → ℕ) (law : Is
       inr (p, buried t x p one, no_walk, said_no t x p one v.scanner.state scanning.relies.state told owes)))
       done
 
-  -- what the step's event tells of the map
+  -- how the event of the step describes the map
   abbrev ByEvent : Event → Type 0
   ByEvent = MovesByScan eq s.store store' v.scanner.scan call_trace.loaded.shown
 
-  -- no walk deletes
+  -- an iteration deletes nothing
   no_walk : (word : ℕ) (scan : Scan) → MayTake g c first m call_trace.since scan call_trace.loaded word → scan ≡ Walk → ⊥
   no_walk word Walk takes is = takes
   no_walk word Clear takes is = absurd cc
   no_walk word Retain takes is = absurd cc
 
-  -- the copy of all leaves the map
+  -- the copy of all tables leaves the map
   copied_stays : (stage : Stage) → v.scanner.state ≡ Copying stage → Same (map_in eq s.store) (map_in eq store')
   copied_stays stage is =
       ⊎_elim (λ none. none_moved none.0)
@@ -341,7 +341,7 @@ module _ {K V S A : Type 0} (eq : K → K → Bool) (hash : K → ℕ) (law : Is
   new_few = content_few eq hash s.mode store' hashed_then s.callers (es ++ heard.made)
       (told_call_traces call_traces caller heard.made (call_traces caller).loaded) heard.kept
 
-  -- the map grows by what is owed after the step
+  -- the map grows by the amount that is owed after the step
   as_many : Same (map_in eq s.store) (map_in eq store') → owes_in (Goes v.scanner.state) ≡ false
       → pos (length new) ≡ pos (length old) +ℤ owed_scan (Goes v.scanner.state)
   as_many stays owes =

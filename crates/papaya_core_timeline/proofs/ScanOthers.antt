@@ -1,4 +1,5 @@
--- What a scan relies on holds when it begins, and after each step of another caller.
+-- A scan begins with the facts on which it relies, and keeps them after each step of another
+-- caller.
 use Rattle.std.proofs.Common.{◌≡◌, inl, inr, ⊎_elim, ℕ, Bool, Option, None, Some, List, [], ◌++◌, append-nil, sym, subst}
 use Rattle.papaya_call.specs.declared.call.Reply.{Reply}
 use Rattle.papaya_call.specs.Answers.{Says}
@@ -20,7 +21,7 @@ use Rattle.papaya_core_timeline.proofs.KeptScanned as scanned
 use Rattle.papaya_core_store.specs.declared.scans.Scanning.{Scanning}
 use Rattle.papaya_core_timeline.specs.Scans.{StaysBeside}
 
--- a call that goes on is the one that was put back
+-- a call that continues is the one that was put back
 gone_on : {R : Type 0} (reply : Option Reply) (r q : R) → goes_on reply r ≡ Some q → r ≡ q
 gone_on None r q e = cc
 gone_on (Some reply) r q e = let f : None ≡ Some q = e in cc

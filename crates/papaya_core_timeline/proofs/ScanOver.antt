@@ -1,4 +1,4 @@
--- What holds when a scan has ended; until then it has an ask.
+-- The facts that hold when a scan has ended; until then it has an ask.
 use Rattle.std.proofs.Common.{◌≡◌, Option, None, Some, IsSome, List, refl}
 use Rattle.papaya_call.specs.declared.call.Reply.TheVariants.{Done as Reply_done}
 use Rattle.papaya_call.specs.declared.chain.resizer.ResizerState.TheVariants as stages
@@ -13,7 +13,7 @@ use Rattle.papaya_call_law.specs.Scans.{HasScanned, ReliesState}
 
 module _ {K P : Type 0} (g : Setting K P) (c : Coding K P) (s : Words P) (m : K → Option P) (since : List (Exchange P)) (scan : Scan)
     (loaded : LoadedPairs P) where
-  -- it asks, unless it has replied
+  -- it has an ask, unless it has replied
   pub scan_asks : (state : ScannerState) → ReliesState g c s m since scan loaded state → reply_in state ≡ None → IsSome (asks_in state)
   scan_asks (Copying stages.AtRoot) r going = refl
   scan_asks (Copying (stages.Looking root len room)) r going = refl
@@ -35,7 +35,7 @@ module _ {K P : Type 0} (g : Setting K P) (c : Coding K P) (s : Words P) (m : K 
   scan_asks Done r going = absurd cc
   scan_asks (Refused refused) r going = absurd cc
 
-  -- each slot was scanned, where it is done
+  -- if it is done, each slot was scanned
   pub scan_over : (state : ScannerState) → ReliesState g c s m since scan loaded state → reply_in state ≡ Some Reply_done → HasScanned g c s m since scan loaded
   scan_over Done r over = r
   scan_over (Copying stage) r over = absurd cc

@@ -40,7 +40,7 @@ use Rattle.papaya_core_store.specs.declared.scans.Scanning.{Scanning}
 use Rattle.papaya_core_store.specs.Scans.{PerformsScan}
 use Rattle.papaya_core_store.specs.declared.store.Mode.{Mode}
 
--- a slot that is looked at is one of its table
+-- a slot that the scan reads is one of its table
 looks_stands : (spot : Spot) → IsValidIn (looks spot)
 looks_stands spot = cond_both (nat_lt spot.slot spot.len) (Looking spot) Done IsValidIn (λ within. leb-true _ _ within) (λ _. tt)
 
@@ -66,7 +66,7 @@ meets_stands Retain spot word kinds.Marked stands = tt
 meets_stands Retain spot word kinds.Copied stands = tt
 meets_stands scan spot word kind stands = next_stands spot
 
--- whatever is told while nothing is copied
+-- after each answer while nothing is copied
 told_stands : (scan : Scan) (state : ScannerState) (answer : Call_answer) → IsValidIn state → IsValidIn (told scan state answer)
 told_stands scan AtRoot (Word root) stands = root_stands root
 told_stands scan (Sizing table) (Size slots limit) stands = looks_stands (record { table = table; len = slots; slot = 0 })
@@ -83,7 +83,7 @@ scanned_stands scan state (answers.Call answer) stands = told_stands scan state 
 scanned_stands scan state (answers.Hash hash) stands = stands
 scanned_stands scan state (answers.Count count) stands = stands
 
--- and where the copy of all leads
+-- and after the copy of all tables
 copied_stands : (from to : Stage) → resizers.IsValidIn to → IsValidIn (copied from to)
 copied_stands from stages.Done stands = root_stands (found_by from)
 copied_stands from (stages.Refused refused) stands = tt
@@ -110,7 +110,7 @@ module _ (scanner : Scanner) (stands : IsValidScanner scanner) (answer : Answer)
   state_stands Done h = scanned_stands scanner.scan Done answer h
   state_stands (Refused refused) h = scanned_stands scanner.scan (Refused refused) answer h
 
-  -- it stands after an answer
+  -- it is valid after an answer
   pub scanner_stands : IsValidScanner (after scanner answer)
   scanner_stands = record { chunked = stands.chunked; initial = stands.initial; state = state_stands scanner.state stands.state }
 
@@ -144,11 +144,11 @@ module _ {K V S A : Type 0} (eq : K → K → Bool) (says : Says K V A) (hash : 
   all_sized : AllSized store.words.tables
   all_sized = unnumbered store.words.tables core.sizes
 
-  -- where the words stay
+  -- if the words stay
   same_words : store'.words ≡ store.words → IsFit a → IsKeptAsked a store'
   same_words same fit = record { fit = fit; sized = subst (λ w. AllSized w.tables) (sym same) all_sized }
 
-  -- each ask leaves an answer that fits, and tables of their sizes
+  -- the answer to each ask fits, and keeps the sizes of tables
   kept_asked : (ask : ScanAsk) → ask_of v.scanner ≡ Some ask → PerformsScan eq says hash refuse ask store v a store' v' → IsKeptAsked a store'
   kept_asked (Copy ask) asks (performs, same) = performed_copy eq hash refuse ask store a store' all_sized (scanner_fits v.scanner stands ask asks) performs
   kept_asked (Show n) asks ((told, is, how), same) =

@@ -1,5 +1,5 @@
--- What a call of a closure does: the store stays the same, and of the call only its value and its
--- answers may change.
+-- The effect of a call of a closure: the store stays the same, and only the value and the answers
+-- of the call may change.
 use Rattle.std.proofs.Common.{◌≡◌, ℕ, Bool, Option, Some, ◌⊎◌, inl, inr, refl}
 use Rattle.papaya_call.specs.Answers.{Says, op_kind}
 use Rattle.papaya_call.specs.declared.ask.Answer.{Answer}
@@ -17,14 +17,14 @@ use Rattle.papaya_core_store.specs.declared.pairs.Part.{Part}
 use Rattle.papaya_core_store.specs.declared.pairs.Part.TheVariants.{Own}
 
 module _ {K V S A : Type 0} where
-  -- what a showing leaves
+  -- the effect of a call of a closure
   pub record IsShowing (Computes : Type 0) (s : StoreState K V S) (r : Running K V A) (a : Answer) (s' : StoreState K V S) (r' : Running K V A) : Type 0 where
     pub says : ((agrees : Bool) × (a ≡ Yes agrees)) ⊎ ((kind : OpKind) × (a ≡ Op kind)) ⊎ (a ≡ Ok_done)
     pub store : s' ≡ s
     pub call : (r' ≡ r) ⊎ ((v : Option (Part V)) × (x : A) × (r' ≡ record r { value = v; answers = Some x })
         × ((v ≡ r.value) ⊎ ((w : V) × (v ≡ Some (Own w)) × (a ≡ Op op_kinds.Insert) × Computes)))
 
-  -- where there is nothing to show, all stays
+  -- if there is no argument to call the closure with, all stays as it was
   nothing_shown : (s : StoreState K V S) (r : Running K V A) (a : Answer) (s' : StoreState K V S) (r' : Running K V A) → ShowsNothing a s r s' r'
       → (Computes : Type 0) → IsShowing Computes s r a s' r'
   nothing_shown s r a s' r' (is, stays) Computes = record { says = inr (inr is); store = stays.0; call = inl stays.1 }
@@ -49,7 +49,7 @@ module _ {K V S A : Type 0} where
         by_op ops.Remove is = inl refl
         by_op (ops.Abort t) is = inl refl
 
-    -- that there is none
+    -- a call of the closure with `None`
     pub none_shown : (s : StoreState K V S) (r : Running K V A) (a : Answer) (s' : StoreState K V S) (r' : Running K V A)
         → DecidesNone says s r a s' r' → IsShowing (Unit {0}) s r a s' r'
     none_shown s r a s' r' (inl (none, nothing)) = nothing_shown s r a s' r' nothing (Unit {0})

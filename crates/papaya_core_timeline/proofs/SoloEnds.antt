@@ -1,4 +1,4 @@
--- A call that is made alone comes to its end: each of its steps lowers a measure.
+-- A call that is made alone ends: each of its steps lowers a measure.
 use Rattle.std.proofs.Common.{◌≡◌, inl, inr, ℕ, ◌^◌, ◌<◌, Bool, true, Option, None, Some, List, [], ◌++◌, refl, sym, ◌∙◌, ap, subst}
 use Rattle.std.specs.Cmp.{IsEquivalence}
 use mathlib.Core.Path.{fun_ext}
@@ -83,7 +83,7 @@ module _ {K V A : Type 0} where
   begun_value : (call : Call K V A) (task : Task) → task_of_call call ≡ Some task → HasValue task (handed (value_of_call call))
   begun_value call task is = begins_with call task (task_is_own call task is)
 
--- and is to make no pair of what its closure answered, for it answered nothing
+-- and makes no pair of a result of its closure, which was not called yet
 begun_unpaired : (task : Task) (hash : ℕ) (mode : ResizeMode) (initial number : ℕ) (limit : Option ℕ)
     → IsToPair (started task hash mode initial number limit).call → ⊥
 begun_unpaired task hash mode initial number limit (inl (purpose, e)) = cc
@@ -95,7 +95,7 @@ begun_number None words = tt
 begun_number (Some most) words = tt
 
 module _ {K V S A : Type 0} (eq : K → K → Bool) (hash : S → K → ℕ) (s : CoreState K V S A) (law : IsLawfulKeys eq (hash s.store.hasher)) where
-  -- a call that begins alone is so
+  -- a call that begins alone is a lone call
   pub lone_begin : (call : Call K V A) (s' : CoreState K V S A) → s.callers ≡ [] → IsLawfulCore eq (hash s.store.hasher) s.store s.callers s.mode
       → (x : Begins (hash s.store.hasher) s 0 call s') → IsLoneWork eq hash s' (begun_work (hash s.store.hasher) s.mode s.initial x.number call)
   lone_begin call s' idle lawful x = by_work (begun_work (hash s.store.hasher) s.mode s.initial x.number call) refl
@@ -160,14 +160,14 @@ module _ {K V S A : Type 0} (eq : K → K → Bool) (hash : S → K → ℕ) (s 
     abbrev c : Coding K (Stored K V)
     c = coding_of (low (hash s.store.hasher))
 
-    -- what the step leaves
+    -- the effect of the step
     step : IsStep eq (hash s.store.hasher) law refuse s 0 s' event None x es call_traces
     step = kept_step eq (hash s.store.hasher) law refuse s 0 s' event None x refl es call_traces core kept
 
     core' : IsCore s'.store s'.callers s'.mode
     core' = advance-core eq says hash refuse s 0 s' event None x core
 
-    -- what is told of the call
+    -- the trace of the call
     abbrev call_trace : CallTrace K V
     call_trace = call_traces 0
 
@@ -194,7 +194,7 @@ module _ {K V S A : Type 0} (eq : K → K → Bool) (hash : S → K → ℕ) (s 
     words'_are : word_of g c then' ≡ word_at s'.store.words
     words'_are = fun_ext (λ at. ap (λ l. word_of g c (run l start) at) step.own.split ∙ step.kept.coded at)
 
-    -- the answer is told of them
+    -- the answer is recorded for them
     told : IsTrueOf g c call.key then (kind_of_ask x.before.machine) (follows_of x.before.machine) call_trace.loaded (ask_of x.before.machine) x.answer
         step.made step.loaded
     told = subst (λ l. IsTrueOf g c call.key (run l start) (kind_of_ask x.before.machine) (follows_of x.before.machine) call_trace.loaded
@@ -210,7 +210,7 @@ module _ {K V S A : Type 0} (eq : K → K → Bool) (hash : S → K → ℕ) (s 
     bounded = subst (λ l. IsBounded g (run l start)) (sym call.split)
         (kept_bounded eq (hash s.store.hasher) law s.mode s.store s.callers core es call_traces kept)
 
-    -- a pair that a closure is shown is in the log
+    -- a pair with which a closure is called is in the arena
     shows : (n : ℕ) → ask_of x.before.machine ≡ asks.Call (ShowPair n) → (p : Stored K V) × (pair_of s.store n ≡ Some p)
     shows n e =
         let (p, last, number, same, moment) = machine_shows g c call_trace.begun call_trace.since call.key hashed x.before.machine.call
@@ -224,7 +224,7 @@ module _ {K V S A : Type 0} (eq : K → K → Bool) (hash : S → K → ℕ) (s 
         x.before.machine.call call.relies.call n (call_asks x.before.machine (MakePairOf n) e).1 in
         (p, subst (λ m. pair_of s.store m ≡ Some p) number (call.last p last))
 
-    -- what is asked is served
+    -- each ask is served
     served : IsServedAsk x.before.machine.call.task (ask_of x.before.machine) x.answer
     served = ask_served eq says hash refuse s.store x.before x.answer s'.store x.later x.performs (core.valid 0 x.before x.was).call.state maker
         call.answers shows as_loaded (core.going 0 x.before x.was)
@@ -233,7 +233,7 @@ module _ {K V S A : Type 0} (eq : K → K → Bool) (hash : S → K → ℕ) (s 
     words : HasWords g (link_in x.before.machine.phase)
     words = link_words g s.store (λ t. refl) (link_in x.before.machine.phase) call.links
 
-    -- what it has read stands there
+    -- a word that it has read is unchanged
     read : IsCurrent (word_of g c then) x.before.machine
     read = subst (λ words. IsCurrent words x.before.machine) (sym words_are) current
 
@@ -257,7 +257,7 @@ module _ {K V S A : Type 0} (eq : K → K → Bool) (hash : S → K → ℕ) (s 
         (call_nears g c hashed call_trace.begun call_trace.since may bounded call.key x.before.machine call_trace.loaded call.relies words read
         x.answer step.made step.loaded told served (budget_of s.store) (budget_of s'.store) spends few (core'.valid 0 later runs)))
 
-    -- the call is alone still, and nearer its end
+    -- the call is still alone, and nearer its end
     pub nearer_from : IsNearer eq hash s x.before s'
     nearer_from = record {
       later = later;

@@ -35,7 +35,7 @@ module _ {K V S A H : Type 0} (eq : K → K → Bool) (input : K → List (List 
   timeline = lawful_timeline eq input build write finish classes respects whatever (Begin 0 call ∷ Finish 0 alone.steps ∷ []) 2 s s'
       (alone.last ∷ alone.before) lawful alone.runs
 
-  -- it did what the finite map does
+  -- its effect is that of the finite map
   pub alone_answered : IsAnswered eq call (map_of eq s) reply (map_of eq s')
   alone_answered =
       timeline_answered eq alone.steps (map_of eq s) (lookup_alike eq classes (λ (p : Stored K V). p.key) (content eq s.store)) over.events
@@ -44,7 +44,7 @@ module _ {K V S A H : Type 0} (eq : K → K → Bool) (input : K → List (List 
       over.history timeline.timeline)
       (λ j. sym (timeline.is_last j))
 
-  -- it logged a new pair, and no pair is gone from the log
+  -- it stored only a new pair, and every pair stays in the arena
   pub alone_logged : IsNewIn s.store reply × KeepsPairs s.store s'.store
   alone_logged = (over.unlogged, over.follows.keeps)
 

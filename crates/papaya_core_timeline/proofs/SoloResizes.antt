@@ -1,4 +1,4 @@
--- A call that resizes the map and is made alone comes to its end, and has then done what it is for.
+-- A call that resizes the map and is made alone ends, and has then done its task.
 use Rattle.std.proofs.Common.{◌≡◌, ℕ, ◌^◌, ◌+◌, ◌==◌, ◌<◌, ◌≤◌, Bool, true, Option, None, Some, List, ◌++◌, length, refl, sym, ◌∙◌, ap, subst, arith, eqb-true}
 use Rattle.std.specs.Cmp.{IsEquivalence}
 use mathlib.Core.Path.{fun_ext}
@@ -64,7 +64,7 @@ no_hash : {K V : Type 0} (hash : K → ℕ) (count : ℕ) (o : Option (Stored K 
 no_hash hash count None f = absurd cc
 no_hash hash count (Some p) f = absurd cc
 
--- only the count is answered by a count
+-- only an ask for the count has a count as its answer
 pub counts : {K V S : Type 0} (eq : K → K → Bool) (hash : S → K → ℕ) (refuse : Bool) (ask : CopyAsk) (s : StoreState K V S) (a : Answer)
     (s' : StoreState K V S) → PerformsCopy eq hash refuse ask s a s' → (count : ℕ) → a ≡ answers.Count count → (count ≡ count_of s.count.sum) × (s' ≡ s)
 counts eq hash refuse (copies.Load at) s a s' (is, same) count e = let f = sym is ∙ e in absurd cc
@@ -148,7 +148,7 @@ module _ {K V S A : Type 0} (eq : K → K → Bool) (hash : S → K → ℕ) (re
       (call_traces 0).loaded resizing_now.relies.mode resizing_now.relies.cut x.before.state resizing_now.relies.stage words read_now x.answer made
       loaded' told)
 
-  -- what was wanted is done
+  -- the task of the call is done
   pub done : reply ≡ Some Reply_done → HasResized (word_of g c (run made now)) g.size x.answer x.before.resize
   done ends = stage_ends g c now (call_traces 0).loaded x.before.mode x.before.initial x.before.number x.answer made loaded' x.before.resize
       x.before.state resizing_now.relies.stage read_now told (sym x.reply_is ∙ ends)
@@ -266,7 +266,7 @@ module _ {K V S A H : Type 0} (eq : K → K → Bool) (input : K → List (List 
             (falls eq (hash_of input build write finish) refuse s law s' event None x lone.lawful.core es call_traces kept read);
       }
 
-  -- and when it is done, what was wanted is so
+  -- and when it is done, its task is done
   pub resizer_done : (z : Resizer) → IsLoneResizer eq (hash_of input build write finish) s z
       → Resizes eq (hash_of input build write finish) refuse s 0 s' event (Some Reply_done) → IsResized z.resize s'.store
   resizer_done z lone x =

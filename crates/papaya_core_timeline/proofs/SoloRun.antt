@@ -1,4 +1,4 @@
--- The run of one call that is made alone: what it leaves of the core, and its history.
+-- The run of one call that is made alone: its effect on the core, and its history.
 use Rattle.std.proofs.Common.{◌≡◌, ◌⊎◌, inl, inr, ℕ, zero, suc, ◌≤◌, ◌<◌, ◌+ℤ◌, Bool, true, false}
 use Rattle.std.proofs.Common.{Option, None, Some, List, [], ◌∷◌, ◌++◌, length, refl, sym, ◌∙◌, ap}
 use Rattle.std.proofs.Common.{subst, arith}
@@ -75,7 +75,7 @@ of_step Other no_begin stays = tt
 of_step (Replied reply) no_begin stays = cc
 
 module _ {K V S : Type 0} where
-  -- under a number past the end of the log there is nothing
+  -- no pair has a number past the end of the arena
   past_log : (store : StoreState K V S) (n : ℕ) → length store.pairs ≤ n → pair_of store n ≡ None
   past_log store n past = by_pair (pair_of store n) refl
     where
@@ -89,7 +89,8 @@ one_seat work = record { caller = 0; work = work } ∷ []
 
 module _ {K V S A : Type 0} (eq : K → K → Bool) (hash : S → K → ℕ) (s : CoreState K V S A) (law : IsLawfulKeys eq (hash s.store.hasher))
     (says : Says K V A) where
-  -- A core that came of the core s by the steps of one call: it is in order, and its logs have grown.
+  -- A core that was reached from the core s by the steps of one call: it is in order, and its arena
+  -- has grown.
   pub record Follows (s' : CoreState K V S A) : Type 0 where
     pub es : List (Exchange (Stored K V))
     pub call_traces : ℕ → CallTrace K V
@@ -101,7 +102,7 @@ module _ {K V S A : Type 0} (eq : K → K → Bool) (hash : S → K → ℕ) (s 
     pub initial_is : s'.initial ≡ s.initial
     pub keeps : KeepsPairs s.store s'.store
     pub longer : length s.store.pairs ≤ length s'.store.pairs
-    -- the pairs that the call made were not logged at the begin
+    -- the pairs that the call made were not in the arena at the begin
     pub new : (q : Stored K V) → IsOneOf (call_traces 0).loaded.call.made q → length s.store.pairs ≤ q.number
 
   -- after the begin
@@ -122,7 +123,7 @@ module _ {K V S A : Type 0} (eq : K → K → Bool) (hash : S → K → ℕ) (s 
     new = λ q one. elim one [ ];
   }
 
-  -- the step that is told of a core
+  -- a step from such a core, with the traces after it
   abbrev step_of : (now s' : CoreState K V S A) (event : Event) (reply : Option Reply) (f : Follows now)
       (x : Advances eq says hash false now 0 s' event reply) → IsStep eq (hash s.store.hasher) law false now 0 s' event reply x f.es f.call_traces
   step_of now s' event reply f x = kept_step eq (hash s.store.hasher) law false now 0 s' event reply x (ap hash f.hasher_is) f.es f.call_traces f.core f.kept
@@ -159,7 +160,7 @@ module _ {K V S A : Type 0} (eq : K → K → Bool) (hash : S → K → ℕ) (s 
         new = new_after now s' event reply f x;
       }
 
-  -- so it is after a step of a resizer
+  -- the same for a step of a resizer
   follows_resize : (now s' : CoreState K V S A) (event : Event) (reply : Option Reply) → Follows now → Resizes eq hash false now 0 s' event reply → Follows s'
   follows_resize now s' event reply f x =
       let left = resize_left eq (hash s.store.hasher) law false now 0 s' event reply x (ap hash f.hasher_is) f.es f.call_traces f.core f.kept in
@@ -180,7 +181,7 @@ module _ {K V S A : Type 0} (eq : K → K → Bool) (hash : S → K → ℕ) (s 
         new = λ q made. f.new q (subst (λ l. IsOneOf l q) left.same_made made);
       }
 
-  -- and after one of a scanner, which makes no pair
+  -- and for one of a scanner, which makes no pair
   follows_scan : (now s' : CoreState K V S A) (event : Event) (reply : Option Reply) → Follows now → Scans eq says hash false now 0 s' event reply → Follows s'
   follows_scan now s' event reply f x =
       let then = scan_after eq (hash s.store.hasher) law says hash false now 0 s' event reply x (ap hash f.hasher_is) f.es f.call_traces f.core f.kept in
@@ -200,13 +201,13 @@ module _ {K V S A : Type 0} (eq : K → K → Bool) (hash : S → K → ℕ) (s 
         new = λ q made. f.new q (subst (λ (l : chain_told.LoadedPairs (Stored K V)). IsOneOf l.call.made q) then.own_made made);
       }
 
-  -- the pair that a call replies that it made was not logged at the begin
+  -- a pair that the call made, according to its reply, was not in the arena at the begin
   owned : (g : Setting K (Stored K V)) (first since : List (Exchange (Stored K V))) (k : K) (loaded : LoadedPairs (Stored K V)) (n : ℕ)
       → ((q : Stored K V) → IsOneOf loaded.made q → length s.store.pairs ≤ q.number)
       → IsMadePair g (coding_of (low (hash s.store.hasher))) first since k loaded n → pair_of s.store n ≡ None
   owned g first since k loaded n new (q, made, number) = past_log s.store n (let most = new q made in let same : q.number ≡ n = number in omega arith)
 
-  -- whatever it replies
+  -- for each reply
   unlogged_by : (g : Setting K (Stored K V)) (first since : List (Exchange (Stored K V))) (k : K) (loaded : LoadedPairs (Stored K V)) (task : Task)
       (reply : Reply) → ((q : Stored K V) → IsOneOf loaded.made q → length s.store.pairs ≤ q.number)
       → IsReply g (coding_of (low (hash s.store.hasher))) first since k loaded task reply → IsNewIn s.store reply
@@ -224,7 +225,7 @@ module _ {K V S A : Type 0} (eq : K → K → Bool) (hash : S → K → ℕ) (s 
   unlogged_by g first since k loaded task (Refused refused) new own = tt
   unlogged_by g first since k loaded _ _ new own = absurd own
 
-  -- so it is after the step that replies
+  -- the same after the step that replies
   unlogged_after : (now s' : CoreState K V S A) (event : Event) (reply : Reply) (f : Follows now)
       → Advances eq says hash false now 0 s' event (Some reply) → IsNewIn s.store reply
   unlogged_after now s' event reply f x =
@@ -267,7 +268,7 @@ module _ {K V S A : Type 0} (eq : K → K → Bool) (hash : S → K → ℕ) (s 
     pub history : h ≡ with_event 1 0 (Replied reply) (open_history events)
     pub unlogged : IsNewIn s.store reply
 
-  -- what the event of a step is
+  -- the event of a step
   event_of_step : (now s' : CoreState K V S A) (event : Event) (reply : Option Reply) → Advances eq says hash false now 0 s' event reply → IsOfStep event
   event_of_step now s' event reply x =
       let kind = kind_of_ask x.before.machine in
@@ -410,7 +411,7 @@ module _ {K V S A : Type 0} (eq : K → K → Bool) (hash : S → K → ℕ) (s 
       let f : None ≡ Some x.before = sym (ap (λ (l : List (Seat K V A)). scanning l 0) over.callers) ∙ x.was in absurd cc
   step_runs now s' h h' goes (inr (idle, (same, as_before))) = subst (λ y. Goes y h') (sym same) (subst (Goes now) (sym as_before) goes)
 
-  -- so many steps
+  -- `steps` steps
   steps_run : (steps : ℕ) (now s' : CoreState K V S A) (h h' : History) → Goes now h → StepsRun eq says hash 1 0 steps now h s' h' → Goes s' h'
   steps_run zero now s' h h' goes (same, as_before) = subst (λ y. Goes y h') (sym same) (subst (Goes now) (sym as_before) goes)
   steps_run (suc steps) now s' h h' goes (middle, so_far, runs, last) = step_runs middle s' so_far h' (steps_run steps now middle h so_far goes runs) last

@@ -28,7 +28,7 @@ use Rattle.papaya_core_store.specs.declared.scans.Scanning.{Scanning}
 module _ {K V S A H : Type 0} (eq : K → K → Bool) (input : K → List (List ℕ)) (build : S → H) (write : H → List ℕ → H) (finish : H → ℕ)
     (classes : IsEquivalence eq) (respects : (x y : K) → eq x y ≡ true → input x ≡ input y) (says : Says K V A) (refuse : Bool)
     (s s' : CoreState K V S A) (event : Event) where
-  -- keys are hashed so, and the law of them
+  -- keys are hashed with the hasher, and the law holds for them
   abbrev hashes : S → K → ℕ
   hashes = hash_of input build write finish
 
@@ -41,8 +41,8 @@ module _ {K V S A H : Type 0} (eq : K → K → Bool) (input : K → List (List 
 
   module _ (x : Scans eq says hashes refuse s 0 s' event None) (lawful : IsLawfulCore eq (hashes s.store.hasher) s.store s.callers s.mode)
       (read : IsScannerRead (word_at s.store.words) x.before.scanner) where
-    -- What it has read stands there still, and the measure has fallen: it relies on what is told of
-    -- it beside the core with its own call taken out. Where it was told nothing it has replied.
+    -- A word that it has read is unchanged, and the measure has fallen. It relies on its record in
+    -- the core without its own call. If its list could not grow, it has replied.
     nearer : IsScannerRead (word_at s'.store.words) (after x.before.scanner x.answer)
         × (scanner_measure (budget_of s'.store) (word_at s'.store.words) (after x.before.scanner x.answer) < scanner_measure (budget_of s.store)
         (word_at s.store.words) x.before.scanner)

@@ -1,4 +1,4 @@
--- What a clear or a retain did that was made alone, by the timeline of its run.
+-- The effect of a clear or a retain that was made alone, from the timeline of its run.
 use Rattle.std.proofs.Common.{◌≡◌, ◌⊎◌, inl, inr, ℕ, Bool, true, false, Option, None, Some, IsSome, List, [], ◌∷◌, refl, sym, ◌∙◌, ap, subst}
 use Rattle.std.proofs.lemmas.Bool.{cases_Bool}
 use Rattle.papaya_call_law.specs.Relies.{Change}
@@ -28,7 +28,7 @@ use Rattle.papaya_core_timeline.proofs.StepEvents.{copy_cases}
 use Rattle.papaya_call.specs.declared.chain.ask.ScanAsk.{ScanAsk}
 use Rattle.papaya_call.specs.declared.chain.ask.ScanAsk.TheVariants.{AddToShard, Copy, Given, Show}
 
--- what a scanner asks for the copy of all has the event of a copy's ask
+-- an ask of a scanner for the copy of all tables has the event of a copy's ask
 copied : (kind : Option StepKind) (ask : CopyAsk) (a : Answer) → event_of kind (asks.Copy ask) a ≡ event_of_scan kind (Copy ask) a
 copied kind ask (answers.Call answer) = refl
 copied kind ask (answers.Hash hash) = refl
@@ -70,7 +70,7 @@ no_begin (Gave n) of_step e = let f : false ≡ true = e in absurd cc
 no_begin Other of_step e = let f : false ≡ true = e in absurd cc
 no_begin (Replied reply) of_step e = of_step
 
--- what held at some moment held of a map
+-- a fact that held at some point held of some map
 some_map : {K V : Type 0} (P : Map K V → Type 0) (c : ℕ) (h : History) (maps : List (Map K V)) → AtSomeMoment P c h maps → (m : Map K V) × P m
 some_map P c [] maps x = elim x [ ]
 some_map P c (e ∷ h) [] x = elim x [ ]
@@ -91,7 +91,7 @@ none_came : (made : Change) (old : Option ℕ) (n : ℕ) → HasTaken made → m
 none_came made old n (inl none) e = let f : None ≡ Some (old, Some n) = sym none ∙ e in absurd cc
 none_came made old n (inr (o, is)) e = let f : None ≡ Some n = ap came_in (sym is ∙ e) in absurd cc
 
--- what is there has a number
+-- a pair that is there has a number
 numbered : {K V : Type 0} (went : Option _) (old : Option ℕ) → IsSome went → number_in {K = K} {V = V} went ≡ old → (o : ℕ) × (old ≡ Some o)
 numbered (Some p) old there is = (p.number, sym is)
 numbered None old there is = absurd cc
@@ -112,7 +112,7 @@ module _ {K V A : Type 0} (eq : K → K → Bool) (call : Call K V A) (steps : �
     | inr other ↦ inl (update.others j other)
   ]
 
-  -- how the maps stand after each step
+  -- how the maps are related after each step
   record Stood (h : History) (m : Map K V) : Type 0 where
     pub within : IsWithin start m
     pub taken : HasTaken (change_of 0 h)
@@ -157,7 +157,7 @@ module _ {K V A : Type 0} (eq : K → K → Bool) (call : Call K V A) (steps : �
       after Other of_step said legal so_far = stays (open_history events) (open_history (Other ∷ events)) m0 m refl so_far legal
       after (Replied reply) of_step said legal so_far = absurd of_step
 
-  -- what held of the map as the call began held of a map that is the one at the start
+  -- a fact about the map as the call began holds of a map that is the same as the one at the start
   at_begin : (P : Map K V → Type 0) (events : List Event) → AreOfSteps events → (m : Map K V) (maps : List (Map K V)) (said : Answered V)
       → Timeline eq (alone_schedule call steps) start (open_history events) (m ∷ maps) said → AtBegin P 0 (open_history events) (m ∷ maps)
       → (first : Map K V) × Same start first × P first
@@ -182,7 +182,7 @@ module _ {K V A : Type 0} (eq : K → K → Bool) (call : Call K V A) (steps : �
       (removes_none : (n : ℕ) (h : History) → WouldRemove call 0 n h → ⊥) (left : (m : Map K V) → IsWithin start m → IsLeftBy call start m)
       (h : History) (m m' : Map K V) (maps : List (Map K V)) (before : Stood h m) (same : Same m m')
       (done : FitsDone eq call 0 h (m ∷ maps) → IsDoneBy call start m') where
-    -- what such a call does is no reply
+    -- `Does` holds of no reply of such a call
     nothing_done : (reply : Reply) → AtSomeMoment (λ m. Does call (at_key m (key_of call)) reply (at_key m (key_of call))) 0 h (m ∷ maps) → ⊥
     nothing_done reply at =
         let (then, does) = some_map (λ m. Does call (at_key m (key_of call)) reply (at_key m (key_of call))) 0 h (m ∷ maps) at in
@@ -253,7 +253,7 @@ module _ {K V : Type 0} (A : Type 0) (eq : K → K → Bool) (steps : ℕ) (star
       (open_history events) m m' maps
       before same (λ done. further eq (Retain a) steps start (takes_retain a) m m' before.within (λ j. inl (same j))) reply fits
 
--- the timeline of a whole call that was made alone says what it did
+-- the timeline of a whole call that was made alone determines its effect
 module _ {K V A : Type 0} (eq : K → K → Bool) (steps : ℕ) (start : Map K V) (alike : (j k : K) → eq j k ≡ true → start j ≡ start k)
     (events : List Event) (are : AreOfSteps events) (reply : Reply) (last m' : Map K V) where
   abbrev Whole : Call K V A → List (Map K V) → Answered V → Type 0

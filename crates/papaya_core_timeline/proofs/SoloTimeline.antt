@@ -1,4 +1,4 @@
--- What a call did that was made alone, by the timeline of its run.
+-- The effect of a call that was made alone, from the timeline of its run.
 use Rattle.std.proofs.Common.{◌≡◌, ◌⊎◌, inl, inr, ℕ, Bool, true, cond, Option, None, Some, List, [], ◌∷◌, refl, sym, ◌∙◌, ap, subst}
 use Rattle.std.specs.Cmp.{IsEquivalence}
 use Rattle.papaya_words_law.specs.Content.{lookup}
@@ -51,7 +51,7 @@ abbrev pub open_history : List Event → History
 open_history [] = with_event 0 0 Begun []
 open_history (event ∷ events) = with_event 1 0 event (open_history events)
 
--- of changes that differ, one is not the other
+-- two different changes are not the same
 some_change : {A : Type 0} (x : A) (o : Option A) → o ≡ None → o ≡ Some x → ⊥
 some_change x o none some = let f : None ≡ Some x = sym none ∙ some in cc
 
@@ -62,7 +62,7 @@ reply_by (None, Some n) = Inserted n
 reply_by (Some o, Some n) = Replaced o n
 reply_by (Some o, None) = Removed o
 
--- a reply that changes the map is told by its change
+-- a reply that changes the map is determined by its change
 by_change : (r : Reply) (x : Option ℕ × Option ℕ) → change_of_reply r ≡ Some x → reply_by x ≡ r
 by_change (Inserted n) x e = let same : x ≡ (None, Some n) = cc in ap reply_by same
 by_change (Replaced o n) x e = let same : x ≡ (Some o, Some n) = cc in ap reply_by same
@@ -81,7 +81,7 @@ module _ {K V : Type 0} where
   AllSame start [] = Unit {0}
   AllSame start (m ∷ maps) = Same start m × AllSame start maps
 
-  -- what held of one of them held of a map that is this one
+  -- a fact about one of them holds of a map that is the same
   at_same : (start : Map K V) (P : Map K V → Type 0) (c : ℕ) (h : History) (maps : List (Map K V)) → AllSame start maps → AtSomeMoment P c h maps
       → (m : Map K V) × Same start m × P m
   at_same start P c [] maps same x = elim x [ ]
@@ -98,7 +98,7 @@ module _ {K V : Type 0} where
     others = λ j e. next j ∙ update.others j e ∙ first j;
   }
 
-  -- so it is of the class of a call's key
+  -- the same for the class of a call's key
   update_same_by : (eq : K → K → Bool) (k : Option K) (went came : Option (Stored K V)) (start m m' m'' : Map K V) → Same start m
       → IsUpdateBy eq k went came m m' → Same m' m'' → IsUpdateBy eq k went came start m''
   update_same_by eq None went came start m m' m'' first update next = update
@@ -129,7 +129,7 @@ IsSingle Clear = ⊥
 IsSingle (Retain a) = ⊥
 IsSingle call = Unit {0}
 
--- what is said of such a call
+-- the facts about such a call
 module _ {K V A : Type 0} (eq : K → K → Bool) where
   single_changes : (call : Call K V A) → IsSingle call → (made : Change) (k : K) (old new : Option (Stored K V))
       → MayChange eq (Some call) made k old new → (key_of call ≡ Some k) × (made ≡ None)
@@ -252,7 +252,7 @@ module _ {K V A : Type 0} (eq : K → K → Bool) (call : Call K V A) (one : IsS
         | inr once ↦ absurd (some_change (number_in once.went, number_in once.came) made (sym is ∙ none) once.made_is)
       ]
 
-  -- how it stands after each of them
+  -- how the call is related to the history after each of them
   stands : (events : List Event) → AreOfSteps events → (m : Map K V) (maps : List (Map K V)) (said : Answered V)
       → Timeline eq schedule start (open_history events) (m ∷ maps) said → Stands (change_of 0 (open_history events)) m maps
   stands [] are m [] said x = elim x [ ]
@@ -291,7 +291,7 @@ module _ {K V A : Type 0} (eq : K → K → Bool) (call : Call K V A) (one : IsS
       }
     ]
 
-    -- where the call changed nothing, the map at the end is the one at the start
+    -- if the call changed nothing, the map at the end is the one at the start
     unchanged : change_of 0 h ≡ None → Same start m'
     unchanged none = elim stood [
       | inl (_, all) ↦ (λ j. same j ∙ all.0 j)
@@ -305,11 +305,12 @@ module _ {K V A : Type 0} (eq : K → K → Bool) (call : Call K V A) (one : IsS
       | inr once ↦ absurd (some_change (number_in once.went, number_in once.came) (change_of 0 h) none once.made_is)
     ]
 
-    -- what the map had at some moment of a call that changed nothing, it had at the start
+    -- a fact about the map at some point of a call that changed nothing holds of a map that is the
+    -- same as at the start
     at_start : (P : Map K V → Type 0) → change_of 0 h ≡ None → AtSomeMoment P 0 h (m ∷ maps) → (m0 : Map K V) × Same start m0 × P m0
     at_start P none at = at_same start P 0 h (m ∷ maps) (all_same none) at
 
-    -- what the call does where the class of its key has this, it does at the start
+    -- an effect of the call on a map that is the same as at the start is its effect at the start
     does_at_start : (reply : Reply) (m0 : Map K V) → Same start m0 → Does call (at_key m0 (key_of call)) reply (at_key m0 (key_of call))
         → Does call (at_key start (key_of call)) reply (at_key start (key_of call))
     does_at_start reply m0 first does = subst (λ o. Does call o reply o) (at_same_key start m0 first (key_of call)) does
@@ -333,7 +334,7 @@ module _ {K V A : Type 0} (eq : K → K → Bool) (call : Call K V A) (one : IsS
         let (m0, first, does) = at_start (λ m. Does call (at_key m (key_of call)) reply (at_key m (key_of call))) none at in
         kept reply none (does_at_start reply m0 first does)
 
-    -- what a closure ends when it is shown what stands there, the call does where that stands
+    -- if its closure ends the call, the call has its effect on the map at the start
     does_as_shown : (reply : Reply) (shown : Option ℕ) (kind : OpKind) → change_of 0 h ≡ None → WasLastShown eq call reply shown kind 0 h (m ∷ maps)
         → Does call (at_key start (key_of call)) reply (at_key start (key_of call))
     does_as_shown reply shown kind none last =
@@ -360,7 +361,7 @@ module _ {K V A : Type 0} (eq : K → K → Bool) (call : Call K V A) (one : IsS
     fits_answered (Removed n) fits = changed (Removed n) (Some n, None) refl fits.0
     fits_answered (Kept n) fits = answered (Kept n) fits.0.0 fits.0.1
 
-  -- the timeline of the whole call says so
+  -- the timeline of the whole call determines this
   pub single_answered : ((j k : K) → eq j k ≡ true → start j ≡ start k) → (events : List Event) → AreOfSteps events
       → (reply : Reply) (last m' : Map K V) (maps : List (Map K V)) (said : Answered V)
       → Timeline eq schedule start (with_event 1 0 (Replied reply) (open_history events)) (last ∷ maps) said → Same last m' → IsAnswered eq call start reply m'

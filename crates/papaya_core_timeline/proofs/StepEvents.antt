@@ -106,7 +106,7 @@ copy_kind_in m (Copying_root (Lone slot settle)) ask e = settling_kind settle
 pub copy_kind : (m : Machine) (ask : CopyAsk) → ask_of m ≡ asks.Copy ask → IsCopyKind (kind_of_ask m)
 copy_kind m ask e = copy_kind_in m m.phase ask e
 
--- where an exchange was asked for a copy it changed no pair
+-- an exchange that was asked for a copy changed no pair of the map
 moved_cases : (P : Event → Type 0) → P Other → ((kind : StepKind) → P (Moved kind)) → (kind : Option StepKind) → IsCopyKind kind
     → (old new : ℕ) (answer : Call_answer) → P (answered_event kind old new answer)
 moved_cases P other moved kind copies old new answer = by_answer answer
@@ -154,17 +154,17 @@ copied_cases P other kind exchanged (MakeTable slots limit chunks) (answers.Call
 copied_cases P other kind exchanged ask (answers.Hash hash) = other
 copied_cases P other kind exchanged ask (answers.Count count) = other
 
--- of a kind that no machine asks for it would be a change of the map
+-- with a kind for which no copy asks, it would be a change of the map
 pub copy_cases : (P : Event → Type 0) → P Other → ((kind : StepKind) (old new : Option ℕ) → P (Changed kind old new))
     → ((kind : StepKind) → P (Moved kind)) → (kind : Option StepKind) (ask : CopyAsk) (answer : Answer) → P (event_of kind (asks.Copy ask) answer)
 copy_cases P other changed moved kind ask answer = copied_cases P other kind (calls.exchanged_cases P other changed moved kind) ask answer
 
--- what a machine asks for a copy leaves the map
+-- an ask for a copy leaves the map
 pub copy_moves : (P : Event → Type 0) → P Other → ((kind : StepKind) → P (Moved kind)) → (kind : Option StepKind) → IsCopyKind kind
     → (ask : CopyAsk) (answer : Answer) → P (event_of kind (asks.Copy ask) answer)
 copy_moves P other moved kind copies ask answer = copied_cases P other kind (moved_cases P other moved kind copies) ask answer
 
--- and so does what a resizer asks, also where it opens a table
+-- and so does an ask of a resizer, also if it opens a table
 open_moves : (P : Event → Type 0) → P Other → ((kind : StepKind) → P (Moved kind)) → (old new : ℕ) (answer : Call_answer)
     → P (answered_event (Some kinds.Open) old new answer)
 open_moves P other moved old new Exchanged = moved kinds.Open
@@ -201,12 +201,12 @@ event_open begun before kind (asks.Call ask) (answers.Count count) = refl
 event_open begun before kind (asks.Copy ask) answer = copy_cases (λ e. open_after e begun before ≡ before) refl (λ kind old new. refl) (λ kind. refl)
     kind ask answer
 
--- where a closure is shown something, the event is that of the call's ask
+-- if a closure is called, the event is that of the call's ask
 of_call : (kind : Option StepKind) (ask : Ask) (answer : Answer) (asked : Call_ask) (told : Call_answer) → ask ≡ asks.Call asked
     → answer ≡ answers.Call told → event_of kind ask answer ≡ call_event kind asked told
 of_call kind ask answer asked told showed said = ap (λ y. event_of kind y answer) showed ∙ ap (λ y. event_of kind (asks.Call asked) y) said
 
--- what the closure of a removal has answered after a step, it had answered before it or answers now
+-- a result of a removal's closure after a step was returned before it, or is returned in it
 pub step_asked : (c turn n : ℕ) (agrees : Bool) (kind : Option StepKind) (ask : Ask) (answer : Answer) (event : Event) (before : History)
     → event ≡ event_of kind ask answer → WasAsked c n agrees before ⊎ ((ask ≡ asks.Call (ShowPair n)) × (answer ≡ answers.Call (Yes agrees)))
     → WasAsked c n agrees (entry turn c event ∷ before)
@@ -215,13 +215,13 @@ step_asked c turn n agrees kind ask answer event before is (inl was) = asked-own
 step_asked c turn n agrees kind ask answer event before is (inr (showed, said)) = asked-now c turn n agrees event before
     (is ∙ of_call kind ask answer (ShowPair n) (Yes agrees) showed said)
 
--- the event of a showing to a compute's closure
+-- the event of a call of a compute's closure
 pub event_shown : (shown : Option ℕ) (op : OpKind) (kind : Option StepKind) (ask : Ask) (answer : Answer) → ask ≡ asks.Call (show shown)
     → answer ≡ answers.Call (Op op) → event_of kind ask answer ≡ Shown shown op
 event_shown shown op kind ask answer showed said = of_call kind ask answer (show shown) (Op op) showed said
     ∙ calls.event_shown shown op kind (show shown) (Op op) refl refl
 
--- what a closure has answered after a step, it had answered before it or answers now
+-- a result of a closure after a step was returned before it, or is returned in it
 pub step_answered : {V : Type 0} (c turn : ℕ) (shown : Option ℕ) (op : Operation V ℕ) (kind : Option StepKind) (ask : Ask) (answer : Answer)
     (event : Event) (before : History) (o : Option (Operation V ℕ)) (said : Answered V) → event ≡ event_of kind ask answer
     → WasAnswered c shown op before said ⊎ ((ask ≡ asks.Call (show shown)) × (answer ≡ answers.Call (Op (op_kind op))) × (o ≡ Some op))
@@ -231,7 +231,7 @@ step_answered c turn shown op kind ask answer event before o said is (inl was) =
 step_answered c turn shown op kind ask answer event before o said is (inr (showed, given, now)) = answered-now c turn shown op event before o said
     (is ∙ event_shown shown (op_kind op) kind ask answer showed given) now
 
--- that there is none a closure has been shown after a step only if it was before it, or is now
+-- a closure has been called with `None` after a step only if it was before, or is in this step
 pub event_none : (before : Bool) (kind : Option StepKind) (ask : Ask) (answer : Answer) → none_by (event_of kind ask answer) before ≡ true
     → (before ≡ true) ⊎ ((ask ≡ asks.Call ShowNone) × ((op : OpKind) × (answer ≡ answers.Call (Op op))))
 event_none before kind (asks.Call ask) (answers.Call told) e =
@@ -242,7 +242,7 @@ event_none before kind (asks.Call ask) (answers.Count count) e = inl e
 event_none before kind (asks.Copy ask) answer e = inl
     (sym (copy_cases (λ y. none_by y before ≡ before) refl (λ kind old new. refl) (λ kind. refl) kind ask answer) ∙ e)
 
--- a machine's event tells the change that it makes
+-- a machine's event records the change that it makes
 change_in_copy : (before : Change) (kind : Option StepKind) → IsCopyKind kind → (ask : CopyAsk) (answer : Answer)
     → change_by (event_of kind (asks.Copy ask) answer) before ≡ before
 change_in_copy before kind copies ask answer = copy_moves (λ e. change_by e before ≡ before) refl (λ kind. refl) kind copies ask answer
@@ -259,7 +259,7 @@ event_change before kind (asks.Copy ask) (answers.Call told) copies once = chang
 event_change before kind (asks.Copy ask) (answers.Hash hash) copies once = refl
 event_change before kind (asks.Copy ask) (answers.Count count) copies once = refl
 
--- where no change was made after an answer, none was made before it
+-- if no change has been made after an answer, none was made before it
 pub unchanged_before : (before : Change) (kind : Option StepKind) (ask : Ask) (answer : Answer)
     → ((at : At) (old new : ℕ) → ask ≡ asks.Call (Ask_exchange at old new) → before ≡ None) → changed_by kind ask answer before ≡ None → before ≡ None
 unchanged_before before kind (asks.Call ask) (answers.Call told) once e = calls.unchanged_before before kind ask told
@@ -281,7 +281,7 @@ pub record IsCopied {K P : Type 0} (g : Setting K P) (c : Coding K P) (s : State
   pub made : es ≡ by ∷ []
 
 module _ {K P : Type 0} (g : Setting K P) (c : Coding K P) (s : State P) (kind : Option StepKind) (follows : ℕ) (loaded : LoadedPairs P) where
-  -- what a copy is told is that it made an exchange, or that nothing was exchanged
+  -- an answer to a copy records one exchange that it made, or none
   pub copy_told : (ask : CopyAsk) (answer : Answer) (es : List (Exchange P)) (loaded' : LoadedPairs P)
       → IsTrueOfCopy g c s kind follows loaded ask answer es loaded' → (es ≡ []) ⊎ IsCopied g c s kind loaded.kept ask es
   copy_told (Load at) answer es loaded' h = inl h.1

@@ -36,7 +36,7 @@ use Rattle.papaya_call_law.specs.ScanAnswers.{IsBuried, IsFoundThere, IsTrueOfSc
 use Rattle.papaya_core_store.specs.declared.scans.Scanning.{Scanning}
 use Rattle.papaya_core_store.specs.Scans.{PerformsScan}
 
--- what is asked for a copy is told as a copy's events are
+-- an ask for a copy has the event of a copy's ask
 copied_event : (kind : Option StepKind) (ask : CopyAsk) (answer : Answer) → event_of_scan kind (Copy ask) answer ≡ event_of kind (asks.Copy ask) answer
 copied_event kind ask (answers.Call answer) = refl
 copied_event kind ask (answers.Hash hash) = refl
@@ -51,7 +51,7 @@ IsWithout state = ⊥
 module _ {K V : Type 0} (eq : K → K → Bool) (g : Setting K (Stored K V)) (c : Coding K (Stored K V)) (hashed : IsHashed g c) (s : Words (Stored K V))
     (since : List (Exchange (Stored K V))) (state : ScannerState) (loaded : LoadedPairs (Stored K V)) (event : Event) (es : List (Exchange (Stored K V)))
     (loaded' : LoadedPairs (Stored K V)) where
-  -- the map stays, and nothing is given or shown
+  -- the map stays, no pair is returned, and no closure is called
   pub record IsStill : Type 0 where
     pub quiet : IsQuiet event
     pub one : IsOne eq g c s loaded.copy (answers.Call Ok) es loaded.copy
@@ -59,7 +59,7 @@ module _ {K V : Type 0} (eq : K → K → Bool) (g : Setting K (Stored K V)) (c 
     pub shown : loaded'.shown ≡ loaded.shown
     pub before : (loaded'.before ≡ loaded.before) ⊎ ((loaded'.before ≡ since ++ es) × IsWithout state)
 
-  -- a pair is given
+  -- a pair is returned
   pub record IsGift : Type 0 where
     pub spot : Spot
     pub word : ℕ
@@ -70,7 +70,7 @@ module _ {K V : Type 0} (eq : K → K → Bool) (g : Setting K (Stored K V)) (c 
     pub none : es ≡ []
     pub handed : loaded' ≡ record loaded { given = pair ∷ loaded.given }
 
-  -- a pair is shown
+  -- the closure is called with a pair
   pub record IsShowing : Type 0 where
     pub spot : Spot
     pub word : ℕ
@@ -130,7 +130,7 @@ module _ {K V : Type 0} (eq : K → K → Bool) (g : Setting K (Stored K V)) (c 
           before = inl (ap (λ (h : LoadedPairs (Stored K V)). h.before) told.handed);
         })
 
-  -- what a scanner's step is
+  -- the kinds of steps of a scanner
   pub scan_step : (state : ScannerState) (ask : ScanAsk) → asks_in state ≡ Some ask → IsTrueOfScan g c s since state loaded answer es loaded' → Step state ask
   scan_step (Copying stage) ask e told = copy_stills stage (resizers.asks_in stage) refl ask e told
   scan_step AtRoot ask e told =
@@ -203,14 +203,14 @@ module _ {K V : Type 0} (eq : K → K → Bool) (g : Setting K (Stored K V)) (c 
   })
 
 module _ {K V S A : Type 0} (says : Says K V A) (s : StoreState K V S) (v v' : Scanning A) (event : Event) where
-  -- what a closure answered is what its answers give
+  -- the result of a closure is the one that its answers give
   pub record IsScanAnswering : Type 0 where
     pub left : (a' : A) → v'.answers ≡ Some a' → (a : A) × (v.answers ≡ Some a) × GivesIn says s event None a a'
     pub gave : asks_closure event ≡ true → (a' : A) × (v'.answers ≡ Some a')
 
 module _ {K V S A : Type 0} (eq : K → K → Bool) (says : Says K V A) (hash : S → K → ℕ) (refuse : Bool) (s : StoreState K V S) (v : Scanning A)
     (answer : Answer) (s' : StoreState K V S) (v' : Scanning A) (kind : Option StepKind) where
-  -- an event that asks nothing leaves the answers as they are
+  -- an event that calls no closure leaves the answers as they are
   unasked : (event : Event) → v'.answers ≡ v.answers → ((a : A) → GivesIn says s' event None a a) → asks_closure event ≡ false
       → IsScanAnswering says s' v v' event
   unasked event same gives none = record {

@@ -1,5 +1,5 @@
--- What a step's event says about its ask and the answer, what a closure returned in it, and which
--- value the call has after it. A copy calls no closure, and leaves the call as it was.
+-- The event of a step describes its ask and the answer, the result of a closure in it, and the
+-- value that the call has after it. A copy calls no closure, and leaves the call as it was.
 use Rattle.std.proofs.Common.{◌≡◌, ◌⊎◌, inl, inr, ⊎_elim, ℕ, Bool, true, false, Option, List, ◌∷◌, refl, sym, ◌∙◌, ap, subst}
 use Rattle.papaya_call.specs.Answers.{Says}
 use Rattle.papaya_call.specs.declared.ask.At.{At}
@@ -34,7 +34,8 @@ use Rattle.papaya_core_store.specs.Pairs.{value_at}
 use Rattle.papaya_core_store.specs.Performs.{own_value}
 use Rattle.papaya_core_timeline.proofs.StoreLemmas.{copy_pairs}
 
--- what an event tells: a change was asked for by the call itself, and a closure was shown something and answered; no step begins a call or is a reply
+-- the description by an event: the call itself asked for a change, or a closure was called and
+-- returned; no step begins a call or is a reply
 abbrev pub Tells : Event → Ask → Answer → Type 0
 Tells (events.Changed kind old new) ask answer = (at : At) × (from : ℕ) × (to : ℕ) × (ask ≡ asks.Call (Ask_exchange at from to))
 Tells (events.Asked n agrees) ask answer = (ask ≡ asks.Call (ShowPair n)) × (answer ≡ answers.Call (Yes agrees))
@@ -45,7 +46,7 @@ Tells events.Begun ask answer = ⊥
 Tells (events.Gave n) ask answer = ⊥
 Tells (events.Replied reply) ask answer = ⊥
 
--- what is told of an ask of the call
+-- the description of an ask of the call
 of_call : (e : Event) (ask : Call_ask) (told : Call_answer) → calls.Tells e ask told → Tells e (asks.Call ask) (answers.Call told)
 of_call (events.Changed kind old new) ask told (at, from, to, is) = (at, from, to, ap asks.Call is)
 of_call (events.Asked n agrees) ask told (is, said) = (ap asks.Call is, ap answers.Call said)
@@ -66,12 +67,12 @@ tells kind (asks.Copy ask) answer copies = copy_moves (λ e. Tells e (asks.Copy 
 pub event_tells : (m : Machine) (answer : Answer) → Tells (event_of (kind_of_ask m) (ask_of m) answer) (ask_of m) answer
 event_tells m answer = tells (kind_of_ask m) (ask_of m) answer (copy_kind m)
 
--- a copy asks no closure
+-- a copy calls no closure
 unasked : (kind : Option StepKind) (ask : CopyAsk) (answer : Answer) → asks_closure (event_of kind (asks.Copy ask) answer) ≡ false
 unasked kind ask answer = copy_cases (λ e. asks_closure e ≡ false) refl (λ kind old new. refl) (λ kind. refl) kind ask answer
 
 module _ {K V S A : Type 0} (eq : K → K → Bool) (says : Says K V A) (hash : S → K → ℕ) (refuse : Bool) where
-  -- what a closure answered in a step
+  -- the result of a closure in a step
   pub answering : (kind : Option StepKind) (s : StoreState K V S) (r : Running K V A) (a : Answer) (s' : StoreState K V S) (r' : Running K V A)
       (ask : Ask) → PerformsAsk eq says hash refuse ask s r a s' r' → IsAnswering says s' r r' (event_of kind ask a)
   answering kind s r a s' r' (asks.Call ask) (told, is, performs) = subst (λ y. IsAnswering says s' r r' (event_of kind (asks.Call ask) y)) (sym is)
@@ -81,7 +82,7 @@ module _ {K V S A : Type 0} (eq : K → K → Bool) (says : Says K V A) (hash : 
       (λ asking. let f : false ≡ true = sym (unasked kind ask a) ∙ asking in absurd cc) (ap (λ (z : Running K V A). z.answers) as_was)
 
   module _ (s : StoreState K V S) (r : Running K V A) (a : Answer) (s' : StoreState K V S) (r' : Running K V A) where
-    -- the value of the call is that of before, or a closure answered
+    -- the value of the call is the one of before, or a closure returned
     abbrev pub AtHand : Ask → Type 0
     AtHand ask = calls.SameValue eq says refuse s r (Yes false) s' r'
         ⊎ ((shown : Option ℕ) × (op : OpKind) × (ask ≡ asks.Call (show shown)) × (a ≡ answers.Call (Op op)))
@@ -99,7 +100,7 @@ module _ {K V S A : Type 0} (eq : K → K → Bool) (says : Says K V A) (hash : 
         inl (λ v h. same ∙ h, λ valued v h. sym same ∙ h)
 
 module _ {K P : Type 0} (g : Setting K P) (c : Coding K P) (k : K) (s : State P) (kind : Option StepKind) (follows : ℕ) (loaded : LoadedPairs P) where
-  -- a pair that was made is at the head of those that the machine was told of
+  -- a pair that was made is the first of those recorded for the machine
   pub told_made : (asked : Call_ask) (ask : Ask) (a : Answer) (es : List (Exchange P)) (loaded' : LoadedPairs P) (n : ℕ) → ask ≡ asks.Call asked
       → MakesPair asked → a ≡ answers.Call (Made_number n) → IsTrueOf g c k s kind follows loaded ask a es loaded' → (q : P) × (c.number q ≡ n)
       × (loaded'.call.made ≡ q ∷ loaded.call.made)

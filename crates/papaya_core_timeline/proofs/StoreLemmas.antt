@@ -41,17 +41,18 @@ use Rattle.papaya_core_store.specs.Performs.{size_of}
 use Rattle.papaya_call.specs.declared.ask.Answer.TheVariants.{Made as Made_number, Ok as Ok_told, Refused as Was_refused}
 use Rattle.papaya_words.specs.declared.refused.Refused.TheVariants.{Memory, Capacity}
 
--- what a test of two facts chose
+-- the branch of a test of two facts
 pub matched : (R : Type 0) (b : Bool) (P Q : Type 0) → MatchBool b P Q → (b ≡ true → P → R) → (b ≡ false → Q → R) → R
 matched R true P Q h f g = f refl h
 matched R false P Q h f g = g refl h
 
 module _ {K V S A : Type 0} (s : StoreState K V S) (r : Running K V A) (a : Answer) (s' : StoreState K V S) (r' : Running K V A) where
-  -- Nothing was logged: that was refused, there was nothing to log, or it goes into the log with a pair.
+  -- No pair was stored in the arena: the store was refused, there was nothing to store, or the part
+  -- is to be stored with a pair.
   abbrev pub IsNotStored : Type 0
   IsNotStored = (a ≡ Was_refused Memory) ⊎ (a ≡ Was_refused Capacity) ⊎ (a ≡ Ok_told) ⊎ (a ≡ Made_number 0)
 
-  -- what an ask for a key, a value or a pair leaves
+  -- the effect of an ask for a key, a value or a pair
   abbrev pub LogsOrNot : Type 0
   LogsOrNot = (IsNotStored × Stays s r s' r') ⊎ ((key : Part K) × (left : Part K) × PushesPair key left a s r s' r')
 
@@ -73,7 +74,7 @@ module _ {K V S A : Type 0} (s : StoreState K V S) (r : Running K V A) (a : Answ
       by_cases (inr (inl (has, stays))) = inl (inr (inr (inl has.0)), stays)
       by_cases (inr (inr logs)) = inr (r.key, Logged (brought_by (length s.pairs) r.key), logs)
 
-  -- and one of another's
+  -- and one of another pair's key
   pub of_logs : (refuse : Bool) (n : ℕ) → MakesOr refuse a s r s' r'
       ((Refuses MAX_LOG_LEN (length s.pairs) a × Stays s r s' r') ⊎ (HasNoPairOf n a s r × Stays s r s' r') ⊎ PushesOf n a s r s' r') → LogsOrNot
   of_logs refuse n h = matched LogsOrNot refuse _ _ h (λ _ none. inl (inl none.0, none.1)) (λ _ makes. by_cases makes)
@@ -200,7 +201,7 @@ module _ {K V S : Type 0} where
   quiet : (a : Answer) (s s' : StoreState K V S) → IsFit a → s' ≡ s → AllSized s.words.tables → IsKept a s'
   quiet a s s' fit same all = record { fit = fit; sized = subst (λ (y : StoreState K V S). AllSized y.words.tables) (sym same) all }
 
-  -- what a closure says is within the limits
+  -- a result of a closure is within the limits
   said_fit : {A Computes : Type 0} (s : StoreState K V S) (r : Running K V A) (a : Answer) (s' : StoreState K V S) (r' : Running K V A)
       → IsShowing Computes s r a s' r' → AllSized s.words.tables → IsKept a s'
   said_fit s r a s' r' shown all = quiet a s s'
@@ -220,7 +221,7 @@ module _ {K V S : Type 0} where
     sized = subst (λ (y : StoreState K V S). AllSized y.words.tables) (sym same) (append-sized s.words.tables _ slots limit chunks size all);
   }
 
-  -- the size that is answered of a table is that of a table
+  -- the size in the answer is one that a table may have
   sized_answer : (a : Answer) (s : StoreState K V S) (n : ℕ) → AllSized s.words.tables → a ≡ size_of (table_of s.words.tables n) → IsFit a
   sized_answer a s n all e = by_table (table_of s.words.tables n) refl
     where
@@ -260,7 +261,7 @@ module _ {K V S A : Type 0} (eq : K → K → Bool) (says : Says K V A) where
   made_fit s r a s' r' all (inr (key, left, (value, has, e, few, same, moved))) =
       record { fit = said a _ e few; sized = subst (λ (y : StoreState K V S). AllSized y.words.tables) (sym same) all }
 
-  -- what an answered ask leaves
+  -- the effect of an answered ask
   pub performed : (refuse : Bool) (ask : Ask) (s : StoreState K V S) (r : Running K V A) (a : Answer) (s' : StoreState K V S) (r' : Running K V A)
       → AllSized s.words.tables → IsFitAsk ask → Performs eq says refuse ask s r a s' r' → IsKept a s'
   performed refuse (Load at) s r a s' r' all fit (e, stays) = quiet a s s' (said a _ e tt) stays.0 all
@@ -284,17 +285,17 @@ module _ {K V S A : Type 0} (eq : K → K → Bool) (says : Says K V A) where
   performed refuse (Ask_done reply) s r a s' r' all fit (e, stays) = quiet a s s' (said a _ e tt) stays.0 all
 
 module _ {K V S : Type 0} where
-  -- The same of an answer over a chain.
+  -- The same for an answer over a chain.
   pub record IsKeptAsked (a : Chain_answer) (s' : StoreState K V S) : Type 0 where
     pub fit : machine.IsFit a
     pub sized : AllSized s'.words.tables
 
-  -- it is told as a call is told
+  -- if an answer to the call is within the limits, so is the same answer over a chain
   as_call : (a : Chain_answer) (told : Answer) (s' : StoreState K V S) → a ≡ answers.Call told → IsKept told s' → IsKeptAsked a s'
   as_call a told s' is kept = record { fit = subst machine.IsFit (sym is) kept.fit; sized = kept.sized }
 
   module _ (eq : K → K → Bool) (hash : S → K → ℕ) where
-    -- what an answered ask of a copier leaves
+    -- the effect of an answered ask of a copier
     pub performed_copy : (refuse : Bool) (ask : CopyAsk) (s : StoreState K V S) (a : Chain_answer) (s' : StoreState K V S) → AllSized s.words.tables
         → IsFitCopyAsk ask → PerformsCopy eq hash refuse ask s a s' → IsKeptAsked a s'
     performed_copy refuse (copies.Load at) s a s' all fit (e, same) = as_call a _ s' e (quiet _ s s' tt same all)
@@ -321,7 +322,7 @@ module _ {K V S : Type 0} where
         (λ _ none. quiet told s s' (said told _ none.0 tt) none.1 all)
         (λ _ makes. table_made slots limit chunks s told s' all fit makes))
 
-    -- and what an answered ask of a machine leaves
+    -- and the effect of an answered ask of a machine
     pub performed_ask : {A : Type 0} (says : Says K V A) (refuse : Bool) (ask : Chain_ask) (s : StoreState K V S) (r : Running K V A)
         (a : Chain_answer) (s' : StoreState K V S) (r' : Running K V A) → AllSized s.words.tables → machine.IsFitAsk ask
         → PerformsAsk eq says hash refuse ask s r a s' r' → IsKeptAsked a s'
@@ -330,7 +331,7 @@ module _ {K V S : Type 0} where
     performed_ask says refuse (chain_asks.Copy ask) s r a s' r' all fit (h, same) = performed_copy refuse ask s a s' all fit h
 
 module _ {K V S : Type 0} (eq : K → K → Bool) (hash : S → K → ℕ) (refuse : Bool) where
-  -- a copy leaves the log
+  -- a copy leaves the arena
   pub copy_pairs : (ask : CopyAsk) (s : StoreState K V S) (a : Chain_answer) (s' : StoreState K V S) → PerformsCopy eq hash refuse ask s a s'
       → s'.pairs ≡ s.pairs
   copy_pairs (copies.Load at) s a s' (e, same) = ap (λ (y : StoreState K V S). y.pairs) same

@@ -1,5 +1,5 @@
--- What the event of an ask of a call says about the ask and the answer, what a closure returned,
--- and which value the call has after it.
+-- The event of an ask of a call describes the ask and the answer, the result of a closure, and the
+-- value that the call has after it.
 use Rattle.std.proofs.Common.{◌≡◌, ◌⊎◌, inl, inr, ⊎_elim, ℕ, ◌==◌, Bool, true, false, Option, None, Some, List, ◌∷◌, refl, sym, ◌∙◌, ap, subst}
 use Rattle.papaya_call.specs.Answers.{Says, op_kind}
 use Rattle.papaya_call.specs.declared.answers.Operation.{Operation}
@@ -40,7 +40,8 @@ use Rattle.papaya_core_timeline.proofs.StoreLemmas.{LogsOrNot, matched, of_logs,
 use Rattle.papaya_core_store.proofs.Logs.{value_logged}
 use Rattle.papaya_core_store.specs.Tables.{word_at}
 
--- what an event tells: a change was asked for, and a closure was shown something and answered; no step begins a call or is a reply
+-- the description by an event: a change was asked for, or a closure was called and returned; no
+-- step begins a call or is a reply
 abbrev pub Tells : Event → Ask → Answer → Type 0
 Tells (events.Changed kind old new) ask answer = (at : At) × (from : ℕ) × (to : ℕ) × (ask ≡ Ask_exchange at from to)
 Tells (events.Asked n agrees) ask answer = (ask ≡ ShowPair n) × (answer ≡ Yes agrees)
@@ -117,7 +118,7 @@ event_tells kind (MakeTable slots limit chunks) answer = tt
 event_tells kind (AddToShard by) answer = tt
 event_tells kind (Ask_done reply) answer = tt
 
--- is a closure shown something?
+-- is the ask a call of a closure?
 abbrev is_showing : Ask → Bool
 is_showing ShowNone = true
 is_showing (ShowPair n) = true
@@ -139,7 +140,7 @@ is_show : (shown : Option ℕ) → is_showing (show shown) ≡ true
 is_show None = refl
 is_show (Some n) = refl
 
--- an event that is no showing has no operation
+-- an event that is no call of a closure has no operation
 unanswered : (V : Type 0) (e : Event) → ((shown : Option ℕ) (kind : OpKind) → e ≡ events.Shown shown kind → ⊥) → IsAnsweredIn {V = V} e None
 unanswered V events.Begun none = refl
 unanswered V (events.Changed kind old new) none = refl
@@ -150,7 +151,7 @@ unanswered V events.Other none = refl
 unanswered V (events.Gave n) none = refl
 unanswered V (events.Replied reply) none = refl
 
--- an event at which a closure is asked tells that it was shown something, and what it answered
+-- an event of a closure call describes its argument and its result
 asked : (e : Event) (ask : Ask) (answer : Answer) → Tells e ask answer → asks_closure e ≡ true → (is_showing ask ≡ true)
     × (((agrees : Bool) × (answer ≡ Yes agrees)) ⊎ ((op : OpKind) × (answer ≡ Op op)))
 asked events.Begun ask answer told asks = absurd told
@@ -162,7 +163,8 @@ asked events.Other ask answer told asks = absurd cc
 asked (events.Gave n) ask answer told asks = absurd told
 asked (events.Replied reply) ask answer told asks = absurd told
 
--- what a closure answered in a step, if it was shown something, and what is at hand and left of its answers after it
+-- the result of a closure in a step, if it was called, and the value and the answers that the call
+-- has after it
 pub record IsAnswering {K V S A : Type 0} (says : Says K V A) (store : StoreState K V S) (r r' : Running K V A) (event : Event) : Type 0 where
   pub answered : Option (Operation V ℕ)
   pub fits : IsAnsweredIn event answered
@@ -171,7 +173,7 @@ pub record IsAnswering {K V S A : Type 0} (says : Says K V A) (store : StoreStat
   pub gave : asks_closure event ≡ true → (a' : A) × (r'.answers ≡ Some a')
 
 module _ {K V S A : Type 0} (says : Says K V A) (store : StoreState K V S) where
-  -- where no closure is asked its answers stay
+  -- if no closure is called, its answers stay
   unasked : (e : Event) (answered : Option (Operation V ℕ)) (a : A) → (asks_closure e ≡ true → ⊥) → GivesIn says store e answered a a
   unasked events.Begun answered a none = refl
   unasked (events.Changed kind old new) answered a none = refl
@@ -184,7 +186,7 @@ module _ {K V S A : Type 0} (says : Says K V A) (store : StoreState K V S) where
 
 module _ {K V S A : Type 0} (eq : K → K → Bool) (says : Says K V A) (refuse : Bool) where
   module _ (kind : Option StepKind) (s : StoreState K V S) (r : Running K V A) (a : Answer) (s' : StoreState K V S) (r' : Running K V A) where
-    -- no closure was asked
+    -- no closure was called
     pub silent : (event : Event) → (asks_closure event ≡ true → ⊥) → r'.answers ≡ r.answers → IsAnswering says s' r r' event
     silent event none stays = record {
       answered = None;
@@ -248,7 +250,7 @@ module _ {K V S A : Type 0} (eq : K → K → Bool) (says : Says K V A) (refuse 
     not_shown ask unshown stays = silent (call_event kind ask a)
         (λ asks. let f : false ≡ true = sym unshown ∙ (asked (call_event kind ask a) ask a (event_tells kind ask a) asks).0 in cc) stays
 
-    -- what is made leaves the answers
+    -- an ask that makes something leaves the answers
     as_was : r' ≡ r → r'.answers ≡ r.answers
     as_was same = ap (λ (z : Running K V A). z.answers) same
 
@@ -288,7 +290,7 @@ module _ {K V S A : Type 0} (eq : K → K → Bool) (says : Says K V A) (refuse 
     answering (Ask_done reply) h = not_shown (Ask_done reply) refl (as_was h.1.1)
 
   module _ (s : StoreState K V S) (r : Running K V A) (a : Answer) (s' : StoreState K V S) (r' : Running K V A) where
-    -- the value of the call is that of before, or a closure answered
+    -- the value of the call is the one of before, or a closure returned
     abbrev pub SameValue : Type 0
     SameValue = ((v : V) → own_value s r ≡ Some v → own_value s' r' ≡ Some v)
         × (((part : Part V) → r.value ≡ Some part → (w : V) × (value_in s.pairs part ≡ Some w)) → (v : V) → own_value s' r' ≡ Some v → own_value s r ≡ Some v)
@@ -296,7 +298,7 @@ module _ {K V S A : Type 0} (eq : K → K → Bool) (says : Says K V A) (refuse 
     abbrev pub AtHand : Ask → Type 0
     AtHand ask = SameValue ⊎ ((shown : Option ℕ) × (op : OpKind) × (ask ≡ show shown) × (a ≡ Op op))
 
-    -- where the log is the same, or longer
+    -- if the arena is the same, or longer
     kept : (ask : Ask) → s'.pairs ≡ s.pairs → r'.value ≡ r.value → AtHand ask
     kept ask log value = let same : own_value s' r' ≡ own_value s r = ap (λ l. value_at l r'.value) log ∙ ap (value_at s.pairs) value in
         inl (λ v h. same ∙ h, λ valued v h. sym same ∙ h)
@@ -358,7 +360,7 @@ module _ {K P : Type 0} (g : Setting K P) (c : Coding K P) (k : K) (s : State P)
   number_made : (q : P) (n : ℕ) → Made_number (c.number q) ≡ Made_number n → c.number q ≡ n
   number_made q n e = cc
 
-  -- a pair that was made is at the head of those that the machine was told of
+  -- a pair that was made is the first of those recorded for the machine
   pub told_made : (ask : Ask) (a : Answer) (es : List (Exchange P)) (loaded' : LoadedPairs P) (n : ℕ) → MakesPair ask → a ≡ Made_number n
       → IsTrueOf g c k s kind loaded ask a es loaded' → (q : P) × (c.number q ≡ n) × (loaded'.made ≡ q ∷ loaded.made)
   told_made MakePair a es loaded' n makes is (inl (inl (why, e), quiet)) = let f = sym is ∙ e in absurd cc

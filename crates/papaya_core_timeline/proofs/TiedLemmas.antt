@@ -62,7 +62,7 @@ use Rattle.papaya_core_timeline.proofs.TimelineLemmas.{asked-other, at_weaker, c
 use Rattle.papaya_core_timeline.proofs.TimelineLemmas.{not_begin-other, was_shown_none-other}
 use Rattle.papaya_core_store.specs.declared.store.Mode.{Mode}
 
--- the value of a call, where the log is as long or longer
+-- the value of a call, if the arena is as long or longer
 pub value_forth : {K V : Type 0} (log log' : List (Pair K V)) → ((at : Part V) (v : V) → value_in log at ≡ Some v → value_in log' at ≡ Some v)
     → (value : Option (Part V)) (v : V) → value_at log value ≡ Some v → value_at log' value ≡ Some v
 value_forth log log' stay None v e = let f : None ≡ Some v = e in absurd cc
@@ -75,21 +75,22 @@ value_back log log' stay None valued v e = let f : None ≡ Some v = e in cc
 value_back log log' stay (Some part) valued v e = let (w, there) = valued part refl in there ∙ sym (stay part w there) ∙ e
 
 module _ {K V S : Type 0} where
-  -- No key and no value is gone from the log.
+  -- Every key and every value stays in the arena.
   pub record KeepsParts (s s' : StoreState K V S) : Type 0 where
     pub keys : (at : Part K) (k : K) → key_in s.pairs at ≡ Some k → key_in s'.pairs at ≡ Some k
     pub values : (at : Part V) (v : V) → value_in s.pairs at ≡ Some v → value_in s'.pairs at ≡ Some v
 
-  -- the log is the same
+  -- the arena is the same
   pub same_parts : (s s' : StoreState K V S) → s'.pairs ≡ s.pairs → KeepsParts s s'
   same_parts s s' same = record { keys = λ at k e. ap (λ l. key_in l at) same ∙ e; values = λ at v e. ap (λ l. value_in l at) same ∙ e }
 
 module _ {K V S A : Type 0} where
-  -- what a call has to store is there
+  -- the value that a call is to store is there
   abbrev pub IsValued : StoreState K V S → Running K V A → Type 0
   IsValued s r = (part : Part V) → r.value ≡ Some part → (v : V) × (value_in s.pairs part ≡ Some v)
 
-  -- What a step leaves of the log: no pair is gone, and a value comes only of a compute's closure.
+  -- The effect of a step on the arena: every pair stays, and a new value comes only from a
+  -- compute's closure.
   pub record HasMoreLogs (s : StoreState K V S) (r : Running K V A) (s' : StoreState K V S) (r' : Running K V A) : Type 0 where
     pub hasher_is : s'.hasher ≡ s.hasher
     pub keys_stay : (at : Part K) (k : K) → key_in s.pairs at ≡ Some k → key_in s'.pairs at ≡ Some k
@@ -97,7 +98,7 @@ module _ {K V S A : Type 0} where
     pub pairs_stay : KeepsPairs s s'
     pub value_stays : IsValued s r → (v : V) → own_value s' r' ≡ Some v → (own_value s r ≡ Some v) ⊎ (r.machine.call.task ≡ tasks.Compute)
 
-  -- the log is as it was
+  -- the arena is as it was
   unlogged : (s : StoreState K V S) (r : Running K V A) (s' : StoreState K V S) (r' : Running K V A) → s'.hasher ≡ s.hasher → s'.pairs ≡ s.pairs
       → ((v : V) → own_value s' r' ≡ Some v → (own_value s r ≡ Some v) ⊎ (r.machine.call.task ≡ tasks.Compute)) → HasMoreLogs s r s' r'
   unlogged s r s' r' hasher pairs value = record {
@@ -108,7 +109,7 @@ module _ {K V S A : Type 0} where
     value_stays = λ valued v e. value v e;
   }
 
-  -- words alone were written
+  -- only words were written
   words_changed : (s : StoreState K V S) (r : Running K V A) (s' : StoreState K V S) (r' : Running K V A) → s'.hasher ≡ s.hasher → s'.pairs ≡ s.pairs
       → r'.value ≡ r.value → HasMoreLogs s r s' r'
   words_changed s r s' r' hasher pairs value = unlogged s r s' r' hasher pairs
@@ -118,7 +119,7 @@ module _ {K V S A : Type 0} where
   still s r s' r' same as_was = words_changed s r s' r' (ap (λ (y : StoreState K V S). y.hasher) same) (ap (λ (y : StoreState K V S). y.pairs) same)
       (ap (λ (y : Running K V A). y.value) as_was)
 
-  -- a key, a value or a pair was asked for
+  -- an ask for a key, a value or a pair
   made : (s : StoreState K V S) (r : Running K V A) (a : Call_answer) (s' : StoreState K V S) (r' : Running K V A) → LogsOrNot s r a s' r'
       → HasMoreLogs s r s' r'
   made s r a s' r' (inl (none, stays)) = still s r s' r' stays.0 stays.1
@@ -136,13 +137,13 @@ module _ {K V S A : Type 0} where
             inl (before ∙ sym (value_logged s r s' r' key left a w before logs) ∙ later);
       }
 
-  -- a compute's closure answered
+  -- a compute's closure returned
   decided : (says : Says K V A) (shown : Option (K × V)) (s : StoreState K V S) (r : Running K V A) (a : Call_answer) (s' : StoreState K V S)
       (r' : Running K V A) → r.machine.call.task ≡ tasks.Compute → Decides says shown s r a s' r' → HasMoreLogs s r s' r'
   decided says shown s r a s' r' computes (answers, op, rest, has, given, e, same, is) = unlogged s r s' r'
       (ap (λ (y : StoreState K V S). y.hasher) same) (ap (λ (y : StoreState K V S). y.pairs) same) (λ v e'. inr computes)
 
-  -- a closure was shown a pair
+  -- a closure was called with a pair
   showed : (says : Says K V A) (n : ℕ) (s : StoreState K V S) (r : Running K V A) (a : Call_answer) (s' : StoreState K V S) (r' : Running K V A)
       (task : Task) → r.machine.call.task ≡ task → ShowsPair task says n s r a s' r' → HasMoreLogs s r s' r'
   showed says n s r a s' r' tasks.Get is (e, stays) = still s r s' r' stays.0 stays.1
@@ -153,7 +154,7 @@ module _ {K V S A : Type 0} where
   showed says n s r a s' r' tasks.Compute is (inl (none, (e, stays))) = still s r s' r' stays.0 stays.1
   showed says n s r a s' r' tasks.Compute is (inr (p, there, decides)) = decided says (Some (p.key, p.value)) s r a s' r' is decides
 
-  -- of an ask of the call: only a compute asks its closure what to put where nothing is
+  -- for an ask of the call: only a compute calls its closure for an absent key
   call_grown : (eq : K → K → Bool) (says : Says K V A) (refuse : Bool) (ask : Call_ask) (s : StoreState K V S) (r : Running K V A) (a : Call_answer)
       (s' : StoreState K V S) (r' : Running K V A) → Performs eq says refuse ask s r a s' r' → (ask ≡ ShowNone → r.machine.call.task ≡ tasks.Compute)
       → HasMoreLogs s r s' r'
@@ -187,13 +188,13 @@ module _ {K V S A : Type 0} where
       (ap (λ (y : StoreState K V S). y.hasher) same) (ap (λ (y : StoreState K V S). y.pairs) same) (ap (λ (y : Running K V A). y.value) as_was)
   call_grown eq says refuse (Ask_done reply) s r a s' r' (e, stays) offers = still s r s' r' stays.0 stays.1
 
-  -- a copy leaves the log, and the call
+  -- a copy leaves the arena, and the call
   copy_grown : (eq : K → K → Bool) (hash : S → K → ℕ) (refuse : Bool) (ask : CopyAsk) (s : StoreState K V S) (r : Running K V A) (a : Answer)
       (s' : StoreState K V S) (r' : Running K V A) → PerformsCopy eq hash refuse ask s a s' → r' ≡ r → HasMoreLogs s r s' r'
   copy_grown eq hash refuse ask s r a s' r' performs as_was = words_changed s r s' r' (copy_hasher eq hash refuse ask s a s' performs)
       (copy_pairs eq hash refuse ask s a s' performs) (ap (λ (y : Running K V A). y.value) as_was)
 
-  -- what a step leaves; only a compute asks its closure what to put where nothing is
+  -- the effect of a step; only a compute calls its closure for an absent key
   pub grown : (eq : K → K → Bool) (says : Says K V A) (hash : S → K → ℕ) (refuse : Bool) (ask : Ask) (s : StoreState K V S) (r : Running K V A)
       (a : Answer) (s' : StoreState K V S) (r' : Running K V A) → PerformsAsk eq says hash refuse ask s r a s' r'
       → (ask ≡ asks.Call ShowNone → r.machine.call.task ≡ tasks.Compute) → HasMoreLogs s r s' r'
@@ -202,7 +203,8 @@ module _ {K V S A : Type 0} where
   grown eq says hash refuse (asks.Copy ask) s r a s' r' (performs, as_was) offers = copy_grown eq hash refuse ask s r a s' r' performs as_was
 
 module _ {K V : Type 0} (eq : K → K → Bool) where
-  -- each key's moments, after an entry that begins no call of the caller's, and after one exchange more at most
+  -- the key has this at points of the call, also after an entry that begins no call of the
+  -- caller's, and after at most one more exchange
   pub moments_more : (k : Option K) (caller : ℕ) (e : Entry) (h : History) (maps : List (Map K V)) (begun since made : List (Exchange (Stored K V)))
       → (made ≡ []) ⊎ ((x : Exchange (Stored K V)) × (made ≡ x ∷ [])) → is_begin caller e ≡ false
       → ((so_far rest : List (Exchange (Stored K V))) → so_far ++ rest ≡ since
@@ -217,11 +219,11 @@ module _ {K V : Type 0} (eq : K → K → Bool) where
       (beginning-cases so_far rest since made one is)
 
 module _ {K V S A : Type 0} where
-  -- what a reply stands on was said by the closure in the call
+  -- the result on which a reply depends was returned by the closure in the call
   abbrev pub SaidForReply : StoreState K V S → Running K V A → Task → Reply → ℕ → History → Answered V → Type 0
   SaidForReply s r task reply caller h answers = (said : ClosureResult) → result_in_reply task reply ≡ Some said → WasReturned s r caller h answers said
 
-  -- what a closure said stays said, whatever another caller does
+  -- a result of a closure stays in the history, whatever another caller does
   pub said-other : (s s' : StoreState K V S) (r : Running K V A) (c d turn : ℕ) (event : Event) (h : History) (o : Option (Operation V ℕ))
       (answers : Answered V) → KeepsParts s s' → KeepsPairs s s' → c ≢ d → (said : ClosureResult) → WasReturned s r d h answers said
       → WasReturned s' r d (entry turn c event ∷ h) (o ∷ answers) said
@@ -233,12 +235,12 @@ module _ {K V S A : Type 0} where
   said-other s s' r c d turn event h o answers parts stay differ (Removes n) was = answered-other c d turn (Some n) ops.Remove event h o answers differ was
 
 module _ {K V A : Type 0} where
-  -- what a compute's closure was last shown, its key had at a moment of the call
+  -- the key had the last argument of a compute's closure at some point of the call
   abbrev pub WasShownLast : Call K V A → Option ℕ → OpKind → ℕ → History → List (Map K V) → Type 0
   WasShownLast call shown kind caller h maps = (last_shown caller h ≡ Some (shown, kind))
       × AtSomeMoment (λ m. number_in (at_key m (key_of call)) ≡ shown) caller h maps
 
-  -- A closure may end its call: by an abort, or by a removal where it was shown that there is none.
+  -- A closure may end its call: by an abort, or by a removal if it was called with `None`.
   pub record IsEnding (task : Task) (call : Call K V A) (reply : Reply) (caller : ℕ) (h : History) (maps : List (Map K V)) : Type 0 where
     pub aborts : (t : ℕ) → reply ≡ Aborted t → (shown : Option ℕ) × WasShownLast call shown (op_kinds.Abort t) caller h maps
     pub nothing : reply ≡ Refused RemoveNothing → (task ≡ tasks.Compute) × WasShownLast call None op_kinds.Remove caller h maps
@@ -254,14 +256,14 @@ module _ {K V A : Type 0} where
   nothing_does k a (Some p) e = let f : Some p.number ≡ None = e in absurd cc
 
 module _ {K V A : Type 0} (eq : K → K → Bool) where
-  -- what the key of a call had since its begin, it had at a moment of the call
+  -- the key of a call had this since its begin, so it had it at some point of the call
   abbrev pub Moments : Call K V A → ℕ → CallTrace K V → History → List (Map K V) → Type 0
   Moments call caller call_trace h maps = (so_far rest : List (Exchange (Stored K V))) → so_far ++ rest ≡ call_trace.since
       → AtSomeMoment (λ m. at_key m (key_of call) ≡ at_key (replayed eq (replay eq call_trace.begun) so_far) (key_of call)) caller h maps
 
   module _ (call : Call K V A) (caller : ℕ) (call_trace : CallTrace K V) (h : History) (maps : List (Map K V)) (hash : K → ℕ) (mode : Mode)
       (tables : List TableWords) (k : K) (own : Some k ≡ key_of call) (moments : Moments call caller call_trace h maps) where
-    -- so what a machine relies on of a moment was so at a moment of the run
+    -- so a fact about a point on which a machine relies held at some point of the run
     pub at_moment : (v : Option (Stored K V)) → WasAtMoment (setting_of eq hash mode tables) (coding_of hash) call_trace.begun call_trace.since k v
         → AtSomeMoment (λ m. at_key m (key_of call) ≡ v) caller h maps
     at_moment v was =
@@ -281,7 +283,7 @@ module _ {K V A : Type 0} (eq : K → K → Bool) where
         at_weaker (λ m. at_key m (key_of call) ≡ v) (λ m. Does call (at_key m (key_of call)) reply (at_key m (key_of call))) caller h maps
         (λ m e. subst (λ y. Does call y reply y) (sym e) does) (at_moment v was)
 
-    -- and what a closure is shown of it
+    -- and the argument of a closure for it
     at_number : (v : Option (Stored K V)) (shown : Option ℕ) → number_in v ≡ shown
         → WasAtMoment (setting_of eq hash mode tables) (coding_of hash) call_trace.begun call_trace.since k v
         → AtSomeMoment (λ m. number_in (at_key m (key_of call)) ≡ shown) caller h maps
@@ -294,13 +296,13 @@ module _ {K V A : Type 0} (eq : K → K → Bool) where
         → FitsShown eq (Some call) (Some n) caller h maps
     at_showing p n number was = (at_number (Some p) (Some n) (ap Some number) was, tt)
 
-    -- that there is none it is shown once
+    -- the closure is called with `None` once
     pub at_showing_none : was_shown_none caller h ≡ false
         → WasAtMoment (setting_of eq hash mode tables) (coding_of hash) call_trace.begun call_trace.since k None → FitsShown eq (Some call) None caller h maps
     at_showing_none once was = (at_number None None refl was, once)
 
   module _ {S : Type 0} where
-    -- another caller's step leaves how a call stands to its history
+    -- another caller's step leaves how a call is related to its history
     pub tied_other : (s s' : StoreState K V S) (r : Running K V A) (call : Call K V A) (c d turn : ℕ) (event : Event)
         (call_traces : ℕ → CallTrace K V) (made : List (Exchange (Stored K V))) (loaded : LoadedPairs (Stored K V)) (h : History)
         (es : List (Exchange (Stored K V))) (maps : List (Map K V)) (o : Option (Operation V ℕ)) (answers : Answered V)
@@ -347,7 +349,7 @@ module _ {K V A : Type 0} (eq : K → K → Bool) where
       moments = λ so_far rest is. inr (not_begin-other c d turn event differ, tied.moments so_far rest is);
     }
 
-    -- where the machine asks no more, its reply fits
+    -- if the machine has replied, its reply fits
     pub tied_fits : (s : StoreState K V S) (r : Running K V A) (call : Call K V A) (caller : ℕ) (call_trace : CallTrace K V) (h : History)
         (maps : List (Map K V)) (answers : Answered V) (hash : K → ℕ) (mode : Mode) (tables : List TableWords) (k : K) → Some k ≡ key_of call
         → IsTied eq s r call caller call_trace h maps answers

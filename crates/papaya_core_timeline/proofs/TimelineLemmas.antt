@@ -52,7 +52,7 @@ not_begin-own c d turn event h = elim (cases_Bool (c == d)) [
   | inr other ↦ ap (λ b. cond b (begins event) false) other
 ]
 
--- a showing that was answered so stays, whatever another caller does
+-- a closure call with this result stays in the history, whatever another caller does
 pub asked-other : (c d turn n : ℕ) (agrees : Bool) (event : Event) (before : History) → c ≢ d → WasAsked d n agrees before
     → WasAsked d n agrees (entry turn c event ∷ before)
 asked-other c d turn n agrees event before differ was = inr (not_begin-other c d turn event differ, was)
@@ -62,18 +62,18 @@ pub asked-own : (c d turn n : ℕ) (agrees : Bool) (event : Event) (before : His
     → WasAsked d n agrees (entry turn c event ∷ before)
 asked-own c d turn n agrees event before no_begin was = inr (not_begin-own c d turn event no_begin, was)
 
--- it was just now
+-- the newest entry is such a call
 pub asked-now : (c turn n : ℕ) (agrees : Bool) (event : Event) (before : History) → event ≡ Asked n agrees → WasAsked c n agrees (entry turn c event ∷ before)
 asked-now c turn n agrees event before is = inl (refl, is)
 
--- what a closure was last shown stays, whatever another caller does
+-- the last argument of a closure stays, whatever another caller does
 pub last_shown-other : (c d turn : ℕ) (event : Event) (before : History) → c ≢ d → last_shown d (entry turn c event ∷ before) ≡ last_shown d before
 last_shown-other c d turn event before h = ap (λ b. cond b (shown_by event (last_shown d before)) (last_shown d before)) (differs c d h)
 
 pub last_shown-own : (c turn : ℕ) (event : Event) (before : History) → last_shown c (entry turn c event ∷ before) ≡ shown_by event (last_shown c before)
 last_shown-own c turn event before = ap (λ b. cond b (shown_by event (last_shown c before)) (last_shown c before)) (eq-eqb c c refl)
 
--- and so does whether it was shown that there is none
+-- and so does whether it was called with `None`
 pub was_shown_none-other : (c d turn : ℕ) (event : Event) (before : History) → c ≢ d → was_shown_none d (entry turn c event ∷ before) ≡ was_shown_none d before
 was_shown_none-other c d turn event before h = ap (λ b. cond b (none_by event (was_shown_none d before)) (was_shown_none d before)) (differs c d h)
 
@@ -82,7 +82,7 @@ pub was_shown_none-own : (c turn : ℕ) (event : Event) (before : History)
 was_shown_none-own c turn event before = ap (λ b. cond b (none_by event (was_shown_none c before)) (was_shown_none c before)) (eq-eqb c c refl)
 
 module _ {V : Type 0} where
-  -- what a closure answered stays, whatever another caller does
+  -- a result of a closure stays in the history, whatever another caller does
   pub answered-other : (c d turn : ℕ) (shown : Option ℕ) (op : Operation V ℕ) (event : Event) (before : History) (o : Option (Operation V ℕ))
       (said : Answered V) → c ≢ d → WasAnswered d shown op before said → WasAnswered d shown op (entry turn c event ∷ before) (o ∷ said)
   answered-other c d turn shown op event before o said differ was = inr (not_begin-other c d turn event differ, was)
@@ -92,12 +92,12 @@ module _ {V : Type 0} where
       (said : Answered V) → begins event ≡ false → WasAnswered d shown op before said → WasAnswered d shown op (entry turn c event ∷ before) (o ∷ said)
   answered-own c d turn shown op event before o said no_begin was = inr (not_begin-own c d turn event no_begin, was)
 
-  -- it did just now
+  -- the newest entry is such a result
   pub answered-now : (c turn : ℕ) (shown : Option ℕ) (op : Operation V ℕ) (event : Event) (before : History) (o : Option (Operation V ℕ))
       (said : Answered V) → event ≡ Shown shown (op_kind op) → o ≡ Some op → WasAnswered c shown op (entry turn c event ∷ before) (o ∷ said)
   answered-now c turn shown op event before o said is given = inl (refl, is, given)
 
-  -- what it answered it was shown
+  -- a closure that returned a result was called with its argument
   pub answered_shown : (c : ℕ) (shown : Option ℕ) (op : Operation V ℕ) (h : History) (said : Answered V) → WasAnswered c shown op h said
       → WasShown c shown (op_kind op) h
   answered_shown c shown op [] said was = elim was [ ]
@@ -106,7 +106,7 @@ module _ {V : Type 0} where
   answered_shown c shown op (e ∷ h) (o ∷ said) (inr (no_begin, was)) = inr (no_begin, answered_shown c shown op h said was)
 
 module _ {K V : Type 0} where
-  -- what held at a moment, and what follows from it
+  -- a fact about a point implies each weaker one
   pub at_weaker : (P Q : Map K V → Type 0) (c : ℕ) (h : History) (maps : List (Map K V)) → ((m : Map K V) → P m → Q m) → AtSomeMoment P c h maps
       → AtSomeMoment Q c h maps
   at_weaker P Q c [] maps f x = elim x [ ]
@@ -115,7 +115,7 @@ module _ {K V : Type 0} where
   at_weaker P Q c (e ∷ h) (m ∷ maps) f (inr (other, p)) = inr (other, at_weaker P Q c h maps f p)
 
 module _ {K V S : Type 0} where
-  -- pairs that stay in the log are its pairs still
+  -- pairs that stay in the arena are still its pairs
   pub logged_more : (store store' : StoreState K V S) (maps : List (Map K V))
       → ((n : ℕ) (p : Stored K V) → pair_of store n ≡ Some p → pair_of store' n ≡ Some p) → AreInArena store maps → AreInArena store' maps
   logged_more store store' [] stay x = tt

@@ -66,7 +66,7 @@ module _ (m : Call_machine) (i n : ℕ) where
   abbrev at_stage : Stage → Call_machine
   at_stage s = record m { state = s }
 
-  -- it waits on, or makes the pair
+  -- it still waits, or makes the pair
   abbrev WaitsOn : Call_answer → Stage → Type 0
   WaitsOn a s = ActsOn (calls.after (at_stage s) a) (Makes (Some i) n) → IsAnswered (calls.after (at_stage s) a).state
       ⊎ (MakesPair (calls.ask_of (at_stage s)) × (a ≡ Made_number n))
@@ -82,7 +82,8 @@ module _ (m : Call_machine) (i n : ℕ) where
   ended_waits Ok_done reply stands = inl tt
   ended_waits (Was_refused refused) reply stands = inl tt
 
-  -- the pair for an absent key was answered to no pair, and the other is the newest
+  -- the result for an absent key has no pair as its argument; the pair of any other result is the
+  -- newest
   new_pair : (purpose : Purpose) → IsAnswered (Pairing purpose) → (l : ℕ) → (result_in m.task (provides purpose l) ≡ Some (Makes (Some i) n))
       ⊎ (result_to_fill (with_pair m.remembered purpose l).fill ≡ Some (Makes (Some i) n))
       ⊎ (result_to_choose (with_pair m.remembered purpose l).choice ≡ Some (Makes (Some i) n)) → l ≡ n
@@ -127,7 +128,7 @@ waits_after m a i n waits stands = waiting (WaitsOn m i n a) (pairing_waits m i 
 waits_aside : (state : Stage) (t : ℕ) → IsAnswered state → left_by state ≡ Some t → ⊥
 waits_aside state t waits left = search rules
 
--- so is one whose closure answers now
+-- so is one whose closure returns in this step
 answered_none : (m : Call_machine) → calls.ask_of m ≡ ShowNone → IsAnswered (calls.after m (Op op_kinds.Insert)).state
 answered_none m e = search rules
 
@@ -148,7 +149,7 @@ chain_waits m answer (inr (inr (inl enters))) answered i n stands = absurd (wait
 chain_waits m answer (inr (inr (inr (inl begins)))) answered i n stands = absurd (waits_aside m.call.state begins.from answered begins.left)
 chain_waits m answer (inr (inr (inr (inr ends)))) answered i n stands = absurd (waits_aside m.call.state ends.from answered ends.left)
 
--- a call that is set aside shows nothing
+-- a call that is set aside calls no closure
 unshown : (m : Machine) (t : ℕ) → left_by m.call.state ≡ Some t → (ask : Call_ask) → ask_of m ≡ asks.Call ask → ask ≡ Load (Next t)
 unshown m t left ask e = sym (call_asks m ask e).1 ∙ aside_asks m.call.made m.call.hash m.call.state t left
 

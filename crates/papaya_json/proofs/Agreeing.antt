@@ -36,7 +36,7 @@ module _ {K P : Type 0} (eq : K → K → Bool) (law : IsEquivalence eq) (key : 
       go true on here e = absurd cc
       go false on other e = ⊎_elim (λ is. true≢false (sym y ∙ ap (λ (z : P). eq k (key z)) (sym is) ∙ other)) (λ later. on e p later y) there
 
-  -- a pair of a list of different keys is the one that is found
+  -- if a list of entries with different keys has this one, a lookup of its key finds it
   one_in : (ps : List P) → AreApart eq key ps → (k : K) (p : P) → In p ps → eq k (key p) ≡ true → lookup eq key ps k ≡ Some p
   one_in [] apart k p there y = absurd there
   one_in (q ∷ ps) (alone, apart) k p there y =
@@ -53,7 +53,7 @@ some_none : {A : Type 0} {x : A} → Some x ≡ None → ⊥
 some_none e = absurd cc
 
 module _ {K V B : Type 0} (eq : K → K → Bool) (law : IsEquivalence eq) (shows : B → K × V) (Read : B → Type 0) where
-  -- the entry of a class has the key of an item of that class, and the value of one
+  -- the entry of a key has the key of an item with an equal key, and the value of such an item
   abbrev IsOfItems : K → Option (K × V) → Type 0
   IsOfItems k None = Unit {0}
   IsOfItems k (Some e) = (a : B) × (b : B) × Read a × Read b × (eq k (shows a).0 ≡ true) × (eq k (shows b).0 ≡ true) × (e ≡ ((shows a).0, (shows b).1))
@@ -84,7 +84,7 @@ module _ {K V B : Type 0} (eq : K → K → Bool) (law : IsEquivalence eq) (show
   of_all [] read m all k = all k
   of_all (b ∷ done) read m all k = of_all done (λ c there. read c (inr there)) (put eq m (shows b)) (of_put m all b (read b (inl refl))) k
 
-  -- a class that has no entry had none before, and there is no item of it
+  -- if a key has no entry afterwards, it had none before, and no item has an equal key
   none_put : (done : List B) (m : Entries K V) (k : K) → put_all eq shows m done k ≡ None → (m k ≡ None) × ((b : B) → In b done → eq k (shows b).0 ≡ true → ⊥)
   none_put [] m k none = (none, λ b there y. there)
   none_put (b ∷ done) m k none =
@@ -111,8 +111,8 @@ module _ {K V B S Z : Type 0} (eq : K → K → Bool) (law : IsEquivalence eq) (
   abbrev keyed : Stored K V → K
   keyed p = p.key
 
-  -- Each pair of the one map has an item that is near it, and the other way round. So where the other
-  -- map has just the items, the two agree.
+  -- Each entry of the one map has an item that is near it, and each item has such an entry. So if
+  -- the other map has just the items, the two agree.
   pub agree : AreApart eq keyed (content eq s) → ((p : Stored K V) → In p (content eq s) → (b : B) × In b done × Near (entry_of p) (shows b))
       → ((b : B) → In b done → (p : Stored K V) × In p (content eq s) × Near (entry_of p) (shows b))
       → ((k : K) → entries_in eq t k ≡ put_all eq shows nothing done k)
@@ -120,7 +120,7 @@ module _ {K V B S Z : Type 0} (eq : K → K → Bool) (law : IsEquivalence eq) (
   agree apart there from just k = of_option (map_in eq s k) refl (put_all eq shows nothing done k) refl
       (of_all eq law shows (λ b. In b done) done (λ b within. within) nothing (λ j. tt) k)
     where
-      -- an item of the class is near the class's pair
+      -- an item with an equal key is near the key's entry
       near_own : (p : Stored K V) → map_in eq s k ≡ Some p → (b : B) → In b done → eq k (shows b).0 ≡ true → Near (entry_of p) (shows b)
       near_own p is b within y =
           let of = from b within in

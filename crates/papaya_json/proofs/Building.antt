@@ -1,4 +1,4 @@
--- The object of some pairs, after one more pair.
+-- The object of some entries, after one more entry.
 use Rattle.std.proofs.Common.{◌≡◌, suc, ◌+◌, ◌<◌, ◌≤◌, ◌||◌, not, cond, Bool, true, false, List, []}
 use Rattle.std.proofs.Common.{◌∷◌, ◌++◌, length, map, Option, Some, String, Global, string_bytes}
 use Rattle.std.proofs.Common.{string_cmp, refl, sym, ap, ◌∙◌, subst, arith}
@@ -24,7 +24,7 @@ pub map_push : {A B : Type 0} (f : A → B) (xs : List A) (x : A) → map f (xs 
 map_push f [] x = refl
 map_push f (y ∷ ys) x = ap (λ l. f y ∷ l) (map_push f ys x)
 
--- what holds of an item, holds of some item
+-- a property of one item of a list holds of some item of the list
 pub any_middle : {A : Type 0} (P : A → Type 0) (xs : List A) (x : A) (ys : List A) → P x → Any P (xs ++ x ∷ ys)
 any_middle P [] x ys here = (0, x, omega arith, refl, here)
 any_middle P (y ∷ xs) x ys here = let a = any_middle P xs x ys here in (suc a.0, a.1, omega (arith, a.2), a.3, a.4)
@@ -37,7 +37,8 @@ zip_more R (x' ∷ xs) [] x y all one = absurd all
 zip_more R (x' ∷ xs) (y' ∷ ys) x y all one = (all.0, zip_more R xs ys x y all.1 one)
 
 module _ {K V : Type 0} (text_of : K → Option (String Global) → Type 0) (data_of : V → Option Value → Type 0) where
-  -- the pairs that came have these members, of which the entries are; there is one for each unless two had one text
+  -- The entries so far have these members, which are those of the object. There is one for each,
+  -- unless two keys have the same text.
   pub record IsBuilt (items : List (K × V)) (entries : List (String Global × Value)) (clash : Bool) : Type 0 where
     pub members : List Member
     pub each : AllZip (IsMember text_of data_of) items members
@@ -93,7 +94,7 @@ module _ {K V : Type 0} (text_of : K → Option (String Global) → Type 0) (dat
         one false false fewer more e = let a = built.most in omega (arith, a, more, long)
         one false true fewer more e = absurd cc
 
-    -- the same of what the entries and the items are then
+    -- the same, for an object and items that are equal to those
     pub built_on : (new after : Bool) → (clash || not new) ≡ after → (es' : List (String Global × Value)) → es' ≡ insert_entry string_cmp es t v
         → length es' ≡ length es + cond new 1 0 → (items' : List (K × V)) → items' ≡ items ++ item ∷ [] → IsBuilt items' es' after
     built_on new after is es' entries many items' came =

@@ -1,4 +1,4 @@
--- A map of what was read from a list, after one more item.
+-- A map that was filled with the results of reading a list, after one more item.
 use Rattle.std.proofs.Common.{◌≡◌, Bool, List, [], ◌∷◌, ◌++◌, Ok, Err, ◌∙◌}
 use Rattle.std.specs.List.{AllZip}
 use Rattle.papaya_words.specs.declared.limits.TheConstants.{DEFAULT_CHUNK}
@@ -13,7 +13,7 @@ use Rattle.papaya_json.specs.Reads.{IsRead}
 use Rattle.papaya_json.proofs.Building.{zip_more}
 
 module _ {K V S A B : Type 0} (eq : K → K → Bool) (reads : A → B → Type 0) (shows : B → K × V) (hasher : S) where
-  -- something was read of the items that came, and a new map was filled with it
+  -- each item so far was read, and a new map was filled with the results
   pub record IsFilled (items : List A) (s : MapState K V S) : Type 0 where
     pub new : MapState K V S
     pub is_new : IsNew {A = Unit {0}} (Incremental DEFAULT_CHUNK) 0 1 hasher (core_of new)

@@ -30,7 +30,7 @@ module _ {A B : Type 0} (R : A → B → Type 0) where
       (λ later. let found = zip_left xs ys all y later in (found.0, inr found.1, found.2))
       there
 
-  -- what goes with what an item is seen as, goes with the item
+  -- a relation to the images of the items holds, through the map, of the items themselves
   pub zip_seen : {X : Type 0} (see : X → A) (xs : List X) (ys : List B) → AllZip R (map see xs) ys → AllZip (λ x. R (see x)) xs ys
   zip_seen see [] [] all = tt
   zip_seen see [] (b ∷ ys) all = absurd all

@@ -28,7 +28,7 @@ module _ (k : List ℕ) (d : Data) where
   put_at Equal l m e f ms is later has = ⊎_elim (λ h. inl (same_text l m is ∙ h.0, h.1)) (λ h. inr (inr h)) has
   put_at Greater l m e f ms is later has = ⊎_elim (λ h. inr (inl h)) (λ h. ⊎_elim (λ own. inl own) (λ old. inr (inr old)) (later h)) has
 
-  -- what is there after a member was put in is that one, or was there before
+  -- a member that is there after a put is the one that was put in, or was there before
   has_put : (l : List ℕ) (e : Data) (ms : Members) → Has k d (put l e ms) → ((l ≡ k) × (e ≡ d)) ⊎ Has k d ms
   has_put l e no_members has = has
   has_put l e (member m f ms) has = put_at (slice_cmp nat_cmp l m) l m e f ms refl (has_put l e ms) has
@@ -41,7 +41,7 @@ module _ (k : List ℕ) (d : Data) where
   stays_at Equal l m e f ms later more has = absurd (omega (arith, more))
   stays_at Greater l m e f ms later more has = ⊎_elim (λ h. inl h) (λ h. inr (later (omega (arith, more)) h)) has
 
-  -- what was there stays where there is one member more
+  -- each member that was there stays if there is one more after the put
   has_stays : (l : List ℕ) (e : Data) (ms : Members) → members_len (put l e ms) ≡ suc (members_len ms) → Has k d ms → Has k d (put l e ms)
   has_stays l e no_members more has = absurd has
   has_stays l e (member m f ms) more has = stays_at (slice_cmp nat_cmp l m) l m e f ms (has_stays l e ms) more has
@@ -117,6 +117,6 @@ module _ (es : List Entry) (ms : List Member) (view_is : members_view es ≡ obj
   member_of e there = ⊎_elim (λ found. found) (λ none. absurd none)
       (from_all (string_bytes e.0) (view e.1) ms no_members (subst (Has (string_bytes e.0) (view e.1)) view_is (entry_has es e there)))
 
-  -- and each member has an entry where none took the place of another
+  -- and each member has an entry if none took the place of another
   pub entry_for : members_len (object_of ms) ≡ length ms → (m : Member) → In m ms → (e : Entry) × In e es × (string_bytes e.0 ≡ m.0) × (view e.1 ≡ m.1)
   entry_for apart m there = has_entry es m.0 m.1 (subst (Has m.0 m.1) (sym view_is) (all_there ms no_members (omega (arith, apart)) m there))

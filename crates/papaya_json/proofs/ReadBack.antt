@@ -28,7 +28,8 @@ module _ {K V S Z : Type 0} (eq : K → K → Bool) (law : IsEquivalence eq) (te
   abbrev Near : K × V → K × V → Type 0
   Near a b = (eq a.0 b.0 ≡ true) × (same a.1 b.1 ≡ true)
 
-  -- what is read of an entry that a pair's member stands in is near that pair
+  -- an entry of the object holds a member of a map's entry: reading it gives a result near the
+  -- map's entry
   near_by : (p : K × V) (m : Member) → IsMember text_of data_of p m → (e : Entry) → string_bytes e.0 ≡ m.0 → view e.1 ≡ m.1 → (b : K × V)
       → IsPair key_of value_of e b → Near p b
   near_by p m is e bytes shown b read = (

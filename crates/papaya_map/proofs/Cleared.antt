@@ -7,7 +7,7 @@ use Rattle.papaya_map_lookup.specs.History.{Change}
 use Rattle.papaya_map_change.proofs.ClosureCalls.{said_only}
 use Rattle.papaya_map_scan.specs.Leaving.{HasKept, IsCleared}
 
--- a last answer is one of the answers
+-- a last result is one of the results
 last_member : {P : Type 0} (said : List (P × Bool)) (p : P) (stays : Bool) → IsLastAnswer said p stays → Member (p, stays) said
 last_member [] p stays h = absurd h
 last_member (one ∷ older) p stays (inl is) = inl (ap (λ z. (z, stays)) (sym is.0) ∙ ap (λ b. (one.0, b)) (sym is.1))

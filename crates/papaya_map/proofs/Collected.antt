@@ -1,4 +1,5 @@
--- Entries that are stored one after the other; and a map that has learned of them has the same settings.
+-- Entries that are stored one after the other; and a map that has observed them has the same
+-- settings.
 use Rattle.std.proofs.Common.{◌≡◌, ◌<◌, ◌≤◌, ℕ, Bool, Option, None, List, [], ◌∷◌, ◌++◌, map, append-nil, refl, sym, ap, ◌∙◌, subst}
 use Rattle.std.specs.Int.{IsNextPowerOfTwo}
 use Rattle.std.specs.Iterator.{Yields}
@@ -25,7 +26,7 @@ pub prefix_itself : {A : Type 0} (xs : List A) → IsPrefix xs xs
 prefix_itself xs = ([], append-nil xs)
 
 module _ {K V : Type 0} (eq : K → K → Bool) where
-  -- what comes after a history comes after an earlier one
+  -- a history that continues a later one continues an earlier one
   put_later : (key : K) (value : V) (old mid new : List (Change K (Stored K V))) (answer : Option (Bor V)) → IsPrefix old mid
       → IsPut eq key value mid new answer → IsPut eq key value old new answer
   put_later key value old mid new answer pre put = record {
@@ -38,7 +39,7 @@ module _ {K V : Type 0} (eq : K → K → Bool) where
     taken_is = put.taken_is;
   }
 
-  -- the histories between go on from the old one
+  -- a put's new history continues the old one
   put_on : (key : K) (value : V) (old new : List (Change K (Stored K V))) (answer : Option (Bor V)) → IsPut eq key value old new answer → IsPrefix old new
   put_on key value old new answer put = prefix_trans old put.before new put.since (put.change ∷ [], sym put.is)
 
@@ -52,19 +53,19 @@ module _ {K V : Type 0} (eq : K → K → Bool) where
   stored_more [] old mid new e answer stored put = (new, answer, put_later e.0 e.1 old mid new answer stored put, prefix_itself new)
   stored_more (d ∷ es) old mid new e answer stored put = (stored.0, stored.1, stored.2, stored_more es stored.0 mid new e answer stored.3 put)
 
-  -- the same of items that show entries
+  -- the same for items that are mapped to entries
   pub stored_next : {A : Type 0} (shows : A → K × V) (items : List A) (old mid new : List (Change K (Stored K V))) (item : A) (answer : Option (Bor V))
       → AreStored eq (map shows items) old mid → IsPut eq (shows item).0 (shows item).1 mid new answer
       → AreStored eq (map shows (items ++ item ∷ [])) old new
   stored_next shows items old mid new item answer stored put = subst (λ (es : List (K × V)). AreStored eq es old new) (sym (map_push shows items item))
       (stored_more (map shows items) old mid new (shows item) answer stored put)
 
-  -- what a longer history begins with it has too
+  -- entries that were stored by a history were stored by each longer one
   pub stored_until : (es : List (K × V)) (old mid new : List (Change K (Stored K V))) → AreStored eq es old mid → IsPrefix mid new → AreStored eq es old new
   stored_until [] old mid new stored more = prefix_trans old mid new stored more
   stored_until (e ∷ es) old mid new stored more = (stored.0, stored.1, stored.2, stored_until es stored.0 mid new stored.3 more)
 
-  -- an iteration gave these
+  -- the iterator returned these entries, and then none
   pub walked : (book : Book) (seen : List (Change K (Stored K V))) (walk first left end : Walked K V) (lent : List (Bor K × Bor V)) → first ≡ walk
       → walk.book ≡ book → IsPrefix seen walk.began → walk.given ≡ [] → Yields (Gives eq) first lent left → Gives eq left None end
       → AreWalked eq book seen (map deref_pair lent)

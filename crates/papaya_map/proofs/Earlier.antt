@@ -21,11 +21,11 @@ since_first : {A : Type 0} (h : List A) → IsPrefix [] h
 since_first h = (h, refl)
 
 module _ {K V S : Type 0} (map : Pinned K V S) (eq : K → K → Bool) where
-  -- what is so of a history since a pin is so of a history
+  -- a fact about some history since a pin is a fact about some history
   pub any_of : {P Q : History K V → Type 0} → ((h : History K V) → P h → Q h) → IsOfHistorySince map eq P → IsOfHistory eq Q
   any_of f is = record { history = is.0; legal = is.1.0; told = f is.0 is.1.2 }
 
-  -- the same of what a call answers that is not refused
+  -- the same for the result of a call that did not fail
   pub ok_of : {A E : Type 0} {P Q : History K V → A → Type 0} → ((h : History K V) (a : A) → P h a → Q h a) → (r : Result A E)
       → IsOfHistorySince map eq (λ h. IfOk r (P h)) → IfOk r (λ a. IsOfHistory eq (λ h. Q h a))
   ok_of f (Ok a) is = any_of (λ h. f h a) is
@@ -77,7 +77,7 @@ module _ {K V : Type 0} (old new : History K V) where
       updated computes None is = held eq (eq key) is
       updated computes (Some v) is = in_place computes v is
 
-      -- what is said of a call by what its pass made, without that
+      -- the postcondition without the changes that the call's pass made
       pub there_by : (gives : V → Type 0) (made made' : History K V) (r : Result (Bor V) Refused) → IsThereBy eq key old new gives made made' r
           → IfOk r (IsThere eq key old new gives)
       there_by gives made made' (Ok v) (inl is) = inl is.0

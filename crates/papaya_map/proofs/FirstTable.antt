@@ -5,11 +5,11 @@ use Rattle.papaya_words.specs.Probe.{IsEntriesFor}
 use Rattle.papaya_map_book.specs.Limits.{HasTableFrom}
 use Rattle.papaya_map.specs.Fixed.{IsForInitial}
 
--- where no initial capacity was asked for, a table may be for any number of pairs
+-- if no initial capacity was requested, a table may be for any number of entries
 pub none_asked : (initial pairs : ℕ) → initial ≤ 1 → IsForInitial initial pairs
 none_asked initial pairs few more = absurd (omega (arith, few, more))
 
--- a table for three quarters of so many slots, or for more pairs, has them
+-- a table for three quarters of `initial` slots, or for more entries, has `initial` slots
 pub long_enough : (initial pairs : ℕ) → IsForInitial initial (max pairs (initial - initial / 4))
 long_enough initial pairs more = (
   omega (arith, more),

@@ -34,7 +34,7 @@ use Rattle.logbook.specs.declared.tokens.Rule.{Ghosts}
 use Rattle.papaya_map.proofs.Telling.{Good, Observed, held, seen, told_out}
 use Rattle.papaya_map.proofs.ToldWalks.{Walk}
 
--- nothing is had of any parameter at exit
+-- no resource is left of any parameter at exit
 module _ {n : ℕ} where
   abbrev pub dropped : (ss : List (Slot n)) (ks : Kepts ss) → Stays ss ks
   dropped [] ks = tt
@@ -65,7 +65,7 @@ module _ (E A P : RattleType) (g : Ghosts P.Denot E.Denot A.Denot) (T : Ended) w
   abbrev pub Tells : Lfts T.signature.lifetimes → RattleType
   Tells κs = Observed (Answer κs) E A P g
 
-  -- the callee's: as the call's, and it tells its answer
+  -- the callee's postcondition: the call's, with the evidence of the log beside the result
   abbrev pub asked : Ended
   asked = record {
     signature = record {
@@ -99,7 +99,7 @@ module _ (E A P : RattleType) (g : Ghosts P.Denot E.Denot A.Denot) (T : Ended) w
       abbrev z : (triple_of 𝓛 asked.signature (closing 𝓛 asked ck)).Ghost
       z = (y.0, (asks κs a y.1).0)
 
-      -- what the callee leaves
+      -- the resources that the callee leaves
       abbrev Rest : Val → (Tells κs).Denot → Lasts T κs a → SProp 𝓤
       Rest w r ws = sep 𝓤 (alive 𝓛 T.signature κs y.0.1)
           (sep 𝓤 (sem 𝓛 ((Answer κs).own_val r.answer (w ∷ []))) (sep 𝓤 (sem 𝓛 (seen (Answer κs) E A P g r)) (fact 𝓤 (F κs a r))))
@@ -141,7 +141,8 @@ module _ (E A P : RattleType) (g : Ghosts P.Denot E.Denot A.Denot) (T : Ended) w
         (via 𝓤 ((triple_of 𝓛 asked.signature (closing 𝓛 asked ck)).pre (z y)) (mono_r 𝓤 Pre (asks y.0.0 y.0.3 y.1).1) (met (z y))) (gives y)
         (λ w good. ends y w))
 
--- What shows a log that tells this shows that there is one: beside no other clause, and beside one, two or three.
+-- Evidence of a log with this property gives evidence that there is one, beside no other clause and
+-- beside one, two or three.
 module _ {M : Type 1} {𝓤 : Ura M} (𝓛 : Logic 𝓤) {E : Type 0} (code : E → Gv) (rule : Rules E) {b : Book} (names : List ℕ) (log : List E)
     (φ : List E → Type 0) where
   pub handed : {b' : Book} → b ≡ b' → φ log
@@ -196,6 +197,6 @@ six_facts 𝓤 {φ₁} {φ₂} {φ₃} {φ₄} {φ₅} {φ₆} = let rest : SPro
     via 𝓤 rest (snd∗ 𝓤 (fact 𝓤 φ₁) rest) (fact_use 𝓤 (φ₂ × φ₃ × φ₄ × φ₅ × φ₆) (five_facts 𝓤)
     (λ x. fact_i 𝓤 (φ₁ × φ₂ × φ₃ × φ₄ × φ₅ × φ₆) rest (x₁, x.0, x.1, x.2, x.3, x.4))))
 
--- those after the first, which says what the callee made
+-- the clauses after the first, which states the changes that the callee made
 pub past_first : {M : Type 1} (𝓤 : Ura M) (made : Type 0) {rest said : SProp 𝓤} → ent 𝓤 rest said → ent 𝓤 (sep 𝓤 (fact 𝓤 made) rest) said
 past_first 𝓤 made {rest} says = via 𝓤 rest (snd∗ 𝓤 (fact 𝓤 made) rest) says

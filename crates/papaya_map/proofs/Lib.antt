@@ -3,13 +3,14 @@ pub mod Ruled
 pub mod FirstTable
 -- entries that are stored one after the other
 pub mod Collected
--- where no pair stays, none is left
+-- if no entry stays, none is left
 pub mod Cleared
 -- the steps that a pass made, as entries of the log
 mod OwnEntries
 -- which lifetimes are within those of a book's entries
 mod Lives
--- an answer that is told; the walk of a call that hands it on; and how that call meets its contract
+-- a result with its evidence; the run of a call that passes it on; and how that call meets its
+-- contract
 pub mod Earlier
 pub mod Telling
 pub mod ToldWalks

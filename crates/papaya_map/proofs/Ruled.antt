@@ -1,4 +1,5 @@
--- The results of the calls that store a value only under a condition, by what their rule may return.
+-- The results of the calls that store a value only under a condition, by the results that their
+-- rule may return.
 use Rattle.std.proofs.Common.{◌≡◌, ◌⊎◌, inl, inr, ⊎_elim, Bool, MatchOption, Option, None, Some}
 use Rattle.std.proofs.Common.{Result, Ok, Err, List, [], ◌∷◌, option_map, refl, sym, ap, ◌∙◌, subst}
 use denote.Bor.{Bor}
@@ -25,16 +26,16 @@ use Rattle.papaya_words_keys.specs.declared.results.NotInserted.TheVariants.{Val
 use Rattle.papaya_map.specs.Storing.{IsBack, IsCurrent, IsInPlace, IsStored}
 use Rattle.papaya_map_compute.proofs.ComputeShows.{none_unsaid}
 
--- what a rule answered
+-- the result of a rule
 abbrev pub Wish : Type 0 → Type 0
 Wish V = Operation V (Unit {0})
 
--- what was shown last was shown
+-- the last argument is one of the arguments
 last_member : {X A : Type 0} (x : X) (a : A) (heard : List (X × A)) → WasLast x a heard → Member (x, a) heard
 last_member x a [] last = absurd last
 last_member x a (said ∷ before) last = inl (sym last)
 
--- it was shown that there is none, or it was not
+-- the rule was called with no entry, or it was not
 none_or : {P A : Type 0} (heard : List (Option P × A)) → HasNoNone heard ⊎ ((a : A) × Member (None, a) heard)
 none_or [] = inl tt
 none_or ((None, a) ∷ before) = inr (a, inl refl)
@@ -43,7 +44,8 @@ none_or ((Some p, a) ∷ before) = ⊎_elim (λ none. inl none) (λ m. inr (m.0,
 stored_of : {V : Type 0} (w v : V) → Some w ≡ Some v → ◌≡◌ {A = Wish V} (operation.Insert w) (operation.Insert v)
 stored_of w v e = let same : w ≡ v = cc e in ap (λ z. operation.Insert z) same
 
--- A rule that gives what is stored where the key has none, from a supply that it has till then.
+-- A rule that returns the value to store if the key has none, and takes it from a supply that it
+-- has until then.
 module _ {K V F G : Type 0} (says : F → Option (Stored K V) → Wish V → F → Type 0) (gives : G → V → Type 0) (supply : F → Option G)
     (keeps : (f g : F) (p : Stored K V) (op : Wish V) → says f (Some p) op g → supply g ≡ supply f)
     (spends : (f g : F) (op : Wish V) (s : G) → supply f ≡ Some s → says f None op g → (supply g ≡ None)
@@ -66,7 +68,7 @@ module _ {K V F G : Type 0} (says : F → Option (Stored K V) → Wish V → F �
       (keeps has.0 g p done has.2 ∙ h.0, h.1)
 
 module _ {V G : Type 0} (gives : G → V → Type 0) where
-  -- a supply that is there gives what is answered
+  -- a supply that is there yields the value returned
   given : (s : G) (o : Option G) → o ≡ Some s → (v : V) → IsGiven gives o (Some v) → (w : V) × gives s w
       × ◌≡◌ {A = Wish V} (operation.Insert v) (operation.Insert w)
   given s o is v h = let m = subst (λ z. IsGiven gives z (Some v)) is h in (m.0, m.1, stored_of v m.0 m.2)
@@ -147,7 +149,7 @@ module _ (K : Type 0) {V G : Type 0} (gives : G → V → Type 0) where
       pub give_current : (r : Bor V) × (current ≡ Some r) × IsCurrent eq key old new r
       give_current = was_there lefts.0 lefts.1 lefts.2
 
-      -- the supply is as it was, or what it gave was logged
+      -- the supply is as it was, or the value that it gave is stored in the arena, as `spare`
       pub give_back : (left.supply ≡ Some s) ⊎ ((left.supply ≡ None) × ((r : Bor V) × (spare ≡ Some r) × gives s r.now))
       give_back = ⊎_elim
           (λ none. inl (unasked GiveSays gives (λ z. z.supply) give_keeps give_spends first left d.heard d.has_said none ∙ has))
@@ -160,7 +162,8 @@ module _ (K : Type 0) {V G : Type 0} (gives : G → V → Type 0) where
     pub give_refused : (cause : Cause) → answer ≡ Err cause → IsMemoryCapacityOrLimit cause
     give_refused cause is = decided_as (Err cause) is
 
--- a pair took the place of one with the value of the one that was shown
+-- an entry took the place of another, with the value computed from the entry that the rule was
+-- called with
 in_place : {K V F : Type 0} (eq : K → K → Bool) (key : K) (old new : List (Change K (Stored K V))) (computes : F → V → V → Type 0) (f : F)
     (p q shown : Stored K V) → IsSamePair shown p → (w : V) × computes f shown.value.value w
     × ◌≡◌ {A = Wish V} (operation.Insert q.value.value) (operation.Insert w) → IsChangeOf (eq key) old new (Some p) (Some q) → key_of q ≡ key_of p
@@ -173,7 +176,7 @@ module _ (K : Type 0) {V F : Type 0} (computes : F → V → V → Type 0) where
   abbrev UpdateSays : Updating F → Option (Stored K V) → Wish V → Updating F → Type 0
   UpdateSays = Wishes (Updates computes)
 
-  -- it replaces a value by what it computes of it, and stores nothing else
+  -- it replaces a value by one that it computes from it, and stores nothing else
   abbrev Computed : F → Option (Stored K V) → Wish V → Type 0
   Computed f None op = op ≡ operation.Abort tt
   Computed f (Some p) op = (w : V) × computes f p.value.value w × (op ≡ operation.Insert w)
@@ -233,7 +236,7 @@ module _ (K : Type 0) {V F G : Type 0} (computes : F → V → V → Type 0) (gi
   upsert_spends f g operation.Remove s is h = absurd h
   upsert_spends f g (operation.Abort t) s is h = absurd (ungiven gives s f.supply is h.2)
 
-  -- it replaces a value by what it computes of it
+  -- it replaces a value by one that it computes from it
   abbrev Replaces : F → Option (Stored K V) → Wish V → Type 0
   Replaces f None op = Unit {0}
   Replaces f (Some p) op = (w : V) × computes f p.value.value w × (op ≡ operation.Insert w)
@@ -284,7 +287,7 @@ module _ (K : Type 0) {V F G : Type 0} (computes : F → V → V → Type 0) (gi
     pub upsert_refused : (cause : Cause) → answer ≡ Err cause → IsMemoryCapacityOrLimit cause
     upsert_refused cause is = upsert_as (Err cause) is
 
--- what became of a value that was handed in
+-- the value that was passed in, after the call
 module _ {V : Type 0} (value : V) (supply : Option (Ready V)) (spare : Option (Bor V))
     (back : (supply ≡ Some (record { value = value })) ⊎ ((supply ≡ None) × ((r : Bor V) × (spare ≡ Some r) × (r.now ≡ value)))) where
   pub spare_there : supply ≡ None → MatchOption spare ⊥ (λ r. Unit {0})

@@ -19,16 +19,18 @@ use denote.Triple.Call.{calls_from}
 use denote.Triple.Table.{framed}
 use Rattle.papaya_map.proofs.Telling.{Good, One, held}
 
--- the callee is called with these, and what it tells goes to a local, whose first part is the answer
+-- the callee is called with these, and its result with the evidence is stored in a local, whose
+-- first part is the result
 abbrev pub body_of : Callee → List Opd → (answer told : ℕ) → Body
 body_of f os answer told = seq (call f os (place told []))
     (seq (assign (place answer []) (rv_opd (copy (place told (field 0 ∷ []))))) (seq (assign (place 0 []) (rv_opd (copy (place answer [])))) return))
 
--- one that is moved goes to a local of its own first
+-- an argument that is moved is stored in a local of its own first
 abbrev pub moved : (to from : ℕ) → Body → Body
 moved to from = seq (assign (place to []) (rv_opd (copy (place from []))))
 
--- the answer, as it is stored: in the result's local, in its own, and in what the callee tells
+-- the result fits its type in each place: in the result's local, in its own, and in the callee's
+-- result with the evidence
 abbrev pub Fits : (τ τ₀ τₐ τₜ : Ty) → Type 0
 Fits τ τ₀ τₐ τₜ = (w : Val) → Good τ w → Good τ₀ w × Good τₐ w × Good τₜ (held w)
 
@@ -37,7 +39,8 @@ abbrev pub fn_of : (n m p : ℕ) → List (ℕ × ℕ) → List Kind → List Lo
 fn_of n m p os ks ls b = record { lifetimes = n; outlives = os; ty_params = ks; givens = m; params = p; locals = ls; body = b }
 
 module _ {M : Type 1} (𝓤 : Ura M) (𝓛 : Logic 𝓤) (𝓜 : Model 𝓤 𝓛.H) (𝓡 : Running 𝓤 𝓛.H 𝓜) where
-  -- The code runs from what the callee asks to what is made of what it tells.
+  -- The code runs from the callee's precondition to a postcondition that follows from the callee's
+  -- one.
   pub record Walk (fn : Fn) (f : Callee) (τ : Ty) (vs : List Val) : Type 2 where
     pub runs : (Pre : SProp 𝓤) (Q Left Post : Val → SProp 𝓤) → ent 𝓤 Pre ((tables 𝓤 𝓛.H 𝓜 𝓡 𝓡.env).C f vs Q)
         → ((v : Val) → ent 𝓤 (Q v) (𝓛.H.⇛ (ex 𝓤 (λ (w : Val). sep 𝓤 (fact 𝓤 (Good τ w × (v ≡ held w))) (Left w)))))

@@ -1,7 +1,7 @@
 //! The result of a call, with evidence of the history observed for it.
 //!
 //! A call without a pass creates one for itself, or a session, and consists of two halves. Its
-//! first half (in `map/observed`) returns a [`Observed`] by [`Pass::tell`](crate::map::Pass::tell) or
+//! first half (in `map/observed`) returns an [`Observed`] by [`Pass::tell`](crate::map::Pass::tell) or
 //! [`Session::tell`](crate::session::Session::tell). Its second half returns the same result. Its
 //! contract states, by that evidence, that the result is of a history of that very map
 //! (`of_its_history`).

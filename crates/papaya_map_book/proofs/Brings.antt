@@ -49,12 +49,12 @@ use Rattle.papaya_map_book.proofs.Logs.{seals-append, state_more, steps-append}
 use Rattle.papaya_map_book.proofs.Makers.{map_key, sealed_or_map}
 use Rattle.papaya_map_book.proofs.Names.{word_answer}
 
--- what is none of two is the first of neither
+-- if the first of two options or else the second is none, the first is
 or_none : {X : Type 0} (x y : Option X) → or_else x y ≡ None → x ≡ None
 or_none None y e = refl
 or_none (Some x) y e = absurd (cc e)
 
--- where a table comes, the root or the number of a next table is another
+-- if a table comes, the exchanged word is the root or the number of a next table
 not_counting : {K V : Type 0} (g : Setting K (Stored K V)) (c : Coding K (Stored K V)) (g' : Setting K (Stored K V)) (s : State (Stored K V))
     (e : Step K V) (w : Where Sheet) → comes e ≡ names.Table w → Allows g' s (exchange_of e)
     → ((a : At) → (a ≡ Made → ⊥) → word_of g c (after s (exchange_of e)) a ≡ word_of g c s a) → ⊥
@@ -156,7 +156,7 @@ module _ {K V S : Type 0} (eq : K → K → Bool) (hash : S → K → ℕ)
   not_seal : (j : ℕ) → (cell cs j).1 ≡ true → j ≢ w.value.seal
   not_seal j home i = let z = ap (λ (n : ℕ). (cell cs n).1) i in cc (z, home, away)
 
-  -- the words of the table are no words of another
+  -- no word of the table is a word of another one
   unshared : (a a' : At) (j : ℕ) → key_at es a ≡ Some j → key_of w.value a' ≡ Some j → ⊥
   unshared a a' j x y =
       ⊎_elim (λ i. absurd (not_seal j (home_of a j x) i)) (λ o. no_shared eq hash cs log h w.value.seal away a j x (made.past a' j y) o) (made.owned a' j y)
@@ -167,7 +167,7 @@ module _ {K V S : Type 0} (eq : K → K → Bool) (hash : S → K → ℕ)
       let grown = log_grows plan (entries_of log) (entry_of e) law h.lawful.allowed (brings_more eq hash b log law w h.lawful none e with_it may) in
       subst (λ (l : List (Entry (Stored K V))). AllAllowed (setting_in plan l) start (exchanges l)) (sym (entries-append log (Stepped e ∷ []))) grown
 
-  -- a table of a number that did not come then had not come before
+  -- a number that has no table afterwards had none before
   none_before : (t : ℕ) → table_in (steps_of log') t ≡ None → table_in es t ≡ None
   none_before t n = or_none (table_in es t) (or_else (Rattle.std.proofs.Common.cond (number_of w == t) (Some w) None) None)
       (sym (table_then es e w with_it t) ∙ (ap (λ (l : List (Step K V)). table_in l t) (sym steps') ∙ n))
@@ -225,7 +225,7 @@ module _ {K V S : Type 0} (eq : K → K → Bool) (hash : S → K → ℕ)
   not_maker : (a : At) (j : ℕ) → key_at es a ≡ Some j → 1 ≢ j
   not_maker a j x i = ⊎_elim (λ r. (map_key es a j r x).0 (sym i)) (λ t. absurd (omega arith)) (h.counted a j x).1
 
-  -- a word that was dealt is one of the row
+  -- a word that was dealt for the table is one of the row
   of_row : (j : ℕ) → owner j log ≡ Some w.value.seal → j < 3 + row_len
   of_row j o = let l : j - 3 < length (seals_of log) = get_within (seals_of log) (j - 3) w.value.seal o in let m = h.room in omega arith
 

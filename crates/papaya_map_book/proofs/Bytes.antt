@@ -4,7 +4,7 @@ use Rattle.std.proofs.lemmas.Bool.{cases_order}
 use Rattle.std.proofs.lemmas.Nat.{div-add-mod', div-mul-add, field_of, mod-mul-add, mod_below, mul-add-lt, pow-add, pow_pos, shr-shr, shr_below}
 use Rattle.papaya_map_book.specs.Hinted.{byte_of}
 
--- of two numbers that are the same below a multiple, as far as a byte
+-- two numbers that differ by a multiple of 2^(8 i + 8) have the same byte i
 low_byte : (n m i k : ℕ) → m ≡ n + k * 2 ^ (i * 8 + 8) → byte_of i m ≡ byte_of i n
 low_byte n m i k is =
     let unit = 2 ^ (8 + i * 8) in

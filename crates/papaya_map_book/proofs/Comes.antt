@@ -41,7 +41,7 @@ either_in : {X : Type 0} (f : Sheet → Option X) (o n : Option (Where Sheet)) (
 either_in f None n j e = inr (refl, e)
 either_in f (Some w) n j e = inl e
 
--- where a table has not come, no word of it has a seal
+-- if a table has not come, no word of it has a seal
 pub no_seal : {K V : Type 0} (es : List (Step K V)) (at : At) → table_in es (table_of at) ≡ None → seal_at es at ≡ None
 no_seal es Root n = refl
 no_seal es (Next t) n = ap (in_table (λ s. Some s.seal)) n
@@ -164,7 +164,7 @@ seal_key es (Aborted t) seal x = x
 seal_key es (Done t d) seal x = x
 seal_key es (Slot t i) seal x = x
 
--- No word of a table that has come is one that was dealt for a table whose seal is away.
+-- No word of a table that has come was dealt for a table whose seal is not home.
 pub no_shared : {K V S : Type 0} (eq : K → K → Bool) (hash : S → K → ℕ) (cs : List Cell) (log : List (Event K V S)) (h : AreCodes eq hash cs log)
     (seal : ℕ) → (cell cs seal).1 ≡ false → (at : At) (j : ℕ) → key_at (steps_of log) at ≡ Some j → 3 ≤ j → owner j log ≡ Some seal → ⊥
 no_shared eq hash cs log h seal away at j key past own =

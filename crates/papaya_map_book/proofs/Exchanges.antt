@@ -1,4 +1,4 @@
--- An exchange of a word preserves the rule, whatever its kind, and returns what was exchanged.
+-- An exchange of a word preserves the rule, whatever its kind, and returns the exchanged word.
 use Rattle.std.proofs.Common.{◌≡◌, ◌≢◌, inl, inr, ⊎_elim, ℕ, ◌+◌, ◌<◌, ◌≤◌, ◌==◌, Bool, true, false}
 use Rattle.std.proofs.Common.{Option, None, Some, List, [], ◌∷◌, ◌++◌, length, slice_set, refl, sym}
 use Rattle.std.proofs.Common.{ap, ◌∙◌, subst, arith, length-set}
@@ -113,7 +113,7 @@ module _ {K V S : Type 0} (eq : K → K → Bool) (hash : S → K → ℕ)
               ap (λ (c : Cell). c.0) same ∙ h.fresh j two (sym (ap (λ (c : Cell). c.1) same) ∙ home) (λ at' x. out at' (new_key at' j x));
         }
 
-  -- what was opened is what the thread saw
+  -- a lawful log that begins with an opening has the parameters of that opening
   pub begun_is : (b b' : Begun K V S) (log : List (Event K V S)) → IsPrefix (Begin b ∷ []) log → IsLawfulLog eq hash b' log → b' ≡ b
   begun_is b b' log pre l = let both : Begin b ∷ ([] ++ pre.0) ≡ Begin b' ∷ l.rest = pre.1 ∙ l.is in sym (cc both)
 

@@ -1,4 +1,4 @@
--- A load that looks for a table by its number leaves the book the same, and returns the table.
+-- A load that looks up a table by its number leaves the book unchanged, and returns the table.
 use Rattle.std.proofs.Common.{◌≡◌, inr, inl, ℕ, Bool, true, Option, None, Some, List, [], ◌∷◌, ◌++◌, refl, sym, ap, ◌∙◌, subst}
 use Rattle.std.proofs.lemmas.List.{append-nil}
 use mathlib.Core.List.{IsPrefix}
@@ -48,11 +48,11 @@ module _ {K V S : Type 0} (eq : K → K → Bool) (hash : S → K → ℕ) where
 
   module _ (b : Begun K V S) (log : List (Event K V S)) (began : IsPrefix (Begin b ∷ []) log) (t : ℕ) (state : Option (Named K V))
       (f : Fetched eq hash t log state) where
-    -- the book was opened with what it was opened with
+    -- the book was opened with the same parameters
     pub fetched_lawful : IsLawfulLog eq hash b log
     fetched_lawful = subst (λ (z : Begun K V S). IsLawfulLog eq hash z log) (opened_with eq hash b f.begun log began f.lawful) f.lawful
 
-    -- a table that had come is the one that is told
+    -- a table that had come is the one returned
     pub fetched_told : (hashed : IsHashed (setting_of eq (hash b.hasher) b.mode b.limit log) (coding_of (hash b.hasher))) (name : Book)
         (called : name_in log ≡ Some name) (seen : List (Event K V S)) → IsPrefix seen log → HasCome seen t
         → IsFoundTable eq hash b log hashed name called t state

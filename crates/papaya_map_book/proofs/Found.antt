@@ -34,7 +34,7 @@ none_before P t some (inl e) = omega arith
 none_before P t some (inr (u, e)) = omega arith
 
 module _ {K V : Type 0} where
-  -- an exchange that brings a table brings the table that comes with it
+  -- an exchange that brings a table brings the one that comes with it
   pub brings_table : (e : Step K V) (t : ℕ) → brings (exchange_of e) t ≡ true → (w : Where Sheet) × (table_if (comes e) t ≡ Some w)
   brings_table (steps.Open w) t h = (w, cond-true (number_of w == t) (Some w) None h)
   brings_table (steps.Claim u x p) t h = absurd cc

@@ -57,7 +57,7 @@ flag_zero : (b : Bool) → ◌≡◌ {A = ℕ} (cond b 1 0) 0 → b ≡ false
 flag_zero true e = absurd (omega arith)
 flag_zero false e = refl
 
--- a table stays blank where no word of it changes
+-- a table stays blank if no word of it changes
 pub blank_stays : {K P : Type 0} (g : Setting K P) (c : Coding K P) (s s' : State P) (t : ℕ)
     → ((at : At) → (at ≡ Next t) ⊎ (at ≡ Aborted t) ⊎ ((d : ℕ) × (at ≡ Done t d)) ⊎ ((x : ℕ) × (at ≡ Slot t x))
     → word_of g c s' at ≡ word_of g c s at) → IsBlank s t → IsBlank s' t

@@ -1,4 +1,4 @@
--- A hint of a slot stays one for good, so the rule for a slot's hint holds of it now.
+-- A hint of a slot stays valid for good, so the rule for a slot's hint holds of it now.
 use Rattle.std.proofs.Common.{◌≡◌, ◌≢◌, inl, inr, ⊎_elim, ℕ, ◌+◌, ◌*◌, ◌%◌, ◌^◌, ◌<◌, Bool, true, List, [], ◌∷◌, ◌++◌, Some, refl, sym, ap, ◌∙◌, subst}
 use Rattle.std.proofs.Math.Nat.{zero-div}
 use Rattle.std.proofs.lemmas.Bool.{cases_eq}
@@ -26,7 +26,7 @@ use Rattle.papaya_map_book.proofs.Settings.{is_hashed}
 use Rattle.papaya_map_book.proofs.Tellings.{first_prefix, opened_with}
 
 module _ {K V S : Type 0} (eq : K → K → Bool) (hash : S → K → ℕ) where
-  -- what the rule says of a hint stays true of each longer log
+  -- the rule's statement about a hint stays true of each longer log
   hint_grows : (k : ℕ) → Grows {E = Event K V S} (IsHinted eq hash k)
   hint_grows k n xs ys pre (inl e) = inl e
   hint_grows k n xs ys pre (inr w) = inr (record {
@@ -39,11 +39,11 @@ module _ {K V S : Type 0} (eq : K → K → Bool) (hash : S → K → ℕ) where
     is = w.is;
   })
 
-  -- and so what it says of eight of them
+  -- and so does its statement about eight of them
   pub hinted_grows : (k : ℕ) → Grows {E = Event K V S} (AreHinted eq hash k)
   hinted_grows k n xs ys pre all = λ i lt. hint_grows (k + i) (byte_of i n) xs ys pre (all i lt)
 
-  -- a number without hints says nothing
+  -- a number without hints states nothing
   pub none_hinted : (k : ℕ) (log : List (Event K V S)) → AreHinted eq hash k 0 log
   none_hinted k log = λ i lt. inl (ap (λ (n : ℕ). n % 256) (zero-div (2 ^ (i * 8))))
 
@@ -70,11 +70,11 @@ module _ {K V S H : Type 0} (eq : K → K → Bool) (input : K → List (List �
     abbrev c : Coding K (Stored K V)
     c = coding_of (hash b.hasher)
 
-    -- 0 says nothing of any slot
+    -- 0 states nothing about any slot
     nothing : (t x n : ℕ) → n ≡ 0 → IsSlotHint eq hash b t x n log
     nothing t x n e = record { lawful = lawful; is = subst (λ z. IsHint g c (state_of log) t x z) (sym e) (hint_none g c ((state_of log).slot t x)) }
 
-    -- what was a hint after a beginning of the log
+    -- a hint that was valid for a beginning of the log
     pub hint_later : (t x n : ℕ) (before : List (Event K V S)) → IsPrefix before log → IsSlotHint eq hash b t x n before → IsSlotHint eq hash b t x n log
     hint_later t x n before since is =
         let hashed = is_hashed eq input build write finish classes respects b log lawful in
@@ -88,7 +88,7 @@ module _ {K V S H : Type 0} (eq : K → K → Bool) (input : K → List (List �
               (hint_agrees (setting_of eq (hash b.hasher) b.mode b.limit before) g c (λ p. refl) ((state_of before).slot t x) n is.is);
         }
 
-    -- of which the book was opened with the same, and no two slots share a word
+    -- in which the book was opened with the same parameters, and no two slots share a word
     was_here : (t x k n : ℕ) → key_at (steps_of log) (Slot t x) ≡ Some k → WasHint eq hash k n log → IsSlotHint eq hash b t x n log
     was_here t x k n key w =
         let first : first_in w.before ≡ Some (Begin w.begun) = ap first_in w.is.lawful.is in
@@ -100,7 +100,7 @@ module _ {K V S H : Type 0} (eq : K → K → Bool) (input : K → List (List �
         subst (λ (z : ℕ × ℕ). IsSlotHint eq hash b z.0 z.1 n log) (λ i. (table i, place i))
         (hint_later w.table w.place n w.before w.since (subst (λ z. IsSlotHint eq hash z w.table w.place n w.before) (sym same) w.is))
 
-    -- so what the rule says of the hint beside a slot's word may be the slot's hint
+    -- so the hint that the rule permits beside a slot's word may be the slot's hint
     pub said_by_now : (t x k n : ℕ) → key_at (steps_of log) (Slot t x) ≡ Some k → IsHinted eq hash k n log → IsSlotHint eq hash b t x n log
     said_by_now t x k n key (inl e) = nothing t x n e
     said_by_now t x k n key (inr w) = was_here t x k n key w

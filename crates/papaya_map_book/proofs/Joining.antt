@@ -41,7 +41,7 @@ module _ {K V S : Type 0} (eq : K → K → Bool) (hash : S → K → ℕ) (b : 
   abbrev words : ℕ
   words = length w.value.done
 
-  -- the table has the words that its sheet says
+  -- the table has the words that its sheet states
   pub with_chunks : with_it.chunks (number_of w) ≡ words
   with_chunks = cond-true (number_of w == number_of w) words (g.chunks (number_of w)) (eq-eqb (number_of w) (number_of w) refl)
 
@@ -61,7 +61,7 @@ module _ {K V S : Type 0} (eq : K → K → Bool) (hash : S → K → ℕ) (b : 
   with_hashed h = record { lawful = with_lawful; coding = record { respects = h.coding.respects; hash_fits = h.coding.hash_fits }; places = h.places }
 
   module _ (l : IsLawfulLog eq hash b log) (none : table_in (steps_of log) (number_of w) ≡ None) where
-    -- it is not on the chain, of which both settings say the same
+    -- it is not on the chain, on which both settings agree
     other : (t : ℕ) → IsOn s.first s.next t → with_it.chunks t ≡ g.chunks t
     other t on =
         ⊎_elim
@@ -124,6 +124,6 @@ module _ {K V S : Type 0} (eq : K → K → Bool) (hash : S → K → ℕ) (b : 
             place = a.place;
           }
 
-      -- what is allowed in it is allowed in the setting of the log that has the step
+      -- an exchange that it allows is allowed in the setting of the log that has the step
       pub brings_more : Allows with_it s (exchange_of e) → Allows longer s (exchange_of e)
       brings_more may = allows_carries with_it longer s (sound with_it with_lawful (exchanges_of log) with_allowed) both_agree (exchange_of e) same_chunks may

@@ -14,7 +14,7 @@ use Rattle.papaya_map_book.specs.Limits.{HasNoRoom, slots_brought, tables_by, ta
 use Rattle.papaya_map_book.specs.Logs.{Member, comes, number_of, or_else, steps_of, table_if, table_in}
 use Rattle.papaya_map_book.proofs.Logs.{steps-append}
 
--- what is in a list is in a longer one
+-- a member of a list is a member of a longer one
 member_first : {X : Type 0} (x : X) (xs ys : List X) → Member x xs → Member x (xs ++ ys)
 member_first x [] ys h = absurd h
 member_first x (y ∷ xs) ys (inl e) = inl e
@@ -36,7 +36,7 @@ tables_since v log pre = (tables_of pre.0, sym (tables_append (steps_of v) (step
 pub member_since : (len : ℕ) (tables tables' : List ℕ) → IsPrefix tables tables' → Member len tables → Member len tables'
 member_since len tables tables' pre h = subst (Member len) pre.1 (member_first len tables pre.0 h)
 
--- where there was no room there is none, whatever tables came since
+-- if there was no room, there is none whatever tables came since
 pub room_since : (initial : ℕ) (tables tables' : List ℕ) (given : List CapacityCause) → IsPrefix tables tables' → HasNoRoom initial tables given
     → HasNoRoom initial tables' given
 room_since initial tables tables' given pre (inl full) = inl full
@@ -49,7 +49,7 @@ room_since initial tables tables' given pre (inr long) = inr (record {
   long = long.long;
 })
 
--- what comes under this number is this table, with its slots
+-- the table that comes under this number is this one, with its slots
 slots_named : {K V : Type 0} (n : Named K V) (t : ℕ) (w : Where Sheet) → table_if n t ≡ Some w → Member (length w.value.slots) (slots_brought n)
 slots_named names.Nothing t w e = absurd (cc e)
 slots_named (names.Pair p) t w e = absurd (cc e)

@@ -1,12 +1,12 @@
 -- Tokens of `boxcar` arenas.
 pub mod Made
--- offers that hand tokens to the book
+-- offers that pass tokens to the book
 pub mod Offers
 -- longer logs
 pub mod Logs
 pub mod Names
 pub mod Windows
--- what steps keep and tell
+-- the facts that steps preserve and record
 pub mod Cells
 pub mod Loads
 pub mod Grown
@@ -28,13 +28,13 @@ pub mod Loaded
 pub mod Kept
 pub mod Opened
 pub mod TableSizes
--- how many slots the tables have that came
+-- the numbers of slots of the tables that came
 pub mod Lengths
--- whose exchange a wish is of
+-- the kind of machine that makes the exchange of a wish
 pub mod Wishes
 pub mod Words
 pub mod Fetching
--- a table that is linked is another than all that have come
+-- a linked table differs from all that have come
 pub mod Linking
 -- slots that no table has yet
 pub mod FreshMore

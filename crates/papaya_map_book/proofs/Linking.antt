@@ -41,7 +41,7 @@ use Rattle.papaya_map_book.proofs.Settings.{is_hashed}
 use Rattle.papaya_map_book.proofs.Opened.{same_number}
 use Rattle.papaya_map_book.proofs.Wishes.{copy_wished}
 
--- where there is no root there is no first table
+-- if there is no root, there is no first table
 no_first : {K P : Type 0} (g : Setting K P) (s : State P) → IsSound g s → s.root ≡ 0 → s.first ≡ 0
 no_first g s sound root = ⊎_elim (λ h. h.1) (λ on. let some = on.0 in absurd (omega arith)) sound.root
 
@@ -67,7 +67,7 @@ comes_stays g s (Promote u n) sound may t some c = c
 comes_stays g s (Abort u) sound may t some c = c
 comes_stays g s (Take m) sound may t some c = c
 
--- through more exchanges too
+-- it stays so after several exchanges
 comes_still : {K P : Type 0} (g : Setting K P) → IsLawful g → (es : List (Exchange P)) (s : State P) (m : K → Option P) → IsKeeping g s m
     → AllAllowed g s es → (t : ℕ) → 0 < t → Comes s t → Comes (run es s) t
 comes_still g law [] s m keeps may t some c = c
@@ -146,7 +146,7 @@ module _ {K V S : Type 0} (eq : K → K → Bool) (hash : S → K → ℕ) (b : 
         (steady.rises u))
         (comes_in t some h.0 h.1)
 
-    -- so where a table that has come has no next one, no table with a greater number has come
+    -- so if a table that has come has no next one, no table with a greater number has come
     pub last_came : (o : Option (Where Sheet)) (t n : ℕ) → table_in (steps_of log) n ≡ o → 0 < t → HasCome log t → s.next t ≡ 0 → t < n → o ≡ None
     last_came None t n h some come last less = refl
     last_came (Some w) t n h some come last less =
@@ -155,7 +155,7 @@ module _ {K V S : Type 0} (eq : K → K → Bool) (hash : S → K → ℕ) (b : 
         let more = has_next s.next steady.rises s.first t n a c less in
         absurd (omega arith)
 
-  -- a table that may be linked brings a number that is no other table's
+  -- a table that may be linked has a number that no other table has
   pub can_link : ((log : List (Event K V S)) → IsLawfulLog eq hash b log → IsLawful (setting_of eq (hash b.hasher) b.mode b.limit log))
       → (t : ℕ) (sheet : Sheet) (w : Where Sheet) (v : List (Event K V S)) → IsTable v t sheet
       → CanExchange eq hash b (Next t) (Some kinds.Link) 0 (number_of w) None (names.Table w) v

@@ -37,7 +37,7 @@ module _ {K V S : Type 0} (eq : K → K → Bool) (hash : S → K → ℕ) (b : 
     pub fits : table.index < 2 ^ 32
     pub book : table.value.book ≡ name
 
-  -- what a table says that came under the number that was found
+  -- the facts about a table that came under the number that was found
   pub found_table : (w : Where Sheet) → IsLawfulLog eq hash b log → state ≡ Some (names.Table w) → table_in (steps_of log) found ≡ Some w → IsFoundTable
   found_table w lawful gained came =
       let by = table_came (steps_of log) found w came in
@@ -145,7 +145,7 @@ module _ {K V S : Type 0} (eq : K → K → Bool) (hash : S → K → ℕ) (b : 
   pub found_pair : (o : Option (Stored K V)) → IsPairOf found state o → named ((state_of log).slot t x) ≡ o
   found_pair o i = found_by o i ((state_of log).slot t x) refl
 
-  -- so is the pair that was told
+  -- so is the pair that was returned
   pub told_pair : (p : Stored K V) → state ≡ Some (names.Pair p) → named ((state_of log).slot t x) ≡ Some p
   told_pair p e = one_told (named ((state_of log).slot t x)) p (cc (sym r.state_is ∙ e))
 
@@ -156,7 +156,7 @@ module _ {K V S : Type 0} (eq : K → K → Bool) (hash : S → K → ℕ) (b : 
   pub names_pair : NamesPair found state
   names_pair m n = let s = slot_told eq hash b log hashed name called found state t x r m n in (s.pair, s.gained, s.number)
 
-  -- which lies in the logs
+  -- and it is stored in the book's arenas
   pub found_placed : (o : Option (Stored K V)) → named ((state_of log).slot t x) ≡ o → IsPlaced b (Some name) (pair_named o)
   found_placed None e = tt
   found_placed (Some p) e = r.lawful.placed (names.Pair p)

@@ -1,4 +1,4 @@
--- A load leaves the book the same, and returns the word at the place.
+-- A load leaves the book unchanged, and returns the word at the place.
 use Rattle.std.proofs.Common.{◌≡◌, ℕ, true, false, None, Some, List, [], ◌++◌, slice_set, inl, inr, refl, sym, ap, ◌∙◌, subst, Bool}
 use Rattle.std.proofs.lemmas.List.{append-nil, set-get_or}
 use mathlib.Core.List.{IsPrefix}
@@ -17,7 +17,7 @@ use Rattle.papaya_map_book.proofs.Names.{word_answer}
 abbrev pub shows : {E : Type 0} → List E → List E
 shows log = log
 
--- writing the word that stands there changes nothing
+-- writing the word that is there changes nothing
 pub same_cells : (cs : List Cell) (k : ℕ) → (cell cs k).1 ≡ true → slice_set cs k ((cell cs k).0, true) ≡ cs
 same_cells cs k home = let c : ((cell cs k).0, true) ≡ cell cs k = λ i. ((cell cs k).0, sym home i) in
     ap (λ (z : Cell). slice_set cs k z) c ∙ set-get_or cs k (0, false)
@@ -32,11 +32,11 @@ module _ {K V S : Type 0} where
   row_left (Dealt seal count) xs ys l e f = (e, f)
   row_left (Stepped e) xs ys l f g = (f, g)
 
-  -- where nothing is added it stays
+  -- if nothing is added it stays
   pub row_still : (ask : Event K V S) (log : List (Event K V S)) → LeavesRow ask → MovesRow ask log (log ++ [])
   row_still ask log l = row_left ask log (log ++ []) l (ap name_in (append-nil log)) (ap dealt (append-nil log))
 
-  -- a key that was seen is the key in each longer log
+  -- a key that was observed is the key in each longer log
   pub key_since : (v log : List (Event K V S)) (at : At) (k : ℕ) → IsPrefix v log → key_at (steps_of v) at ≡ Some k → key_at (steps_of log) at ≡ Some k
   key_since v log at k pre e =
       ap (λ (l : List (Event K V S)). key_at (steps_of l) at) (sym pre.1)

@@ -1,4 +1,4 @@
--- Longer logs, and what they record of exchanges, tables, keys and names.
+-- Longer logs, and their records of exchanges, tables, keys and names.
 use Rattle.std.proofs.Common.{◌≡◌, ◌⊎◌, inl, inr, ⊎_elim, ℕ, zero, suc, ◌+◌, ◌-◌, ◌==◌, Bool, false}
 use Rattle.std.proofs.Common.{cond, Option, None, Some, List, [], ◌∷◌, ◌++◌, length, map, slice_get}
 use Rattle.std.proofs.Common.{refl, sym, ap, ◌∙◌, append_assoc, arith, eqb-true}
@@ -45,7 +45,7 @@ get_left [] ys k x e = absurd (cc e)
 get_left (y ∷ xs) ys zero x e = e
 get_left (y ∷ xs) ys (suc k) x e = get_left xs ys k x e
 
--- what comes after the end of a list
+-- the elements after the end of the first list
 pub get_right : {X : Type 0} (xs ys : List X) (i : ℕ) → slice_get (xs ++ ys) (length xs + i) ≡ slice_get ys i
 get_right [] ys i = let e : 0 + i ≡ i = omega arith in ap (slice_get ys) e
 get_right (x ∷ xs) ys i = let e : length (x ∷ xs) + i ≡ suc (length xs + i) = omega arith in ap (slice_get (x ∷ (xs ++ ys))) e ∙ get_right xs ys i
@@ -156,7 +156,7 @@ module _ {K V : Type 0} where
   chunks_same [] e t h = cond-false (brings e.by t) e.chunks 0 h
   chunks_same (f ∷ es) e t h = ap (cond (brings f.by t) f.chunks) (chunks_same es e t h)
 
-  -- a table that is there came with some exchange, and has the number that was looked for
+  -- a table that is there came with some exchange, under the number that was looked up
   table_came_with : (n : Named K V) (t : ℕ) (w : Where Sheet) → table_if n t ≡ Some w → (n ≡ names.Table w) × (number_of w ≡ t)
   table_came_with names.Nothing t w e = absurd (cc e)
   table_came_with (names.Pair p) t w e = absurd (cc e)
@@ -213,7 +213,7 @@ module _ {K V S : Type 0} where
   answered_left (names.Pair p) xs ys h = entered_left (names.Pair p) xs ys h
   answered_left (names.Table w) xs ys h = entered_left (names.Table w) xs ys h
 
-  -- what came with an exchange came into the book
+  -- a thing that came with an exchange was entered in the book
   pub came_entered : (n : Named K V) (log : List (Event K V S)) → Came n (steps_of log) → Entered n log
   came_entered n [] h = absurd h
   came_entered n (Wish at kind made m ∷ log) h = inr (came_entered n log h)
@@ -247,7 +247,7 @@ module _ {K V S : Type 0} where
       (λ t. chunks_same (entries_of log) (entry_of e) t (brings_none e t q)) in
       λ i. Rattle.papaya_words_law.specs.Grows.planned (plan_of eq hash mode most) (sizes i) (places i) (chunks i))
 
-  -- where what comes is no table, it is the setting of the log
+  -- if no table comes, it is the setting of the log
   pub with_quiet : (eq : K → K → Bool) (hash : K → ℕ) (mode : ResizeMode) (most : Option ℕ) (log : List (Event K V S)) (n : Named K V) → IsQuiet n
       → setting_with eq hash mode most n log ≡ setting_of eq hash mode most log
   with_quiet eq hash mode most log names.Nothing q = refl

@@ -1,4 +1,4 @@
--- A token of a vector is made of what contracts see of it and of its bytes. Assumes `Logic`.
+-- A token of a vector is made of its observable value and of its bytes. Assumes `Logic`.
 use Rattle.std.proofs.Common.{◌≡◌, ℕ, ◌^◌, ◌<◌, List, [], ◌∷◌, refl, ap, subst, w64}
 use Rattle.boxcar.proofs.Spans.{one_bucket, one_slot}
 use seplogic.Ra.Ura.{Ura}
@@ -58,7 +58,7 @@ module _ {M : Type 1} {𝓤 : Ura M} (𝓛 : Logic 𝓤) (R : RattleType) where
   abbrev shown_at : (w : Where R.Denot) → Fields R w → Fml
   shown_at w x = fsep (written (bucket_row R) x.0.row.of x.0.row.value) (written R x.0.item.of x.0.item.value)
 
-  -- what a token shows can be had twice
+  -- the resources that represent a token can be duplicated
   pub stands_twice : (w : Where R.Denot) → ent 𝓤 (sem 𝓛 (stands R w)) (sep 𝓤 (sem 𝓛 (stands R w)) (sem 𝓛 (stands R w)))
   stands_twice w = qed 𝓛 (‵ (stands R w) ∷ []) ∵ fpick ! (λ (x : Fields R w).
       let A : Fml = written (bucket_row R) x.0.row.of x.0.row.value in let B : Fml = written R x.0.item.of x.0.item.value in

@@ -1,4 +1,5 @@
--- Steps on the makers' word preserve the rule: a seal is added and words are dealt for it, or the book learns its name.
+-- Steps on the makers' word preserve the rule: a seal is added and words are dealt for it, or the
+-- book is named.
 use Rattle.std.proofs.Common.{◌≡◌, ◌≢◌, ◌⊎◌, inl, inr, ⊎_elim, ℕ, ◌+◌, ◌-◌, ◌<◌, ◌≤◌, ◌==◌, Bool}
 use Rattle.std.proofs.Common.{true, false, Option, None, Some, List, [], ◌∷◌, ◌++◌, length, map}
 use Rattle.std.proofs.Common.{replicate, slice_set, slice_get, zero, suc, refl, sym, ap, ◌∙◌, subst}
@@ -55,7 +56,7 @@ map_key es (Aborted t) k of e = absurd of
 map_key es (Done t c) k of e = absurd of
 map_key es (Slot t x) k of e = absurd of
 
--- what is placed stays so where the book's name stays
+-- a pair or table that is placed stays so if the book's name stays
 pub placed_named : {K V S : Type 0} (b : Begun K V S) (o o' : Option Book) → ((name : Book) → o ≡ Some name → o' ≡ Some name) → (n : Named K V)
     → IsPlaced b o n → IsPlaced b o' n
 placed_named b o o' h names.Nothing p = tt
@@ -67,7 +68,7 @@ no_flag : (o : Option Book) (n : ℕ) → flag o + n ≡ 0 → (o ≡ None) × (
 no_flag None n e = (refl, omega arith)
 no_flag (Some b) n e = absurd (omega arith)
 
--- each of a list of one number
+-- each element of a list of one number
 each_same : (n x i : ℕ) → i < n → slice_get (replicate n x) i ≡ Some x
 each_same zero x i l = absurd (omega arith)
 each_same (suc n) x zero l = refl
@@ -128,7 +129,7 @@ module _ {K V S : Type 0} (eq : K → K → Bool) (hash : S → K → ℕ) where
         i)
         (h.owned at k x)
 
-    -- the rule is kept where the words that have a key stay
+    -- the rule is preserved if the words that have a key stay
     pub kept_still : length cs ≤ length cs' → cell cs' 1 ≡ (flag (name_in log') + dealt log', true) → dealt log' ≤ row_len
         → ((k : ℕ) (at : At) → key_at (steps_of log) at ≡ Some k → cell cs' k ≡ cell cs k)
         → ((k : ℕ) → k < 3 + row_len → (cell cs' k).1 ≡ true)
@@ -202,7 +203,7 @@ module _ {K V S : Type 0} (eq : K → K → Bool) (hash : S → K → ℕ) where
           (λ j. slice_get (last j) (place j)) ∙ (get_right (seals_of log) (replicate count seal) i ∙ each_same count seal i l);
     }
 
-    -- the book is told its name
+    -- the book is named
     pub kept_called : (name : Book) → (cell cs 1).0 ≡ 0 → AreCodes eq hash (slice_set cs 1 (1, true)) (log ++ Called name ∷ [])
         × (name_in (log ++ Called name ∷ []) ≡ Some name) × (dealt (log ++ Called name ∷ []) ≡ 0)
     kept_called name none =
@@ -227,12 +228,12 @@ module _ {K V S : Type 0} (eq : K → K → Bool) (hash : S → K → ℕ) where
   maker_home : (cs : List Cell) (log : List (Event K V S)) → AreCodes eq hash cs log → (1 < length cs) × ((cell cs 1).1 ≡ true)
   maker_home cs log h = (let l = at_least_three cs log h in omega arith, ap (λ (c : Cell). c.1) h.maker)
 
-  -- the book as it is where the makers' word is another
+  -- the book is unchanged if the expected value of the makers' word is not there
   left_so : (cs : List Cell) (log : List (Event K V S)) → AreCodes eq hash cs log → AreCodes eq hash (slice_set cs 1 ((cell cs 1).0, true)) (log ++ [])
   left_so cs log h = subst (λ (z : List Cell × List (Event K V S)). AreCodes eq hash z.0 z.1)
       (λ i. (sym (same_cells cs 1 (ap (λ (c : Cell). c.1) h.maker)) i, sym (append-nil log) i)) h
 
-  -- what is asked for where words are drawn, and how the makers' word goes on
+  -- the preconditions of drawing words, and the change of the makers' word
   module _ (v : List (Event K V S)) (name : Book) (named : name_in v ≡ Some name) (old count : ℕ) (room : old + count ≤ 1 + row_len) where
     abbrev ask : Event K V S
     ask = Draw name (old + 2) count

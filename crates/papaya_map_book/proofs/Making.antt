@@ -30,7 +30,7 @@ others_stay g c s t (Done u d) n = refl
 others_stay g c s t (Slot u x) n = refl
 others_stay g c s t Made n = refl
 
--- where there is no root, a table may be opened
+-- if there is no root, a table may be opened
 pub can_open : {K V S : Type 0} (eq : K → K → Bool) (hash : S → K → ℕ) (b : Begun K V S) (made : Option (Stored K V)) (w : Where Sheet)
     (v : List (Event K V S)) → CanBring eq hash b Root (Some kinds.Open) 0 (number_of w) made w v
 can_open eq hash b made w v log pre l is = (
@@ -65,7 +65,7 @@ from_at (j ∷ ks) first zero k f e = let i : j ≡ k = cc e in let h = f.0 in o
 from_at (j ∷ ks) first (suc x) k f e = let r = from_at ks (first + 1) x k f.1 e in omega arith
 
 module _ {K V S : Type 0} where
-  -- they stay so
+  -- they stay dealt
   pub dealt_later : (v log : List (Event K V S)) → IsPrefix v log → (first count seal : ℕ) → AreDealt first count seal v → AreDealt first count seal log
   dealt_later v log pre first count seal d =
       subst (AreDealt first count seal) pre.1
@@ -120,7 +120,7 @@ module _ {K V S : Type 0} where
         let i : c ≡ length sheet.done + x = one_index c (length sheet.done + x) k (done_in c k e) (slot_in x k f) in
         let l = get_within sheet.done c k e in omega arith
 
-    -- which word of a table it is, by the order in which they were made
+    -- two words of a table with the same key are one, by the order in which the words were made
     other : (at at' : At) (k : ℕ) → table_of at ≡ table_of at' → key_of sheet at ≡ Some k → key_of sheet at' ≡ Some k → at ≡ at'
     other Root at' k t e f = absurd (cc e)
     other Made at' k t e f = absurd (cc e)

@@ -24,16 +24,16 @@ module _ {K V : Type 0} (g : Setting K (Stored K V)) where
   abbrev pub Stands : State (Stored K V) → Stored K V → Type 0
   Stands s p = (t : ℕ) × (x : ℕ) × (named (s.slot t x) ≡ Some p)
 
-  -- a pair that stands after a slot was put stood before, or is the one that was put
+  -- a slot names a pair after a put if one named it before, or if it is the pair that was put
   put_stands : (s : State (Stored K V)) (t x : ℕ) (w : Word (Stored K V)) (p : Stored K V) → Stands (slot_put s t x w) p → Stands s p ⊎ (named w ≡ Some p)
   put_stands s t x w p h = ⊎_elim (λ i. inl (h.0, h.1, ap named (sym i.0) ∙ h.2)) (λ i. inr (ap named (sym i.2) ∙ h.2)) (slot_cases s t x w h.0 h.1)
 
-  -- the same where the word that was put names what stood there
+  -- the same if the word that was put names the pair that was there
   put_same : (s : State (Stored K V)) (t x u y : ℕ) (w : Word (Stored K V)) (p : Stored K V) → named (s.slot u y) ≡ named w
       → Stands (slot_put s t x w) p → Stands s p
   put_same s t x u y w p e h = ⊎_elim (λ i. i) (λ i. (u, y, e ∙ i)) (put_stands s t x w p h)
 
-  -- a pair that stands after an exchange stood before, or it comes with it
+  -- a slot names a pair after an exchange if one named it before, or the pair comes with it
   stands_after : (s : State (Stored K V)) (e : Step K V) → Allows g s (exchange_of e) → (p : Stored K V) → Stands (after s (exchange_of e)) p
       → Stands s p ⊎ (comes e ≡ names.Pair p)
   stands_after s (steps.Open w) a p h = inl h
@@ -51,7 +51,7 @@ module _ {K V : Type 0} (g : Setting K (Stored K V)) where
   stands_after s (steps.Abort t) a p h = inl h
   stands_after s (steps.Take m) a p h = inl h
 
-  -- a pair that stands after a list stood before it, or came with it
+  -- a slot names a pair after a list of exchanges if one named it before, or the pair came with it
   stands_came : (es : List (Step K V)) (s : State (Stored K V)) → AllAllowed g s (exchanges (map entry_of es)) → (p : Stored K V)
       → Stands (run (exchanges (map entry_of es)) s) p → Stands s p ⊎ Came (names.Pair p) es
   stands_came [] s a p h = inl h
@@ -68,7 +68,7 @@ module _ {K V : Type 0} (g : Setting K (Stored K V)) where
       → named ((run (exchanges (map entry_of es)) start).slot t x) ≡ Some p → Came (names.Pair p) es
   pair_came es a p t x e = ⊎_elim (λ i. absurd (none_stands p i)) (λ i. i) (stands_came es start a p (t, x, e))
 
--- what a word names is a true answer
+-- the pair or table that a word names is a correct answer
 module _ {K V S : Type 0} (g : Setting K (Stored K V)) (log : List (Event K V S)) (allowed : AllAllowed g start (exchanges_of log)) where
   pair_answer : (o : Option (Stored K V)) → ((p : Stored K V) → o ≡ Some p → Entered (names.Pair p) log) → Answered log (pair_named o)
   pair_answer None h = tt

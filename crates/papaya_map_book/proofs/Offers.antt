@@ -1,4 +1,5 @@
--- Offers over a book that keeps the resources which show its pairs and tables, and its row of words. Assumes `Logic`.
+-- Offers over a book that keeps the resources of its pairs and tables, and its row of words.
+-- Assumes `Logic`.
 use Rattle.std.proofs.Common.{◌≡◌, ℕ, zero, suc, ◌+◌, ◌-◌, ◌≤◌, inl, inr, Option, None, Some, List, [], ◌∷◌, ◌++◌, refl, sym, subst, arith}
 use seplogic.Ra.Ura.{Ura}
 use base.Logic.{SProp, ent, sep, wand, all, upd, emp, id⊢, via, all_i, upd_i}
@@ -33,13 +34,13 @@ module _ {M : Type 1} {𝓤 : Ura M} (𝓛 : Logic 𝓤) {K V : Type 0} (pair : 
   abbrev Sm : Fml → SProp 𝓤
   Sm F = sem 𝓛 F
 
-  -- what shows a thing can be had twice
+  -- the resources of a pair or table can be duplicated
   shown_twice : (n : Named K V) → ent 𝓤 (Sm (Shown n)) (sep 𝓤 (Sm (Shown n)) (Sm (Shown n)))
   shown_twice names.Nothing = qed 𝓛 (‵ ftrue ∷ []) ∵ nothing ! $ done !
   shown_twice (names.Pair p) = pair_twice p
   shown_twice (names.Table w) = table_twice w
 
-  -- what came with an entry can be had beside the log
+  -- the resources that came with an entry can be taken beside the log
   has_shown : (log : List (Event K V S)) (n : Named K V) → Entered n log → ent 𝓤 (Sm (Kept log)) (sep 𝓤 (Sm (Kept log)) (Sm (Shown n)))
   has_shown [] n h = absurd h
   has_shown (e ∷ es) n (inl p) =
@@ -71,14 +72,14 @@ module _ {M : Type 1} {𝓤 : Ura M} (𝓛 : Logic 𝓤) {K V : Type 0} (pair : 
   abbrev Next : (Named K V → Fml) → List (Event K V S) × List (Event K V S) × Named K V → SProp 𝓤
   Next gain z = wand 𝓤 (Sm (Held z.0)) (upd 𝓤 (sep 𝓤 (Sm (Held z.1)) (Sm (gain z.2))))
 
-  -- the log after an update, where what comes with it is handed over
+  -- the log after an update, if the resources of the new entry are passed in
   added : (ask : Event K V S) (xs ys : List (Event K V S)) → Added ask xs ys → ent 𝓤 (sep 𝓤 (Sm (Kept xs)) (Sm (Shown (brought ask)))) (Sm (Kept ys))
   added ask xs ys (inl p) = subst (λ (l : List (Event K V S)). ent 𝓤 (sep 𝓤 (Sm (Kept xs)) (Sm (Shown (brought ask)))) (Sm (Kept l))) (sym p)
       (qed 𝓛 (‵ (Kept xs) ∷ ‵ (Shown (brought ask)) ∷ []) ∵ keep ! (0 ∷ []) $ by ! (id⊢ 𝓤 _))
   added ask xs ys (inr p) = subst (λ (l : List (Event K V S)). ent 𝓤 (sep 𝓤 (Sm (Kept xs)) (Sm (Shown (brought ask)))) (Sm (Kept l))) (sym p.2)
       (subst (λ (n : Named K V). ent 𝓤 (sep 𝓤 (Sm (Kept xs)) (Sm (Shown n))) (Sm (Kept (xs ++ p.0 ∷ [])))) p.1 (one_more xs p.0))
 
-  -- the rights that are kept, where the row is as it was
+  -- the rights that are kept, if the row is unchanged
   row_same : (xs ys : List (Event K V S)) → name_in ys ≡ name_in xs → dealt ys ≡ dealt xs → ent 𝓤 (Sm (Row xs)) (Sm (Row ys))
   row_same xs ys e f = subst (λ (z : Option Book × ℕ). ent 𝓤 (Sm (Row xs)) (Sm (rest_of z.0 z.1))) (λ i. (sym e i, sym f i)) (id⊢ 𝓤 _)
 
@@ -90,7 +91,7 @@ module _ {M : Type 1} {𝓤 : Ura M} (𝓛 : Logic 𝓤) {K V : Type 0} (pair : 
   row_left (Dealt seal count) xs ys l m = row_same xs ys m.0 m.1
   row_left (Stepped e) xs ys l m = row_same xs ys m.0 m.1
 
-  -- an offer is made of what shows what comes
+  -- an offer is made of the resources of the pair or table that comes
   offers : (ask : Event K V S) → LeavesRow ask → ent 𝓤 (Sm (Shown (brought ask))) (Sm (offer Held (Moved ask) Shown))
   offers ask leaves =
       all_i 𝓤 (λ (z : List (Event K V S) × List (Event K V S) × Named K V). all 𝓤 (λ (_ : Moved ask z.0 z.1 z.2). Next Shown z)) (λ z.
@@ -100,12 +101,12 @@ module _ {M : Type 1} {𝓤 : Ura M} (𝓛 : Logic 𝓤) {K V : Type 0} (pair : 
       use2 𝓛 (‵ (Kept z.1)) (added ask z.0 z.1 m.0) $
       use1 𝓛 (‵ (Kept z.1) ⊛ ‵ (Shown z.2)) (answered z.1 z.2 m.1) $ split ! $ move ! (0 ∷ 2 ∷ []) $ fjoin ! $ done !))
 
-  -- an offer with which nothing comes is made of nothing
+  -- an offer with which nothing comes needs no resources
   pub bare_offer : (ask : Event K V S) → brought ask ≡ names.Nothing → LeavesRow ask → ent 𝓤 (emp 𝓤) (Sm (offer Held (Moved ask) Shown))
   bare_offer ask e leaves = via 𝓤 (Sm ftrue) (qed 𝓛 [] ∵ nothing ! $ done !)
       (subst (λ (n : Named K V). ent 𝓤 (Sm (Shown n)) (Sm (offer Held (Moved ask) Shown))) e (offers ask leaves))
 
-  -- what brings a pair or a table leaves the row
+  -- an event that brings a pair or a table leaves the row
   leaves_with : (ask : Event K V S) → (brought ask ≡ names.Nothing → ⊥) → LeavesRow ask
   leaves_with (Wish at kind made n) h = tt
   leaves_with (Draw book first count) h = h refl
@@ -121,13 +122,13 @@ module _ {M : Type 1} {𝓤 : Ura M} (𝓛 : Logic 𝓤) {K V : Type 0} (pair : 
   pub table_offer : (ask : Event K V S) (w : Where Sheet) → brought ask ≡ names.Table w → ent 𝓤 (Sm (table w)) (Sm (offer Held (Moved ask) Shown))
   table_offer ask w e = subst (λ (n : Named K V). ent 𝓤 (Sm (Shown n)) (Sm (offer Held (Moved ask) Shown))) e (offers ask (leaves_with ask (λ i. cc (i, e))))
 
-  -- the log, where nothing comes
+  -- the log, if nothing comes
   bare_added : (ask : Event K V S) → brought ask ≡ names.Nothing → (xs ys : List (Event K V S)) → Added ask xs ys → ent 𝓤 (Sm (Kept xs)) (Sm (Kept ys))
   bare_added ask e xs ys a =
       qed 𝓛 (‵ (Kept xs) ∷ []) ∵ nothing ! $ move ! (1 ∷ 0 ∷ []) $
       use2 𝓛 (‵ (Kept ys)) (subst (λ (n : Named K V). ent 𝓤 (sep 𝓤 (Sm (Kept xs)) (Sm (Shown n))) (Sm (Kept ys))) e (added ask xs ys a)) $ done !
 
-  -- an offer that gives the row to the book
+  -- an offer that passes the row to the book
   pub row_offer : (book : Book) → ent 𝓤 (Sm (pens_own book.cells_name 3 row_len)) (Sm (offer Held (Moved (Called book)) Shown))
   row_offer book =
       let ask : Event K V S = Called book in
@@ -154,7 +155,7 @@ module _ {M : Type 1} {𝓤 : Ura M} (𝓛 : Logic 𝓤) {K V : Type 0} (pair : 
       (qed 𝓛 (‵ (pens_own δ k (suc (m + n))) ∷ []) ∵ fsplit ! $ move ! (1 ∷ []) $
       use1 𝓛 (‵ (pens_own δ (suc k) m) ⊛ ‵ (pens_own δ (suc k + m) n)) (rights_split δ (suc k) m n) $ split ! $ move ! (2 ∷ 0 ∷ []) $ fjoin ! $ done !)
 
-  -- what is drawn of the rest of a row
+  -- the words that are drawn from the rest of a row
   draws : (book : Book) (given first count : ℕ) → first ≡ 3 + given → given + count ≤ row_len
       → ent 𝓤 (Sm (rest_of (Some book) given)) (sep 𝓤 (Sm (pens_own book.cells_name first count)) (Sm (rest_of (Some book) (given + count))))
   draws book given first count is fits =
@@ -180,7 +181,7 @@ module _ {M : Type 1} {𝓤 : Ura M} (𝓛 : Logic 𝓤) {K V : Type 0} (pair : 
       fsplit ! $ move ! (1 ∷ []) $ use1 𝓛 (‵ (pens_own book.cells_name first count) ⊛ ‵ (Row z.1)) takes $ split ! $ move ! (2 ∷ []) $
       use1 𝓛 (‵ (Kept z.1)) (bare_added ask refl z.0 z.1 m.0) $ move ! (0 ∷ 2 ∷ []) $ fjoin ! $ done !))
 
--- what is kept names no token of one thread
+-- the resources that are kept name no token of one thread
 module _ {K V : Type 0} (pair : Stored K V → Fml) (table : Where Sheet → Fml) (pair_keyless : (p : Stored K V) → Keyless (pair p))
     (table_keyless : (w : Where Sheet) → Keyless (table w)) where
   shown_keyless : (n : Named K V) → Keyless (shown pair table n)

@@ -16,11 +16,11 @@ use Rattle.papaya_map_book.specs.Logs.{comes, number_of, or_else, state_of, step
 use Rattle.papaya_map_book.specs.Plays.{IsMeant}
 use Rattle.papaya_map_book.proofs.Logs.{steps-append, table_append}
 
--- a number equals itself, as the test says it
+-- a number equals itself, by the boolean test
 pub same_number : (n : ℕ) → (n == n) ≡ true
 same_number n = ⊎_elim (λ h. h) (λ h. absurd (eqb-false n n h refl)) (cases_Bool (n == n))
 
--- a number that is not 0, as the test says it
+-- a number that is not 0, by the boolean test
 pub not_zero : (n : ℕ) → (n ≡ 0 → ⊥) → (n == 0) ≡ false
 not_zero n some = ⊎_elim (λ h. absurd (some (eqb-true n 0 h))) (λ h. h) (cases_Bool (n == 0))
 
@@ -46,6 +46,6 @@ module _ {K V S : Type 0} (eq : K → K → Bool) (hash : S → K → ℕ) (b : 
       ∙ (ap (λ (z : Option (Where Sheet)). or_else z (table_in (done.0 ∷ []) n)) none ∙ (ap (λ (z : Option (Where Sheet)). or_else z None) here)))) in
       (w, there, refl)
 
-  -- where it was lost nothing has come
+  -- if it was lost nothing has come
   pub opened_lost : (found == 0) ≡ false → log ≡ t.before
   opened_lost is = subst After is t.after

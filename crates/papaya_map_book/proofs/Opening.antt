@@ -25,7 +25,7 @@ first_key K V (Aborted t) k e = absurd (cc e)
 first_key K V (Done t c) k e = absurd (cc e)
 first_key K V (Slot t x) k e = absurd (cc e)
 
--- and each has one of its own
+-- and each has a key of its own
 first_apart : (K V : Type 0) (at at' : At) (k : ℕ) → key_at {K = K} {V = V} [] at ≡ Some k → key_at {K = K} {V = V} [] at' ≡ Some k → at ≡ at'
 first_apart K V at at' k x y =
     ⊎_elim
@@ -85,11 +85,11 @@ module _ {K V S : Type 0} (eq : K → K → Bool) (hash : S → K → ℕ) (b : 
     fresh = λ k three home out. first_zero n k;
   }
 
--- what shows a token names no token of one thread
+-- the resources that represent a token name no token of one thread
 pub stands_keyless : (R : RattleType) (w : Where R.Denot) → Keyless (stands R w)
 stands_keyless R w = λ x. (tt, tt)
 
--- the row has so many words, as code writes it
+-- the number of words in the row, as the code writes it
 pub row_is : row_len ≡ 4611686018427387904
 unfolding row_len
 row_is = refl

@@ -49,7 +49,7 @@ module _ {K V S H : Type 0} (eq : K → K → Bool) (input : K → List (List �
       places = λ k t j. refl;
     }
 
-    -- and what a longer log says of the tables that came is the same
+    -- and the two settings agree on the tables that came
     pub agrees_later : (log' : List (Event K V S)) → IsPrefix log log'
         → Agrees (IsOn (state_of log).first (state_of log).next) (setting_of eq hash b.mode b.limit log) (setting_of eq hash b.mode b.limit log')
     agrees_later log' pre =

@@ -40,11 +40,11 @@ some_of w t =
     (cases_Bool (number_of w == t))
 
 module _ {K V : Type 0} where
-  -- the size that a table says which comes
+  -- the size of a table is the one that its sheet states
   abbrev IsSizeOf : Named K V → Where Sheet → Type 0
   IsSizeOf n w = (slots_of n ≡ length w.value.slots) × (places_of n ≡ w.value.limit + 1)
 
-  -- a table that comes under the number has the size that it says
+  -- a table that comes under the number has the size that its sheet states
   size_named : (n : Named K V) (t : ℕ) (w : Where Sheet) → table_if n t ≡ Some w → IsSizeOf n w
   size_named names.Nothing t w e = absurd (cc e)
   size_named (names.Pair p) t w e = absurd (cc e)

@@ -12,7 +12,7 @@ slot_word b [] i x a l e = absurd (omega arith)
 slot_word b (w ∷ ws) zero x a l e = (w.key, refl, e ∙ a.0)
 slot_word b (w ∷ ws) (suc i) x a l e = slot_word b ws i x a.1 (omega arith) e
 
--- the word of a slot of a table, as what is seen of the table names it
+-- the word of a slot of a table, as the observed sheet of the table names it
 pub seen_word : (view seen : Sheet) (ws : List Named) (i : ℕ) (x : Named) → view ≡ seen → view.slots ≡ map (λ (w : Named). w.key) ws
     → AllOf view.book ws → i < length seen.slots → x ≡ slice_index_or ws i x → (k : ℕ) × (slice_get seen.slots i ≡ Some k) × (x ≡ word_named seen.book k)
 seen_word view seen ws i x same slots all within is =
@@ -22,7 +22,7 @@ seen_word view seen ws i x same slots all within is =
     subst (λ (s : Sheet). (k : ℕ) × (slice_get s.slots i ≡ Some k) × (x ≡ word_named s.book k)) same
     (at.0, ap (λ (l : List ℕ). slice_get l i) slots ∙ at.1, at.2)
 
--- one of keys that follow one another
+-- an element of consecutive keys
 from_get : (ks : List ℕ) (first x : ℕ) → AreFrom ks first → x < length ks → slice_get ks x ≡ Some (first + x)
 from_get [] first x f l = absurd (omega arith)
 from_get (k ∷ ks) first zero f l = let is : k ≡ first + 0 = let a = f.0 in omega arith in ap (λ (n : ℕ). Some n) is

@@ -24,7 +24,7 @@ module _ {K V S : Type 0} (eq : K → K → Bool) (hash : S → K → ℕ) where
 
   module _ (b : Begun K V S) (first v log : List (Event K V S)) (begins : first_in first ≡ Some (Begin b)) (learned : IsPrefix first v)
       (since : IsPrefix v log) where
-    -- what the thread knew before the step begins as the book does
+    -- the log that the thread has observed before the step begins as the book does
     pub began_seen : IsPrefix (Begin b ∷ []) v
     began_seen = prefix_trans (Begin b ∷ []) first v (first_prefix (Begin b) first begins) learned
 

@@ -9,7 +9,7 @@ module _ {K V S H : Type 0} {d : keyed.Ghosts S K H} where
   pub sees_trans : (a b c : Window K V S H d) → Sees a b → Sees b c → Sees a c
   sees_trans a b c p q = record { book = q.book ∙ p.book; log = prefix_trans a.sight.log b.sight.log c.sight.log p.log q.log }
 
-  -- a step that makes no exchange sees as any other
+  -- a step that makes no exchange observes as any other
   pub observed : {a b : Window K V S H d} → Observes a b → Sees a b
   observed o = record { book = o.book; log = o.log }
 

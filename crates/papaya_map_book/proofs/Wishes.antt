@@ -1,4 +1,4 @@
--- Which machine's exchange a wish is for, by its kind.
+-- The machine whose exchange a wish is for, by its kind.
 use Rattle.std.proofs.Common.{⊎_elim, ℕ, Option, None, Some}
 use Rattle.papaya_call.specs.declared.ask.At.{At}
 use Rattle.papaya_call.specs.declared.ask.StepKind.{StepKind}

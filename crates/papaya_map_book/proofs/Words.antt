@@ -1,4 +1,5 @@
--- The words of a table in the log: their keys, and the book to which they belong. Also what was tried since.
+-- The words of a table in the log: their keys, and the book to which they belong. Also the attempts
+-- since an earlier log.
 use Rattle.std.proofs.Common.{◌≡◌, ℕ, Bool, Option, Some, List, [], ◌∷◌, slice_get, sym, ap, ◌∙◌, subst}
 use mathlib.Core.List.{IsPrefix}
 use Rattle.logbook.specs.Pages.{Book, Named as Word}
@@ -21,7 +22,7 @@ module _ {K V S : Type 0} (eq : K → K → Bool) (hash : S → K → ℕ) (b : 
     (begins : first_in first ≡ Some (Begin b)) (learned : IsPrefix first v) (name : Book) (named : name_in first ≡ Some name)
     (b' : Begun K V S) (held : IsLawfulLog eq hash b' v) (seen : List (Event K V S)) (since : IsPrefix seen v) (t : ℕ) (sheet : Sheet)
     (is : IsTable seen t sheet) where
-  -- the table has come by now
+  -- the table has come in this log
   pub came : IsTable v t sheet
   came = table_since seen v t sheet since is
 
@@ -52,7 +53,7 @@ module _ {K V S : Type 0} (eq : K → K → Bool) (hash : S → K → ℕ) (b : 
   pub slot_there : (w : Word) (x k : ℕ) → slice_get sheet.slots x ≡ Some k → w ≡ word_named sheet.book k → key_at (steps_of v) (Slot t x) ≡ Some w.key
   slot_there w x k get at = slot_key v t x k sheet came get ∙ key_there w k at
 
--- what was tried after more was seen was tried after less
+-- an attempt after a longer observed log is one after a shorter one
 pub tried_since : {K V S : Type 0} (eq : K → K → Bool) (hash : S → K → ℕ) (b : Begun K V S) (at : At) (kind : Option StepKind) (old new : ℕ)
     (made : Option (Stored K V)) (brings : Named K V) (seen v : List (Event K V S)) (found : ℕ) (log : List (Event K V S)) (state : Option (Named K V))
     → IsPrefix seen v → IsTried eq hash b at kind old new made brings v found log state → IsTried eq hash b at kind old new made brings seen found log state

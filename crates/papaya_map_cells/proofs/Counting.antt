@@ -55,7 +55,7 @@ module _ {M : Type 1} {𝓤 : Ura M} (𝓛 : Logic 𝓤) (d : ℕ) where
   deals n (no _) = qed 𝓛 (‵ (left d n) ∷ []) ∵ fpick ! (λ back.
       use1 𝓛 (‵ (ticket d n) ⊛ ‵ (left d (n + 1))) (one_held n back) $ split ! $ move ! (1 ∷ 0 ∷ []) $ done !)
 
-  -- what a step that gives the number k back makes of the word n
+  -- the word after n, by a step that returns the number k
   abbrev pub returned : ℕ → ℕ → ℕ
   returned k n = either (eqb n (k + 1)) k n
 
@@ -80,7 +80,7 @@ module _ {M : Type 1} {𝓤 : Ura M} (𝓛 : Logic 𝓤) (d : ℕ) where
         use1 𝓛 (‵ (left d (bump n)) ⊛ ‵ (gains d n)) (deals n (dec_le (2 ^ 63) (n + 1))) $ split ! $
         move ! (2 ∷ 0 ∷ []) $ fjoin ! $ fpack ! ℕ (counting d b o) (bump n) $ done !)))
 
-    -- a look leaves the counter as it is
+    -- a read leaves the counter unchanged
     pub counts_look : A.inv (fbor α I) ∗ (A.lft α q ∗ emp 𝓤)
         ⊢ asks 𝓛 (block_ptr b o) (λ n. n) always (λ n. fsep (flft α q) ftrue)
     counts_look = let f : ℕ → ℕ = λ n. n in let then : ℕ → Fml = λ _. ftrue in
@@ -91,7 +91,7 @@ module _ {M : Type 1} {𝓤 : Ura M} (𝓛 : Logic 𝓤) (d : ℕ) where
         each ! (λ (_ : Unit {0}). Again 𝓛 α q I b o f always then n) (λ _. assume ! (‵ (word b o n)) $
         suffices ! _ (upd_i 𝓤 Z) $ fjoin ! $ fpack ! ℕ (counting d b o) n $ nothing ! $ move ! (1 ∷ 0 ∷ []) $ done !)))
 
-    -- whoever has the ticket of the number may give it back
+    -- the thread with the ticket of the number may return it
     pub counts_back : (k : ℕ) → A.inv (fbor α I) ∗ (A.lft α q ∗ ⟦ ticket d k ⟧)
         ⊢ asks 𝓛 (block_ptr b o) (returned k) always (λ n. fsep (flft α q) ftrue)
     counts_back k = let f : ℕ → ℕ = returned k in let then : ℕ → Fml = λ _. ftrue in
@@ -104,7 +104,7 @@ module _ {M : Type 1} {𝓤 : Ura M} (𝓛 : Logic 𝓤) (d : ℕ) where
         use2 𝓛 (‵ (left d (f n))) (takes_back k n (eqb n (k + 1)) refl) $
         move ! (1 ∷ 0 ∷ []) $ fjoin ! $ fpack ! ℕ (counting d b o) (f n) $ nothing ! $ move ! (1 ∷ 0 ∷ []) $ done !)))
 
--- where a number is left, its ticket is gained
+-- if a number is left, its ticket is gained
 pub gained_one : {M : Type 1} {𝓤 : Ura M} (𝓛 : Logic 𝓤) (d n : ℕ) (full : Dec (2 ^ 63 ≤ n + 1)) → n < 9223372036854775807
     → ent 𝓤 (sem 𝓛 (gained d n full)) (sem 𝓛 (ticket d n))
 gained_one 𝓛 d n (yes full) h = absurd (omega arith)

@@ -18,7 +18,7 @@ module _ {M : Type 1} {𝓤 : Ura M} (𝓛 : Logic 𝓤) (E A P : RattleType)
   abbrev Fields : RattleType
   Fields = Inside.the_row E A P g
 
-  -- of its number it has to be known that it is 0, and what the other word has beside it has to be had
+  -- requires that the word's number is 0, and the resource that the other word has beside it
   pub becomes : (w w' : Named) (vs : List Val) → w.tracked ≡ false
       → ((number : ℕ) (log : List E.Denot) → g.hinted number log → number ≡ 0)
       → ent 𝓤
@@ -31,7 +31,7 @@ module _ {M : Type 1} {𝓤 : Ura M} (𝓛 : Logic 𝓤) (E A P : RattleType)
       rewrite ! 0 (λ (t : Bool). ‵ (beside E.coded.code g.hinted t w.key w.book n)) fresh refl $
       fpick ! (λ log. fsplit ! $ drop ! $ fpick ! (λ said. drop ! $
       rewrite ! 0 (λ (m : ℕ). ‵ (Fields.own_val (bits m) vs)) (nought n log said) refl $
-      -- [the field; that it fits; what the other word has beside it]
+      -- [the field; that it fits; the resource beside the other word]
       move ! (0 ∷ 2 ∷ []) $ fjoin ! $
       fpack ! ℕ (λ m. fsep (Fields.own_val (bits m) vs) (inner E.coded.code g'.hinted w' m)) 0 $
       move ! (1 ∷ 0 ∷ []) $ fjoin ! $ done !)))

@@ -16,7 +16,7 @@ module _ {P E A : Type 0} (g : Rule P E A) (h : Hinting P E) where
     moves = g.moves;
   }
 
--- what is left of a body after its first statement
+-- the rest of a body after its first statement
 abbrev pub after_first : Body → Body
 after_first (seq first rest) = rest
 after_first other = skip

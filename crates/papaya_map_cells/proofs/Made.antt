@@ -1,4 +1,4 @@
--- The crate's types, made of what they own.
+-- The crate's types, made from the resources that they own.
 use Rattle.std.proofs.Common.{ℕ, ◌^◌, ◌<◌, List, [], ◌∷◌, refl, w64}
 use seplogic.Ra.Ura.{Ura}
 use mir.Val.{Val, vint, vstruct, vcons, vnil}

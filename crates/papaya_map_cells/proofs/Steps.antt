@@ -30,7 +30,7 @@ head (gcons a b) = a
 head gnil = gnil
 head (gnum n) = gnil
 
--- which phase a mark is of
+-- the phase of a mark
 abbrev sort : Gv → ℕ
 sort gnil = 0
 sort (gnum n) = 1
@@ -74,7 +74,7 @@ module _ {M : Type 1} {𝓤 : Ura M} (𝓛 : Logic 𝓤) (R : RattleType) (l : N
   abbrev Next : Fml → S → Pr
   Next after s = ⟦ standing R l t b o s ⟧ ∗ ⟦ after ⟧
 
-  -- what the caller has after a load of its own word
+  -- the caller's resources after a load of its own word
   abbrev pub after_load : Share → ℕ → ℕ → ℕ → Fml → ℕ → Fml
   after_load q b' o' n after m = fsep (flft α q) (fsep (word b' o' n) after)
 
@@ -115,7 +115,7 @@ module _ {M : Type 1} {𝓤 : Ura M} (𝓛 : Logic 𝓤) (R : RattleType) (l : N
       qed 𝓛 (‵ (standing R l t b o (full x)) ∷ ‵ K ∷ []) ∵ fsplit3 ! $ move ! (1 ∷ []) $ fsplit ! $ move ! (0 ∷ 4 ∷ []) $
       use2 𝓛 (raw (never 𝓤)) (ticket_once 𝓛 l.counter l.number) $ keep ! (0 ∷ []) $ by ! (never_e 𝓤 _)
 
-  -- whoever has the ticket takes the place
+  -- the thread with the ticket takes the place
   pub takes_place : (q : Share) (b' o' n : ℕ)
       → A.inv (fbor α I) ∗ (A.lft α q ∗ (⟦ word b' o' n ⟧ ∗ ⟦ ticket l.counter l.number ⟧))
       ⊢ asks 𝓛 (block_ptr b' o') (λ m. m) always (after_load q b' o' n Taken)
@@ -135,7 +135,7 @@ module _ {M : Type 1} {𝓤 : Ura M} (𝓛 : Logic 𝓤) (R : RattleType) (l : N
       use1 𝓛 (later (‵ (shared_of R x b e α) ⊛ raw (lfts 𝓛 ts))) (shares x α ts b e inc sp) $ await ! tt $ split ! $
       move ! (2 ∷ 0 ∷ []) $ fjoin ! $ now ! $ done !
 
-  -- what a holder of the right finds: the slot is busy
+  -- a holder of the right finds the slot busy
   abbrev Writing : R.Denot → Fml
   Writing x = fsep (fobs γ (gnum 0)) (frozen x)
 
@@ -148,7 +148,7 @@ module _ {M : Type 1} {𝓤 : Ura M} (𝓛 : Logic 𝓤) (R : RattleType) (l : N
       use2 𝓛 (raw (upd 𝓤 (A.obs γ c ∗ A.auth γ c))) (𝓛.names.name_set_upd γ (gnum 0) (gnum 0) c) $
       settle 𝓛 G (‵ (fobs γ c) ⊛ ‵ (fauth γ c)) $ suffices ! _ (upd_i 𝓤 G) $ split ! $
       use1 𝓛 (‵ (fres γ c)) (𝓛.names.obs-res γ c) $ res_dup ! $
-      -- [written; written; the mark; the tie; what is lent; the ticket; nothing]
+      -- [written; written; the mark; the tie; `lent`; the ticket; nothing]
       show ! (Next (written R γ x)) (full x) $ move ! (3 ∷ 4 ∷ []) $ fjoin ! $ move ! (4 ∷ 1 ∷ []) $ fjoin ! $
       move ! (3 ∷ 0 ∷ 1 ∷ []) $ fjoin3 ! $ frame ! $ keep ! (0 ∷ []) $ done !
 
@@ -157,7 +157,7 @@ module _ {M : Type 1} {𝓤 : Ura M} (𝓛 : Logic 𝓤) (R : RattleType) (l : N
       use2 𝓛 (given (gnum 0 ≡ mark R s) (‵ (fobs γ (gnum 0)) ⊛ ‵ (fauth γ (mark R s)))) (𝓛.names.name_agree γ (gnum 0) (mark R s)) $
       learn ! (λ e. split ! $ move ! (0 ∷ 2 ∷ []) $ fjoin ! $ move ! (1 ∷ 2 ∷ []) $ fjoin ! $ move ! (0 ∷ 1 ∷ []) $ by ! (gives x s e))
 
-  -- whoever has written shares the value, and has the token
+  -- the thread that has written shares the value, and has the token
   pub shares_value : (q : Share) (b' o' n : ℕ) (x : R.Denot)
       → A.inv (fbor α I) ∗ (A.lft α q ∗ (⟦ word b' o' n ⟧ ∗ ⟦ Writing x ⟧))
       ⊢ asks 𝓛 (block_ptr b' o') (λ m. m) always (after_load q b' o' n (written R γ x))
@@ -168,7 +168,7 @@ module _ {M : Type 1} {𝓤 : Ura M} (𝓛 : Logic 𝓤) (R : RattleType) (l : N
     shows y = let L : Lft → Fml = shared_of R y b (at R o) in
         qed 𝓛 (‵ (standing R l t b o (full y)) ∷ []) ∵ fsplit3 ! $ move ! (2 ∷ []) $ fsplit ! $ move ! (1 ∷ []) $
         use1 𝓛 (‵ (L α) ⊛ ‵ (L α)) (contraction 𝓛 L (K y b (at R o)) α) $ split ! $
-        -- [what is lent, twice; the tie; the mark; what is told]
+        -- [`lent`, twice; the tie; the mark; `told`]
         move ! (2 ∷ 0 ∷ []) $ fjoin ! $ move ! (2 ∷ 3 ∷ 0 ∷ []) $ fjoin3 ! $ frame ! $ done !
 
     finds : (x : R.Denot) (s : S) → mark R (full x) ≡ mark R s

@@ -1,4 +1,5 @@
--- A compute on its fast path that removes the pair which its search met: its machine, which nothing runs, deletes it.
+-- A compute on its fast path that removes the pair which its search met: its ghost machine deletes
+-- the pair.
 use Rattle.std.proofs.Common.{◌≡◌, inl, inr, ℕ, ◌<◌, ◌==◌, Bool, true, false, MatchOption, Option, None}
 use Rattle.std.proofs.Common.{Some, List, [], ◌∷◌, ◌++◌, append-nil, length, refl, sym, ap, ◌∙◌}
 use Rattle.std.proofs.Common.{subst}
@@ -58,11 +59,11 @@ module _ {K V S H : Type 0} (eq : K → K → Bool) (input : K → List (List �
   abbrev query : IsQuery eq input (eq key) (input key)
   query = own_query eq input build write finish classes respects b name key
 
-  -- it is to show the pair
+  -- the machine is to call the closure with the pair
   abbrev shows : Machine
   shows = seeker_at Computes h b.mode 1 (nothing_made b.limit) (Showing (record { place = at; word = word }))
 
-  -- and was told that it is to go
+  -- and has received that the pair is to be removed
   abbrev buries : Machine
   buries = after shows (answers.Call (Op kinds.Remove))
 
@@ -84,7 +85,7 @@ module _ {K V S H : Type 0} (eq : K → K → Bool) (input : K → List (List �
         (loaded_with r.2 None []).call (record { place = at; word = word })
     may = r.4.relies.call.stage.1
 
-    -- it is of the call's class
+    -- its key is equal to the call's
     met_same : eq key (key_of p) ≡ true
     met_same = let both : Some may.pair ≡ Some p = sym may.last ∙ last_is in let one : may.pair ≡ p = cc both in
         subst (λ (z : Stored K V). eq key (key_of z) ≡ true) one may.same
@@ -135,7 +136,7 @@ module _ {K V S H : Type 0} (eq : K → K → Bool) (input : K → List (List �
         taken_at = subst (λ (w : Option (Stored K V)).
             MatchOption w (Some (pair_of word) ≡ None) (λ z. (Some (pair_of word) ≡ Some z.index) × (changed.class ≡ key_of z))) took changed.taken_is
 
-        -- so the history ends with it, where it is that one
+        -- so the history ends with its deletion, if it is that pair
         pub bury_traded : p.value ≡ taken.value → IsChangeOf (eq key) (history_of begun) (history_of log') (Some taken) None
         bury_traded value =
             let c = changed in record {
@@ -150,7 +151,7 @@ module _ {K V S H : Type 0} (eq : K → K → Bool) (input : K → List (List �
               kept = λ z o e f. absurd (cc f);
             }
 
--- A call whose machine ends with a change has made that one, or none where its exchange was lost.
+-- A call whose machine ends with a change has made that one, or none if its exchange was lost.
 module _ {K V S H : Type 0} {d : keyed.Ghosts S K H} (eq : K → K → Bool) (k : Option K) (begun : List (Event K V S)) (taken put : Option (Stored K V))
     (m : Machine) (changed : has_changed m ≡ true) (w w' : Window K V S H d) where
   pub makes_if : (went : Bool) → (went ≡ true → (change : Option ℕ × Option ℕ) → change_in m.call.state ≡ Some change

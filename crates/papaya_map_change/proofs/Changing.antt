@@ -1,4 +1,5 @@
--- After each answer a changing call again relies on what holds, and holds what it loaded last.
+-- After each answer a changing call again relies on facts that hold, and holds the table and the
+-- pair that it loaded last.
 use Rattle.std.proofs.Common.{◌≡◌, ◌⊎◌, inl, inr, ⊎_elim, ℕ, ◌+◌, ◌<◌, ◌==◌, Bool, true, false}
 use Rattle.std.proofs.Common.{if◌then◌else◌, MatchOption, Option, None, Some, List, [], ◌++◌}
 use Rattle.std.proofs.Common.{length, append-nil, refl, sym, ap, ◌∙◌, subst, arith}
@@ -61,13 +62,13 @@ use Rattle.papaya_map_book.proofs.Logs.{prefix_trans, table_came}
 use Rattle.papaya_map_lookup.proofs.Readings.{IsQuery, allowed_with, coding, fed, hashed_with, hint_with, hint_without, key_form, setting}
 use Rattle.papaya_map_book.proofs.TableSizes.{sizes}
 
--- the map resizes as its setting says
+-- the map resizes as its setting states
 pub mode_is : (mode : ResizeMode) → IsModeOf mode (is_blocking mode)
 mode_is (Incremental chunk) = refl
 mode_is Blocking = refl
 
 module _ {K V S : Type 0} where
-  -- a table that is held is held still, over a longer log
+  -- a table that is held is still held, over a longer log
   pub held_later : (log log' : List (Event K V S)) → IsPrefix log log' → (n : ℕ) (table : Option (Bor Sheet))
       → MatchOption table (n ≡ 0) (λ r. IsTable log n r.now) → MatchOption table (n ≡ 0) (λ r. IsTable log' n r.now)
   held_later log log' pre n None h = h
@@ -77,7 +78,7 @@ module _ {K V S : Type 0} where
   numbered : (log : List (Event K V S)) (n : ℕ) (sheet : Sheet) → IsTable log n sheet → (n == 0) ≡ false
   numbered log n sheet came = let e = (table_came (steps_of log) n came.0 came.1).1 in ne_eqb n 0 (λ z. omega arith)
 
-  -- the table that was loaded is held, or the one of before where there is none
+  -- the table that was loaded is held, or the previous one if none was
   held_loaded : (log : List (Event K V S)) (name : Book) (n word : ℕ) (table as_loaded : Option (Bor Sheet))
       → MatchOption table (n ≡ 0) (λ r. IsTable log n r.now) → MatchOption as_loaded (word ≡ 0) (λ r. IsTable log word r.now × (r.now.book ≡ name))
       → MatchOption (or_last as_loaded table) ((if word == 0 then n else word) ≡ 0) (λ r. IsTable log (if word == 0 then n else word) r.now)
@@ -90,14 +91,14 @@ module _ {K V S : Type 0} where
   held_named log n t None some e h = omega arith
   held_named log n t (Some r) some e h = subst (λ (z : ℕ). IsTable log z r.now) (sym e) h
 
-  -- a pair that a call holds is in the logs
+  -- a pair that a call holds is stored in the book's arenas
   pub placed_last : (b : Begun K V S) (name : Book) (pair last : Option (Stored K V)) → IsPlaced b (Some name) (pair_named pair)
       → IsPlaced b (Some name) (pair_named last) → IsPlaced b (Some name) (pair_named (or_last pair last))
   placed_last b name None last p q = q
   placed_last b name (Some z) last p q = p
 
 module _ {K V S : Type 0} (eq : K → K → Bool) (hash : S → K → ℕ) (b : Begun K V S) (name : Book) where
-  -- a load tells that the log is lawful
+  -- a load implies that the log is lawful
   pub loaded_lawful : (log : List (Event K V S)) (at : At) (word : ℕ) (table table' : Option (Bor Sheet)) (last last' : Option (Stored K V))
       → IsLoaded eq hash b name at word log table table' last last' → IsLawfulLog eq hash b log
   loaded_lawful log Root word table table' last last' is = is.1.lawful
@@ -155,7 +156,7 @@ module _ {K V S H : Type 0} (eq : K → K → Bool) (input : K → List (List �
   abbrev hash : S → K → ℕ
   hash = hash_of input build write finish
 
-  -- the hash of what it is called by, which is a lawful further key
+  -- the hash of its argument, which is a lawful further key
   abbrev by : ℕ
   by = fed eq input build write finish classes respects b matches query lawful
 
@@ -179,17 +180,17 @@ module _ {K V S H : Type 0} (eq : K → K → Bool) (input : K → List (List �
   abbrev hashed : (log : List (Event K V S)) → IsLawfulLog eq hash b log → IsHashed (Wide log) Coded
   hashed log l = hashed_with eq input build write finish classes respects b matches query lawful log l
 
-  -- the pairs that a call itself was told of
+  -- the pairs that a call itself has loaded
   abbrev pub call_loaded : (last : Option (Stored K V)) → List (Stored K V) → told_calls.LoadedPairs (Stored K V)
   call_loaded last made = record { last = last; made = made }
 
-  -- what a call relies on
+  -- the facts that a call relies on
   pub relies_of : (log : List (Event K V S)) (m : Machine) (table : Option (Bor Sheet)) (last kept : Option (Stored K V)) (made : List (Stored K V))
       (taken put : Option (Stored K V)) (fresh : Option (Where Sheet × Pen)) → Calling log m table last kept made taken put fresh
       → Relying log m (loaded_with last kept made)
   relies_of log m table last kept made taken put fresh r = record { since = r.since; is = r.is; relies = r.relies }
 
-  -- and its call, whatever it is set aside for
+  -- and those that its call relies on, whatever it is set aside for
   pub call_relies : (log : List (Event K V S)) (m : Machine) (table : Option (Bor Sheet)) (last kept : Option (Stored K V)) (made : List (Stored K V))
       (taken put : Option (Stored K V)) (fresh : Option (Where Sheet × Pen)) → Calling log m table last kept made taken put fresh
       → IsRelying eq input build write finish classes respects b matches query lawful k (exchanges_of begun) log m.call (call_loaded last made)
@@ -200,7 +201,7 @@ module _ {K V S H : Type 0} (eq : K → K → Bool) (input : K → List (List �
     abbrev may : AllAllowed (Wide log) start (exchanges_of begun ++ r.since)
     may = subst (AllAllowed (Wide log) start) (sym r.is) (allowed_with eq input build write finish classes respects b matches query lawful log r.lawful)
 
-    -- what its call names is on the chain
+    -- the table that its call names is on the chain
     abbrev NamedOn : Ask → Type 0
     NamedOn ask = IsNamed (Wide log) Coded (hashed log r.lawful) (exchanges_of begun) r.since may k ask
 
@@ -209,7 +210,7 @@ module _ {K V S H : Type 0} (eq : K → K → Bool) (input : K → List (List �
         (ask_named (Wide log) Coded (hashed log r.lawful) (exchanges_of begun) r.since may k (call_loaded last made) m.call.task m.call.hash m.call.made
         m.call.state r.relies.call.stage)
 
-    -- the table that it names is the one told of last
+    -- the table that it names is the one loaded last
     named_last : (ask : Ask) → ask_of m ≡ Call ask → (t : ℕ) → table_asked ask ≡ Some t → t ≡ r.number
     named_last ask e t asked = let own = call_asks m ask e in table_named m.call r.number t (r.at_table own.0) (ap table_asked own.1 ∙ asked)
 
@@ -263,7 +264,7 @@ module _ {K V S H : Type 0} (eq : K → K → Bool) (input : K → List (List �
               ((state_of log).slot t x) n here;
         }
 
-    -- where a load names a place that calls load
+    -- the place of a load is one that calls load
     pub load_table : (at : At) → ask_of m ≡ Call (Load at)
         → Rattle.papaya_call_law.specs.Followed.MayAsk m.call.task (calls.kind_of_ask m.call) (Load at) → IsHeldAt at log table
     load_table Root e asks = tt
@@ -273,7 +274,7 @@ module _ {K V S H : Type 0} (eq : K → K → Bool) (input : K → List (List �
     load_table (Done t c) e asks = asks
     load_table Made_word e asks = tt
 
-  -- A call was told of the words after this log, with which the log grew to the other.
+  -- A call received an answer about the words after this log, with which the log grew to the other.
   module _ (v before log : List (Event K V S)) (lb : IsLawfulLog eq hash b before) (l : IsLawfulLog eq hash b log) (pre : IsPrefix v before)
       (more : IsPrefix before log) (m : Machine) (table : Option (Bor Sheet)) (last kept : Option (Stored K V)) (made : List (Stored K V))
       (taken put : Option (Stored K V)) (fresh : Option (Where Sheet × Pen)) (r : Calling v m table last kept made taken put fresh) (ask : Ask)
@@ -286,7 +287,7 @@ module _ {K V S H : Type 0} (eq : K → K → Bool) (input : K → List (List �
         (call_loaded last' made')
 
     module _ (last' : Option (Stored K V)) (made' : List (Stored K V)) (tells : Tells last' made') where
-      -- it relies on what holds again
+      -- it relies again on facts that hold
       on : Relying log (after m (answers.Call answer)) (loaded_with last' kept made')
       on =
           let mid = relying_later eq input build write finish classes respects b matches by form k (exchanges_of begun) v r.lawful m
@@ -301,7 +302,7 @@ module _ {K V S H : Type 0} (eq : K → K → Bool) (input : K → List (List �
           own_changes m own.0 answer (Wide log) Coded (hashed log l) k r.relies.call.hash (state_of before) (loaded_with last kept made)
           (exchanges_of more.0) (call_loaded last' made') ask own.1 tells
 
-      -- and is under way with what it holds then
+      -- and is under way with the values that it then holds
       pub answered : (table' : Option (Bor Sheet)) (taken' put' : Option (Stored K V)) (fresh' : Option (Where Sheet × Pen))
           → MatchOption table' (told_table ask answer r.number ≡ 0) (λ t. IsTable log (told_table ask answer r.number) t.now)
           → IsPlaced b (Some name) (pair_named last') → ((q : Stored K V) → IsOneOf made' q → IsPlaced b (Some name) (pair_named (Some q)))
@@ -333,7 +334,8 @@ module _ {K V S H : Type 0} (eq : K → K → Bool) (input : K → List (List �
   module _ (log log' : List (Event K V S)) (pre : IsPrefix log log') (l' : IsLawfulLog eq hash b log') (m : Machine) (table : Option (Bor Sheet))
       (last kept : Option (Stored K V)) (made : List (Stored K V)) (taken put : Option (Stored K V)) (fresh : Option (Where Sheet × Pen))
       (r : Calling log m table last kept made taken put fresh) where
-    -- An answer that is true of the log's words, with which nothing is exchanged and nothing was changed before.
+    -- An answer that is true of the log's words, with which nothing is exchanged and nothing was
+    -- changed before.
     pub record IsQuiet (ask : Ask) (answer : Answer) (last' : Option (Stored K V)) (made' : List (Stored K V)) (fresh' : Option (Where Sheet × Pen)) :
         Type 0 where
       pub told : IsTrueOf (Wide log') Coded k (state_of log') (kind_of_ask m) (call_loaded last made) ask answer [] (call_loaded last' made')
@@ -341,7 +343,7 @@ module _ {K V S H : Type 0} (eq : K → K → Bool) (input : K → List (List �
       pub busy : IsCounting ask → ⊥
       pub brings : (n : ℕ) → IsBringing (ask_of (after m (answers.Call answer))) n → IsFresh b name log' n fresh'
 
-    -- no table comes after an ask for something else
+    -- no table comes after an ask for another thing
     pub barren : (ask : Ask) → ask_of m ≡ Call ask → IsBarren ask → (answer : Answer) (fresh' : Option (Where Sheet × Pen)) (n : ℕ)
         → IsBringing (ask_of (after m (answers.Call answer))) n → IsFresh b name log' n fresh'
     barren ask asks none answer fresh' n brings = let own = call_asks m ask asks in absurd (own_barren m own.0 answer ask own.1 none n brings)
@@ -436,7 +438,7 @@ module _ {K V S H : Type 0} (eq : K → K → Bool) (input : K → List (List �
     abbrev same_log : IsPrefix log log
     same_log = ([], append-nil log)
 
-    -- the size of the table was told
+    -- the size of the table was received
     pub sized : (t : ℕ) (lent : Bor Sheet) → table ≡ Some lent → (slots limit : ℕ) → slots ≡ length lent.now.slots → limit ≡ lent.now.limit
         → ask_of m ≡ Call (SizeOf t) → Calling log (after m (answers.Call (Size slots limit))) table last kept made taken put fresh
     sized t lent has slots limit slots_is limit_is asks =
@@ -455,7 +457,7 @@ module _ {K V S H : Type 0} (eq : K → K → Bool) (input : K → List (List �
         })
         r.holds_table r.last_placed r.made_placed
 
-    -- the pair last told of was compared
+    -- the pair last passed to the machine was compared
     pub compared : (n : ℕ) (same : Bool) → ((p : Stored K V) → last ≡ Some p → same ≡ (Wide log).same k ((Wide log).key p))
         → ask_of m ≡ Call (SameKey n) → Calling log (after m (answers.Call (Yes same))) table last kept made taken put fresh
     compared n same is asks =

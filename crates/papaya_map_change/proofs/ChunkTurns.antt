@@ -28,7 +28,7 @@ use Rattle.papaya_map_change.specs.declared.copier.Copier.{Copier}
 use Rattle.papaya_map_change.specs.Copier.{AnswersExchange, AnswersLoad}
 use Rattle.papaya_map_change.specs.Settling.{IsMoveStep, Stop}
 
--- a root leads on to the table after it, where not all is copied
+-- the table after a root is read next, unless all is copied
 root_on : (aim : Aim) (mode : ResizeMode) (root : ℕ) → ((met : ℕ) → aim ≡ aims.All met → ⊥) → (root == 0) ≡ false
     → at_root aim mode root ≡ On (Stepping aim (Aiming root root))
 root_on (aims.Search table) mode root none is = ap (λ (z : Bool). if z then over (aims.Search table) else On (Stepping (aims.Search table) (Aiming root root))) is
@@ -70,7 +70,7 @@ module _ {K V S H : Type 0} (eq : K → K → Bool) (hash : S → K → ℕ) (b 
     valid = tt;
   }
 
-  -- the chunk's word says that the chunk is not copied
+  -- by the chunk's word the chunk is not copied
   pub takes : (cursor : Cursor) (done : ℕ) → AnswersLoad eq hash b name (Done cursor.to cursor.at) log h log' h' (Call (Word done)) → done ≡ 0
       → cursor.copied ≡ false → IsValidChunk (chunk_at cursor) → Turns (AtChunk cursor) (Settling (chunk_at cursor) Looking)
   takes cursor done loads is fresh valid = record {
@@ -82,7 +82,7 @@ module _ {K V S H : Type 0} (eq : K → K → Bool) (hash : S → K → ℕ) (b 
     valid = (valid, tt);
   }
 
-  -- the chunk's word says so now, and another chunk's word is next
+  -- the chunk's word was set to state that it is copied, and another chunk's word is next
   module _ (cursor next : Cursor) (answer : Answer)
       (closes : AnswersExchange eq hash b name (Done cursor.to cursor.at) (Some Advance) 0 1 log h log' h' answer)
       (on : next_cursor (record cursor { copied = true }) ≡ AtChunk next) (valid : IsValidCursor next) where

@@ -1,4 +1,5 @@
--- The fast path of an insertion at an empty place: its pair is stored and claims the slot, and its machine, which nothing runs, goes on likewise.
+-- The fast path of an insertion at an empty place: its pair is stored and claims the slot, and its
+-- ghost machine follows it.
 use Rattle.std.proofs.Common.{◌≡◌, inl, inr, ⊎_elim, ℕ, ◌<◌, ◌==◌, Bool, true, MatchOption, Option}
 use Rattle.std.proofs.Common.{None, Some, List, [], ◌∷◌, ◌++◌, append-nil, length, refl, sym, ap}
 use Rattle.std.proofs.Common.{◌∙◌, subst}
@@ -55,7 +56,7 @@ module _ {K V S H : Type 0} (eq : K → K → Bool) (input : K → List (List �
   abbrev Under : List (Event K V S) → Machine → Option (Bor Sheet) → Option (Stored K V) → List (Stored K V) → (taken put : Option (Stored K V)) → Type 0
   Under log m table last pairs taken put = IsCalling eq hash b name (eq key) h (Some key) begun log m table last None pairs taken put None
 
-  -- its pair was logged
+  -- its pair was stored in the arena
   module _ (log : List (Event K V S)) (at : Place) (table : Sheet) (unlimited : b.limit ≡ None)
       (r : IsInsertingAt eq hash b name key begun log (Writing (record { place = at; old = 0 })) None table) (q : Stored K V) (key_is : key_of q ≡ key)
       (placed : IsPlaced b (Some name) (names.Pair q)) where
@@ -65,7 +66,7 @@ module _ {K V S H : Type 0} (eq : K → K → Bool) (input : K → List (List �
     abbrev target : Write
     target = record { place = at; old = 0 }
 
-    -- the machine that has made this, and writes there
+    -- the machine that has made this, and writes at the place
     abbrev writes : Made → Machine
     writes made = insertion_at h b.mode 1 made (Writing target)
 
@@ -176,7 +177,7 @@ module _ {K V S H : Type 0} (eq : K → K → Bool) (input : K → List (List �
           hint_may eq input build write finish classes respects b (eq key) (input key) query (Some key) name begun log'
           (insertion_at h b.mode 1 has_pair (Noting claimed)) (Some lent) r.2 None (q ∷ []) before (Some q) None noting at.table at.probe.i (hint_of h) refl
 
-      -- so the history ends with it
+      -- so the history ends with its change
       pub claim_traded : IsChangeOf (eq key) (history_of begun) (history_of log') None (Some q)
       claim_traded =
           let c = claim_changed in record {

@@ -26,7 +26,7 @@ module _ {K V : Type 0} (eq : K → K → Bool) (matches : K → Bool) (older ol
     is = h.is;
   }
 
--- what holds of each that was shown, where one follows from the other
+-- a property of all arguments, derived from another one
 pub all_shown : {X A : Type 0} (P Q : X → Type 0) → ((x : X) → P x → Q x) → (said : List (X × A)) → AllArguments P said → AllArguments Q said
 all_shown P Q f [] all = tt
 all_shown P Q f (last ∷ before) all = (f last.0 all.0, all_shown P Q f before all.1)
@@ -45,18 +45,19 @@ module _ {K V S H : Type 0} (eq : K → K → Bool) (input : K → List (List �
   Was k value = WasAtMoment (setting eq input build write finish classes respects b matches query lawful log)
       (coding eq input build write finish classes respects b matches query lawful) (exchanges_of begun) since k value
 
-  -- what the map had at a moment of a call was held between the histories at its begin and now
+  -- an entry that the map had at some point of a call was held between the histories at its
+  -- beginning and now
   pub held_then : (value : Option (Stored K V)) → Was None value → WasHeld eq matches (history_of begun) (history_of log) value
   held_then value was = held_as eq matches begun log value
       (matched_history eq input build write finish classes respects b matches query lawful begun begun ([], append-nil begun) log l since is value was)
 
-  -- the same of a call that has a key of its own
+  -- the same for a call that has a key of its own
   pub own_held_then : (key : K) (value : Option (Stored K V)) → Was (Some key) value → WasHeld eq (eq key) (history_of begun) (history_of log) value
   own_held_then key value was = held_as eq (eq key) begun log value
       (own_history eq input build write finish classes respects b matches query lawful begun begun ([], append-nil begun) log l since is key value was)
 
--- What holds of each showing and what the closure may answer to it holds of those that were, where the closure is
--- what it has to be at first and stays so.
+-- A property of each call and its result holds of all calls that were made, if the closure is at
+-- first in a state that allows it, and stays in such a state.
 module _ {F X A : Type 0} (says : F → X → A → F → Type 0) (Is : F → Type 0) (P : X → A → Type 0)
     (each : (f : F) (x : X) (a : A) (g : F) → Is f → says f x a g → P x a × Is g) where
   stays_so : (f : F) → Is f → (said : List (X × A)) (g : F) → HasReturned says f said g → Is g
@@ -68,12 +69,12 @@ module _ {F X A : Type 0} (says : F → X → A → F → Type 0) (Is : F → Ty
   said_so f is (last ∷ before) g h x a (inl same) = subst (λ z. P z.0 z.1) (sym same) (each h.0 last.0 last.1 g (stays_so f is before h.0 h.1) h.2).0
   said_so f is (last ∷ before) g h x a (inr m) = said_so f is before h.0 h.1 x a m
 
--- what holds of each answer that the closure may give holds of those that it gave
+-- a property of each result that the closure may return holds of those that it returned
 pub said_only : {F X A : Type 0} (says : F → X → A → F → Type 0) (P : A → Type 0) → ((f : F) (x : X) (a : A) (g : F) → says f x a g → P a)
     → (f : F) (said : List (X × A)) (g : F) → HasReturned says f said g → (x : X) (a : A) → Member (x, a) said → P a
 said_only says P each f said g h x a m = said_so says (λ z. Unit {0}) (λ y b. P b) (λ f' y b g' is s. (each f' y b g' s, tt)) f tt said g h x a m
 
--- each of these was shown
+-- a property of all arguments holds of each of them
 pub shown_each : {X A : Type 0} (P : X → Type 0) (said : List (X × A)) → AllArguments P said → (x : X) (a : A) → Member (x, a) said → P x
 shown_each P [] all x a m = absurd m
 shown_each P (last ∷ before) all x a (inl is) = subst P (ap (λ z. z.0) (sym is)) all.0

@@ -71,7 +71,7 @@ module _ {K V S : Type 0} (b : Begun K V S) (name : Book) (log : List (Event K V
         seal_nib = subst (λ (z : Where Sheet × Pen). z.1.nib ≡ nib may_write z.0.value.seal 0) both f.seal_nib;
       }
 
-  -- it was tried to be linked
+  -- there was an attempt to link it
   pub joined : (eq : K → K → Bool) (hash : S → K → ℕ) (seen : List (Event K V S)) → IsPrefix log seen
       → (t : ℕ) (kept : Option (Stored K V)) (found : ℕ) (log' : List (Event K V S)) (state : Option (Named K V))
       → IsTried eq hash b (Next t) (Some kinds.Link) 0 (table.index + 1) None (names.Table table) seen found log' state
@@ -86,7 +86,7 @@ both_hold false A B a b = b
 
 module _ {K V S H : Type 0} (eq : K → K → Bool) (hash : S → K → ℕ) (b : Begun K V S) (name : Book) (t new old : ℕ) (kind : Option StepKind)
     (log log' : List (Event K V S)) (h h' : Copier K V S H) (found : ℕ) where
-  -- a link that was tried is an exchange that was tried
+  -- an attempt to link is an attempt to exchange
   pub linked : CanJoin eq hash b name t new log h → kind ≡ Some kinds.Link → old ≡ 0
       → IsTriedFor eq hash b name (Next t) (Some kinds.Link) 0 new h.kept h.fresh log found log' None → h'.last ≡ h.last
       → HasTried eq hash b name (Next t) kind (old, new) h.kept h.fresh log h.last found log' h'.last
@@ -126,7 +126,7 @@ module _ {K V S H : Type 0} (eq : K → K → Bool) (hash : S → K → ℕ) (b 
   last_stays before true (e, wished, own, is) = unmarked new (state_of before) h.kept (exchange_of e) at other kind h.last wished
   last_stays before false is = refl
 
-  -- an exchange was tried of a word that names no pair
+  -- there was an attempt to exchange a word that names no pair
   pub word_tried : IsTriedFor eq hash b name at kind old new h.kept h.fresh log found log' None → IsHandLeft at h.fresh h.fresh
       → (answer : Answer) → answer ≡ tried_answer found old → AnswersExchange eq hash b name at kind old new log h log' h answer
   word_tried t hand answer is = record {
@@ -139,7 +139,7 @@ module _ {K V S H : Type 0} (eq : K → K → Bool) (hash : S → K → ℕ) (b 
 
 module _ {K V S H : Type 0} (eq : K → K → Bool) (hash : S → K → ℕ) (b : Begun K V S) (name : Book) (old new : ℕ) (kind : Option StepKind)
     (log₀ log : List (Event K V S)) (pre : IsPrefix log₀ log) (log' : List (Event K V S)) (h h' : Copier K V S H) (t x found : ℕ) where
-  -- or of a slot's word
+  -- or a slot's word
   pub slot_tried : HasTried eq hash b name (Slot t x) kind (old, new) h.kept h.fresh log h.last found log' h'.last → h' ≡ record h { last = h'.last }
       → (answer : Answer) → answer ≡ tried_answer found old → AnswersExchange eq hash b name (Slot t x) kind old new log₀ h log' h' answer
   slot_tried tried rest answer is = record {

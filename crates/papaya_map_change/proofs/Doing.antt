@@ -1,4 +1,4 @@
--- A changing call exchanges a slot at most once, and by that has changed the map.
+-- A changing call exchanges a slot at most once, and changes the map by this.
 use Rattle.std.proofs.Common.{◌≡◌, inl, inr, ℕ, ◌==◌, Bool, true, false, cond, MatchBool, is_some}
 use Rattle.std.proofs.Common.{Option, None, Some, List, [], ◌∷◌, ◌++◌, map, append-nil, refl, sym}
 use Rattle.std.proofs.Common.{ap, ◌∙◌, subst}
@@ -66,7 +66,7 @@ use Rattle.papaya_map_change.specs.Changing.{HasChanged}
 use Rattle.papaya_map_change.specs.Doing.{Answers, exchanged, has_changed, was_made}
 use Rattle.papaya_map_change.proofs.StepsOfOwn.{own_went}
 
--- nothing is changed yet
+-- nothing has been changed yet
 abbrev IsUnchanged : State → Type 0
 IsUnchanged s = is_some (change_in s) ≡ false
 
@@ -121,11 +121,11 @@ module _ (m : Machine) where
   Step_by made s answer = Moves (exchanged (asks made m.hash s) (Some answer)) (is_some (change_in s))
       (is_some (change_in (after (record m { made = made; state = s }) answer).state))
 
-  -- what is asked for a pair exchanges no slot
+  -- the asks for a pair exchange no slot
   none_exchanged : (answer : Answer) → HoldsOfPairAsks (λ ask. exchanged ask (Some answer) ≡ false)
   none_exchanged answer = record { loads = refl; takes = λ count. refl; key = refl; value = refl; pair = refl; pair_of = λ n. refl }
 
-  -- an insertion that writes, by the pair that serves
+  -- an insertion that writes, by the pair that it uses
   abbrev Writes_by : Option ℕ → Made → Write → Answer → Type 0
   Writes_by served made write answer = Moves (exchanged (served_ask served write made) (Some answer)) false
       (is_some (change_in (write_then m served made write answer)))
@@ -210,7 +210,7 @@ left_unchanged (Leaving u) t e = refl
 left_unchanged (Growing need) t e = refl
 left_unchanged s t e = absurd cc
 
--- after an answer to a call itself
+-- after an answer to the call itself
 moved : (m : Chain) → m.phase ≡ Calling → (answer : Answer)
     → Moves (exchanged (ask_of m.call) (Some answer)) (has_changed m) (has_changed (chains.after m (answers.Call answer)))
 moved m calling answer = elim (own_went m calling answer) [
@@ -230,7 +230,7 @@ some_then : {X Goal : Type 0} (o : Option X) → is_some o ≡ true → ((x : X)
 some_then None e f = absurd (cc e)
 some_then (Some x) e f = f x refl
 
--- one that changed the map only counts, and writes a hint
+-- a call that has changed the map only counts, and writes a hint
 counting : (m : Chain) → has_changed m ≡ true → IsCounting (ask_of m.call)
 counting m e = some_then (change_in m.call.state) e (λ change is. counts_after m.call change is)
 
@@ -254,7 +254,7 @@ last_map f [] = refl
 last_map f (x ∷ []) = refl
 last_map f (x ∷ (y ∷ ys)) = last_map f (y ∷ ys)
 
--- something else is asked for than an exchange of a slot, a count or a hint to write
+-- the ask is not for an exchange of a slot, a count or a hint to write
 abbrev pub IsIdle : Ask → Type 0
 IsIdle (Exchange (Slot t x) old new) = ⊥
 IsIdle (WriteHint t x hint) = ⊥
@@ -329,7 +329,7 @@ unanswered (AddToShard by) = refl
 unanswered (Done reply) = refl
 
 module _ {K V S H : Type 0} {d : keyed.Ghosts S K H} where
-  -- nothing is done where what it did is the same
+  -- nothing was done if the list of own steps is the same
   pub idles : (w w' : Window K V S H d) → w'.own ≡ w.own → Does false w w'
   idles w w' e = ap (λ o. o.done) e ∙ sym (append-nil w.own.done)
 
@@ -337,7 +337,7 @@ module _ {K V S H : Type 0} {d : keyed.Ghosts S K H} where
   idle ask asked e i answer w w' same = subst (λ (a : Ask). Answers a answer w w') e
       (record { does = rw (idle_made ask i answer) (idles w w' same); still = λ counts. absurd (idle_busy ask i counts) })
 
-  -- where the window is left alone
+  -- if the window is unchanged
   pub left_alone : (ask : Ask) → IsCounting ask → (asked : Ask) → ask ≡ asked → (answer : Option Answer) (w : Window K V S H d) → Answers asked answer w w
   left_alone (AddToShard by) counts asked e answer w = subst (λ (a : Ask). Answers a answer w w) e (record { does = idles w w refl; still = λ counts. refl })
   left_alone (WriteHint t x hint) counts asked e answer w = subst (λ (a : Ask). Answers a answer w w) e
@@ -345,13 +345,13 @@ module _ {K V S H : Type 0} {d : keyed.Ghosts S K H} where
   left_alone (Done reply) counts asked e answer w = subst (λ (a : Ask). Answers a answer w w) e (record { does = idles w w refl; still = λ counts. refl })
   left_alone _ counts asked e answer w = absurd counts
 
-  -- An exchange was tried, and where it was made the call is told so.
+  -- An exchange was attempted; the call is notified if it was made.
   pub tried : (b : Bool) (answer : Answer) (P Q : Type 0) (found : ℕ) → MatchBool b ((answer ≡ Exchanged) × P) ((answer ≡ Found_instead found) × Q)
       → (w w' : Window K V S H d) → Does b w w' → Does (was_made answer) w w'
   tried true answer P Q found h w w' does = rw h.0 does
   tried false answer P Q found h w w' does = rw h.0 does
 
-  -- what the call did goes on
+  -- the own steps of the call continue
   pub does_on : (m : Chain) → m.phase ≡ Calling → (answer : Answer) (a w w' : Window K V S H d) → Does (has_changed m) a w
       → Answers (ask_of m.call) (Some answer) w w' → Does (has_changed (chains.after m (answers.Call answer))) a w'
   does_on m calling answer a w w' h h' =
@@ -359,7 +359,7 @@ module _ {K V S H : Type 0} {d : keyed.Ghosts S K H} where
       (exchanged (ask_of m.call) (Some answer)) (has_changed (chains.after m (answers.Call answer))) h h'.does (moved m calling answer)
       (λ e. ap steps_of (h'.still (counting m e)))
 
-  -- and is what it was where there is no answer
+  -- and are the same if there is no answer
   pub does_still : (m : Chain) (a w w' : Window K V S H d) → Does (has_changed m) a w → Answers (ask_of m.call) None w w' → Does (has_changed m) a w'
   does_still m a w w' h h' =
       joined a.own.done w.own.done w'.own.done (steps_of w.sight.log) (steps_of w'.sight.log) (has_changed m) false (has_changed m) h
@@ -383,7 +383,7 @@ module _ {K V S : Type 0} (eq : K → K → Bool) (k : Option K) (begun log : Li
       ∙ (ap last_in (sym (exchanges_are (steps_of log)) ∙ h.is) ∙ last_snoc (exchanges_of h.before) h.by) in
       ap (changes_of key_of) last ∙ (append-nil _ ∙ h.change_is)
 
-  -- which is the last of the history
+  -- and it is the last one of the history
   last_history : last_in (history_of log) ≡ made ∷ []
   last_history =
       ap (λ es. last_in (changes_of key_of es)) h.is
@@ -405,13 +405,13 @@ module _ {K V S H : Type 0} {d : keyed.Ghosts S K H} (eq : K → K → Bool) (k 
       ∙ (changes_split a.own.done (last_in (steps_of w.sight.log))
       ∙ ap (λ (cs : List (Change K (Stored K V))). own a ++ cs) (same_last eq k begun w.sight.log taken put change (h change refl)))
 
-  -- what it did is its change
+  -- the call's own steps are its change
   pub makes : (m : Chain) (a w : Window K V S H d)
       → ((change : Option ℕ × Option ℕ) → change_in m.call.state ≡ Some change → HasChanged eq k begun w.sight.log taken put change)
       → Does (has_changed m) a w → Makes (has_changed m) (own a) (own w) (past w)
   makes m a w h does = makes_as (change_in m.call.state) a w h does
 
--- what a call with this reply has changed
+-- the change of a call with this reply
 replied_in : (made : Made) (hash : ℕ) (s : State) (reply : Reply) → asks made hash s ≡ Done reply → change_in s ≡ change_of_reply reply
 replied_in made hash AtRoot reply e = absurd (cc e)
 replied_in made hash Making reply e = absurd (cc e)

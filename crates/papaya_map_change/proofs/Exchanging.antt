@@ -1,4 +1,5 @@
--- After an exchange that a changing call asked for, the call again relies on what holds, and its change ends the log.
+-- After an exchange that a changing call asked for, the call again relies on facts that hold, and
+-- its change ends the log.
 use Rattle.std.proofs.Common.{◌≡◌, ℕ, ◌==◌, Bool, true, false, MatchBool, MatchOption, Option, None, Some, List, [], ◌∷◌, ◌++◌, refl, sym, ap, ◌∙◌, subst}
 use Rattle.std.proofs.lemmas.Bool.{eqb-true}
 use Rattle.std.specs.Cmp.{IsEquivalence}
@@ -65,7 +66,7 @@ nothing_comes (steps.Promote u n) t x p is = refl
 nothing_comes (steps.Abort u) t x p is = refl
 nothing_comes (steps.Take n) t x p is = refl
 
--- a pair that was handed over comes
+-- a pair that was passed in comes
 none_handed : {K V : Type 0} (put : Option (Stored K V)) → pair_named put ≡ names.Nothing → put ≡ None
 none_handed None is = refl
 none_handed (Some q) is = absurd (cc is)
@@ -93,7 +94,7 @@ module _ {K V S H : Type 0} (eq : K → K → Bool) (input : K → List (List �
     allowed : Allows (plain log) (state_of before) e
     allowed = (allowed_rest (plain log) (exchanges_of before) (e ∷ []) start (subst (AllAllowed (plain log) start) grown l'.allowed)).0
 
-    -- the number of the pair that stood there
+    -- the number of the pair that was there
     numbered : (w : Word (Stored K V)) → (state_of before).slot t x ≡ w → (p : Stored K V) → named w ≡ Some p → pair_of old ≡ p.index
     numbered w is p has =
         let coding = (is_hashed eq input build write finish classes respects b before l).coding in
@@ -120,7 +121,8 @@ module _ {K V S H : Type 0} (eq : K → K → Bool) (input : K → List (List �
     none_put : (change : Option ℕ × Option ℕ) (class : K) → put ≡ None → change.1 ≡ None → IsPutAs change class put
     none_put change class is none = subst (IsPutAs change class) (sym is) none
 
-    -- an exchange that was asked for as a change of this kind is one, and puts in what was handed over
+    -- an exchange that was asked for as a change of this kind is one, and puts in the pair that was
+    -- passed in
     pub changes : (kind : Option StepKind) → IsCallAsked kind (Slot t x) new (state_of before) (loaded_of put) e
         → (kind ≡ Some kinds.Claim → (q : Stored K V) → put ≡ Some q → Some (key_of q) ≡ k)
         → ((q : Stored K V) → put ≡ Some q → IsOfCall eq k (key_of q)) → (change : Option ℕ × Option ℕ) → change_of_kind kind old new ≡ Some change
@@ -213,7 +215,7 @@ module _ {K V S H : Type 0} (eq : K → K → Bool) (input : K → List (List �
   abbrev loaded : (last : Option (Stored K V)) → List (Stored K V) → LoadedPairs (Stored K V)
   loaded last made = call_loaded eq input build write finish classes respects b matches query lawful k name begun last made
 
-  -- a pair that the call made is of its class
+  -- a pair that the call made has a key equal to the call's
   of_call : (own : Option K) (q : Stored K V) → same_with eq matches own (Some (key_of q)) ≡ true → IsOfCall eq own (key_of q)
   of_call None q same = tt
   of_call (Some key) q same = same
@@ -222,7 +224,8 @@ module _ {K V S H : Type 0} (eq : K → K → Bool) (input : K → List (List �
   word_there : (log log' : List (Event K V S)) (at : At) → word_of (G log') C (state_of log) at ≡ word_in eq hash' b log at
   word_there log log' at = word_wide eq input build write finish classes respects b matches query lawful k (exchanges_of begun) log log' at
 
-  -- An exchange of a slot was tried with what the call handed over: a pair that it made, or nothing.
+  -- A slot's exchange was attempted with the pair that the call passed in: one that it made, or
+  -- none.
   module _ (v log : List (Event K V S)) (m : Machine) (table : Option (Bor Sheet)) (last kept : Option (Stored K V)) (made : List (Stored K V))
       (taken put : Option (Stored K V)) (fresh : Option (Where Sheet × Pen)) (r : Under v m table last kept made taken put fresh)
       (t x old new found : ℕ) (put' pair : Option (Stored K V))

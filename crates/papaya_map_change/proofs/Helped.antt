@@ -1,4 +1,5 @@
--- A call keeps its task, its pair, its change and its closure's results while it is set aside; and why it may end with a refusal.
+-- A call keeps its task, its pair, its change and its closure's results while it is set aside; and
+-- the causes with which it may fail.
 use Rattle.std.proofs.Common.{◌≡◌, ◌⊎◌, inl, inr, ⊎_elim, ℕ, Bool, false, is_some, None, Some, List, refl, sym, ap, ◌∙◌, subst}
 use Rattle.papaya_words.specs.declared.refused.Refused.{Refused as Cause}
 use Rattle.papaya_words.specs.declared.refused.Refused.TheVariants.{Capacity, Limit, Memory}
@@ -38,11 +39,11 @@ use Rattle.papaya_map_change.specs.Helping.{HasRestarted, HasGoneOn, HasHelped, 
 use Rattle.papaya_map_change.specs.Writing.{IsMemoryCapacityOrLimit, IsMemoryOrCapacity}
 use Rattle.papaya_map_change.proofs.Doing.{left_unchanged}
 
--- why a copy ended a call: there was no memory, or no room
+-- the cause with which a copy ended a call: there was no memory, or no room
 abbrev pub IsCopyEnd : (initial : ℕ) → (tables : List ℕ) → List CapacityCause → Cause → Type 0
 IsCopyEnd initial tables given cause = (cause ≡ Memory) ⊎ ((cause ≡ Capacity) × HasNoRoom initial tables given)
 
--- the call as it is after a copy
+-- the call after a copy
 pub record IsKept (m m' : Machine) (tables : List ℕ) (given : List CapacityCause) : Type 0 where
   pub task : m'.call.task ≡ m.call.task
   pub made : m'.call.made ≡ m.call.made
@@ -53,24 +54,24 @@ pub record IsKept (m m' : Machine) (tables : List ℕ) (given : List CapacityCau
   pub stands : (said : ClosureResult) → ActsOn m'.call said → ActsOn m.call said
   pub ends : (cause : Cause) → ask_of m' ≡ Call (Done (Refused cause)) → (m' ≡ m) ⊎ IsCopyEnd m'.call.initial tables given cause
 
--- a call stands on what it remembers, where it says nothing new
+-- a call relies on the results that it remembers, if there is no new one
 pub stands_before : (call call' : Call_machine) → call'.remembered ≡ call.remembered → result_in call'.task call'.state ≡ None → (said : ClosureResult)
     → ActsOn call' said → ActsOn call said
 stands_before call call' same silent said (inl e) = absurd (cc (silent, e))
 stands_before call call' same silent said (inr (inl e)) = inr (inl (ap (λ (h : Remembered). result_to_fill h.fill) (sym same) ∙ e))
 stands_before call call' same silent said (inr (inr e)) = inr (inr (ap (λ (h : Remembered). result_to_choose h.choice) (sym same) ∙ e))
 
--- a call that is set aside has the value of the pair that it remembers
+-- a call that is set aside has no newer result of its closure
 unanswered : (s : State) (t : ℕ) → left_by s ≡ Some t → IsAnswered s → ⊥
 unanswered (Leaving u) t e a = a
 unanswered (Growing need) t e a = a
 unanswered s t e a = absurd cc
 
--- and so it has wherever it goes on
+-- and has the value of the remembered pair in each state in which it continues
 pub values_left : (call : Call_machine) (t : ℕ) → left_by call.state ≡ Some t → (s : State) → HasValue call → HasValue (record call { state = s })
 values_left call t left s has old new is = ⊎_elim (λ valued. inl valued) (λ waits. absurd (unanswered call.state t left waits)) (has old new is)
 
--- what a call says that ended so
+-- there is no result of the closure in a call that ended so
 absent_silent : (task : Task) → result_in task (Ended Rattle.papaya_call.specs.declared.call.Reply.TheVariants.Absent) ≡ None
 absent_silent Get = refl
 absent_silent (Insert replace) = refl
@@ -85,7 +86,7 @@ refused_silent Compute refused = refl
 
 module _ (m m' : Machine) (tables : List ℕ) (given : List CapacityCause) (t : ℕ) (left : left_by m.call.state ≡ Some t) (call : Call_machine)
     (is : m'.call ≡ call) where
-  -- a call that was set aside, where it is this one now
+  -- a call that was set aside, if it is this one now
   kept_by : call.task ≡ m.call.task → call.made ≡ m.call.made → call.initial ≡ m.call.initial → call.remembered ≡ m.call.remembered
       → change_in call.state ≡ None → NamesPairs call → (HasValue m.call → HasValue call) → result_in call.task call.state ≡ None
       → ((cause : Cause) → calls.ask_of call ≡ Done (Refused cause) → IsCopyEnd m.call.initial tables given cause) → IsKept m m' tables given
@@ -102,7 +103,7 @@ module _ (m m' : Machine) (tables : List ℕ) (given : List CapacityCause) (t : 
             (ends cause (ap (λ (z : Call_machine). calls.ask_of z) (sym is) ∙ (call_asks m' (Done (Refused cause)) e).1)));
       }
 
--- told of the root as one that begins, it is not refused
+-- a call that receives the root as one that begins does not fail
 anew_unrefused : (call : Call_machine) (root : ℕ) (cause : Cause)
     → calls.ask_of (calls.after (record call { state = AtRoot }) (Word_read root)) ≡ Done (Refused cause) → ⊥
 anew_unrefused call root cause e =
@@ -132,7 +133,7 @@ module _ (m m' : Machine) (tables : List ℕ) (given : List CapacityCause) where
       (values_left m.call h.from h.left (Ended (Refused h.refused))) (refused_silent m.call.task h.refused)
       (λ cause e. let same : h.refused ≡ cause = cc e in subst (IsCopyEnd m.call.initial tables given) same h.cause)
 
-  -- a call keeps all this while it is set aside
+  -- a call preserves all this while it is set aside
   pub helped_keeps : HasHelped m m' tables given → IsKept m m' tables given
   helped_keeps (inl same) = record {
     task = ap (λ (z : Machine). z.call.task) same;
@@ -148,10 +149,10 @@ module _ (m m' : Machine) (tables : List ℕ) (given : List CapacityCause) where
   helped_keeps (inr (inr (inl h))) = kept_anew h
   helped_keeps (inr (inr (inr h))) = kept_refused h
 
--- why a call is refused that was led on so
+-- the cause with which a call fails that continued so
 module _ {K V S H : Type 0} (c c' : Driver K V S H) (tables : List ℕ) (calling : c'.machine.phase ≡ Calling)
     (still : c.machine.phase ≡ Calling → c' ≡ c) (helped : HasHelped c.machine c'.machine tables c'.copier.given.done) where
-  -- it was refused before, or by its copy
+  -- it failed before, or its copy did
   ends_so : (P : Driver K V S H → Type 0) (cause : Cause) → (ask_of c.machine ≡ Call (Done (Refused cause)) → P c)
       → (IsCopyEnd c'.machine.call.initial tables c'.copier.given.done cause → P c') → ask_of c'.machine ≡ Call (Done (Refused cause)) → P c'
   ends_so P cause before copied e =
@@ -164,7 +165,7 @@ module _ {K V S H : Type 0} (c c' : Driver K V S H) (tables : List ℕ) (calling
       → ask_of c'.machine ≡ Call (Done (Refused cause)) → IsMemoryOrCapacity cause
   refuses_kept before cause e = ends_so (λ _. IsMemoryOrCapacity cause) cause (before cause) (λ h. ⊎_elim (λ memory. inl memory) (λ full. inr full.0) h) e
 
-  -- by its copy it was not refused for the limit
+  -- its copy did not fail at the limit
   pub limit_kept : ((cause : Cause) → ask_of c.machine ≡ Call (Done (Refused cause)) → IsMemoryCapacityOrLimit cause) → (cause : Cause)
       → ask_of c'.machine ≡ Call (Done (Refused cause)) → IsMemoryCapacityOrLimit cause
   limit_kept before cause e = ends_so (λ _. IsMemoryCapacityOrLimit cause) cause (before cause)
@@ -179,7 +180,7 @@ module _ {K V S H : Type 0} (c c' : Driver K V S H) (tables : List ℕ) (calling
   room_kept before pre was e = ends_so (λ d. HasNoRoom d.machine.call.initial tables d.copier.given.done) Capacity
       (λ h. room_since c.machine.call.initial before tables c.copier.given.done pre (was h)) (λ h. ⊎_elim (λ memory. absurd (cc memory)) (λ full. full.1) h) e
 
--- what a call did goes on while it is set aside
+-- the own steps of a call continue while it is set aside
 module _ {K V S H : Type 0} {d : keyed.Ghosts S K H} (m m' : Machine) (tables : List ℕ) (given : List CapacityCause) (calling : m'.phase ≡ Calling)
     (helped : HasHelped m m' tables given) (a w w' : Window K V S H d) where
   unchanged_does : has_changed m ≡ false → w'.own ≡ w.own → Does (has_changed m) a w → Does (has_changed m') a w'

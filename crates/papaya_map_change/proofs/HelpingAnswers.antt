@@ -1,4 +1,4 @@
--- Each answer to a copy's ask, and how it leaves the call that was set aside.
+-- Each answer to a copy's ask, and the state in which it leaves the call that was set aside.
 use Rattle.std.proofs.Common.{◌≡◌, ◌⊎◌, inl, inr, ℕ, ◌+◌, ◌<◌, ◌==◌, Bool, true, false, Option}
 use Rattle.std.proofs.Common.{None, Some, List, [], ◌∷◌, length, append-nil, refl, sym, ap, ◌∙◌}
 use Rattle.std.proofs.Common.{subst}
@@ -62,7 +62,7 @@ use Rattle.papaya_map_change.proofs.HelpingPlaces.{HasComeFor, all_there, came_f
 use Rattle.papaya_map_change.proofs.Relying.{coded, wide}
 use Rattle.papaya_map_change.proofs.HelpingExchanges.{C, G, can_copy, can_link, grown, linked_words, lost, tried_link, word_there}
 
--- a pair that a call holds is in the logs
+-- a pair that a call holds is stored in the book's arenas
 pub placed_or : {K V S : Type 0} (b : Begun K V S) (name : Book) (pair last : Option (Stored K V)) → IsPlaced b (Some name) (pair_named pair)
     → IsPlaced b (Some name) (pair_named last) → IsPlaced b (Some name) (pair_named (or_last pair last))
 placed_or b name None last p q = q
@@ -76,7 +76,7 @@ module _ {K V S H : Type 0} (eq : K → K → Bool) (input : K → List (List �
   abbrev hash : S → K → ℕ
   hash = hash_of input build write finish
 
-  -- where a copy loads or exchanges a word, its table has come
+  -- if a copy loads or exchanges a word, the word's table has come
   pub load_came : (at : At) → ask_of c.machine ≡ asks.Copy (copies.Load at)
       → HasComeFor eq input build write finish classes respects b name matches fed form k begun v c.machine c.table c.copier.last c.copier.kept made c.taken c.put c.copier.fresh r at
   load_came at asked = came_for eq input build write finish classes respects b name matches fed form k begun v c.machine c.table c.copier.last c.copier.kept made
@@ -93,7 +93,7 @@ module _ {K V S H : Type 0} (eq : K → K → Bool) (input : K → List (List �
   size_came t asked = chain_came v t (all_there eq input build write finish classes respects b name matches fed form k begun v c.machine c.table
       c.copier.last c.copier.kept made c.taken c.put c.copier.fresh r (copies.SizeOf t) asked)
 
-  -- so has the one that is to get a next table
+  -- so has the table that is to get a next one
   pub follows_came : (slots limit chunks : ℕ) → ask_of c.machine ≡ asks.Copy (copies.MakeTable slots limit chunks) → HasCome v (follows_of c.machine)
   follows_came slots limit chunks asked =
       let rest = relying eq input build write finish classes respects b name matches fed form k begun v c.machine c.table c.copier.last c.copier.kept made c.taken
@@ -117,13 +117,13 @@ module _ {K V S H : Type 0} (eq : K → K → Bool) (input : K → List (List �
       c.copier.kept made c.taken c.put c.copier.fresh r t x (all_there eq input build write finish classes respects b name matches fed form k begun v c.machine
       c.table c.copier.last c.copier.kept made c.taken c.put c.copier.fresh r (copies.Exchange (Slot t x) old new) asked)
 
-  -- it may exchange what it asks for, but a link
+  -- it may make the exchange that it asks for, unless it is a link
   pub may_try : (at : At) (old new : ℕ) → ask_of c.machine ≡ asks.Copy (copies.Exchange at old new) → ((t : ℕ) → at ≡ Next t → ⊥)
       → (log : List (Event K V S)) → IsPrefix v log → CanExchange eq hash b at (kind_of_ask c.machine) old new c.copier.kept names.Nothing log
   may_try at old new asked other log pre = can_copy eq input build write finish classes respects b name matches fed form k begun v c.machine c.table
       c.copier.last c.copier.kept made c.taken c.put c.copier.fresh r at old new asked other log pre
 
-  -- A copy that asks to link a table asks to link the one at hand, where none is linked yet.
+  -- A copy that asks to link a table asks to link the one at hand, if none is linked yet.
   pub record IsLinking (t old new : ℕ) : Type 0 where
     pub none : old ≡ 0
     pub kind : kind_of_ask c.machine ≡ Some kinds.Link
@@ -178,7 +178,7 @@ module _ {K V S H : Type 0} (eq : K → K → Bool) (input : K → List (List �
     pub link_marks : c.copier.last ≡ marked_or (kind_of_ask c.machine) None c.copier.last
     link_marks = sym (ap (λ (o : Option StepKind). marked_or o None c.copier.last) (linking t old new asked).kind)
 
-    -- it was tried to be linked
+    -- there was an attempt to link it
     pub link_for : (seen : List (Event K V S)) → IsPrefix v seen → (found : ℕ) (log : List (Event K V S)) (state : Option (Named K V))
         → IsTried eq hash b (Next t) (Some kinds.Link) 0 (table.index + 1) None (names.Table table) seen found log state
         → IsTriedFor eq hash b name (Next t) (kind_of_ask c.machine) old new c.copier.kept c.copier.fresh v found log None
@@ -189,7 +189,7 @@ module _ {K V S H : Type 0} (eq : K → K → Bool) (input : K → List (List �
         (subst (λ (n : ℕ). IsTriedFor eq hash b name (Next t) (Some kinds.Link) 0 n c.copier.kept c.copier.fresh v found log None) ready.number_is
         (tried_link eq hash b name v seen pre t (table.index + 1) c.copier.kept c.copier.fresh table seal is found log state tried)))
 
--- the same of a call whose machine stands within its tables
+-- the same for a call whose machine is valid
 module _ {K V S H : Type 0} (eq : K → K → Bool) (input : K → List (List ℕ)) (build : S → H) (write : H → List ℕ → H) (finish : H → ℕ)
     (classes : IsEquivalence eq) (respects : (x y : K) → eq x y ≡ true → input x ≡ input y)
     (b : Begun K V S) (name : Book) (matches : K → Bool) (fed : ℕ) (form : IsForm eq (hash_of input build write finish) b matches fed) (k : Option K)
@@ -204,16 +204,16 @@ module _ {K V S H : Type 0} (eq : K → K → Bool) (input : K → List (List �
   abbrev Cs : Rattle.papaya_words_law.specs.Code.Coding (Option K) (Stored K V)
   Cs = C eq input build write finish classes respects b name matches fed form k begun v c.machine c.table c.copier.last c.copier.kept made c.taken c.put c.copier.fresh r
 
-  -- what the answer leaves
+  -- the state after the answer
   abbrev Leaves : List (Event K V S) → Driver K V S H → Answer → Type 0
   Leaves log c' answer = HasCopied eq hashes b name matches fed k begun made log c c' answer
 
-  -- what was true of the words before an exchange, or of all
+  -- the answer was true of the words before an exchange, or of all
   abbrev Tells : List (Event K V S) → (before log : List (Event K V S)) → IsPrefix before log → CopyAsk → Answer → (last kept : Option (Stored K V)) → Type 0
   Tells setting before log pre ask answer last kept = IsTrueOfCopy (Gs setting) Cs (state_of before) (kind_of_ask c.machine) (follows_of c.machine)
       (loaded_with c.copier.last c.copier.kept made) ask answer (exchanges_of pre.0) (loaded_with last kept made)
 
-  -- where a size was told, a table of so many slots has come
+  -- if a size was received, a table of that many slots has come
   abbrev IsSizeTold : List (Event K V S) → Answer → Type 0
   IsSizeTold log answer = (slots limit : ℕ) → answer ≡ answers.Call (Size slots limit) → Member slots (tables_of log)
 
@@ -221,7 +221,7 @@ module _ {K V S H : Type 0} (eq : K → K → Bool) (input : K → List (List �
       (l₀ : IsLawfulLog eq hashes b before) (log : List (Event K V S)) (l : IsLawfulLog eq hashes b log) (pre : IsPrefix before log) (answer : Answer)
       (words : answer ≡ answers.Call Exchanged → HasWords (Gs log) (link_in c.machine.phase)) (c' : Driver K V S H) (by : IsGivenBy answer c'.copier.given.done)
       (told : Tells log before log pre ask answer c'.copier.last c'.copier.kept) where
-    -- the call, with what it changed as before
+    -- the call, with its changes as before
     answered : c'.taken ≡ c.taken → c'.put ≡ c.put → IsPlaced b (Some name) (pair_named c'.copier.last) → IsPlaced b (Some name) (pair_named c'.copier.kept)
         → In (IsMadeLink (IsReadyAs b name log c'.copier.fresh)) (link_in (after c.machine answer).phase) → IsSizeTold log answer → Leaves log c' answer
     answered taken put placed placed' hand size = record {
@@ -235,7 +235,7 @@ module _ {K V S H : Type 0} (eq : K → K → Bool) (input : K → List (List �
           c.copier.fresh r valid ask asked before since l₀ log l pre answer words c'.copier.last c'.copier.kept c'.copier.fresh c'.copier.given.done by told;
     }
 
-  -- the table at hand is as before where none was made or linked
+  -- the table at hand is as before if none was made or linked
   kept_hand : (ask : CopyAsk) → ask_of c.machine ≡ asks.Copy ask → (log : List (Event K V S)) → IsPrefix v log → (answer : Answer)
       → ((n : ℕ) → answer ≡ answers.Call (Made_number n) → ⊥) → (c' : Driver K V S H) → c'.copier.fresh ≡ c.copier.fresh
       → In (IsMadeLink (IsReadyAs b name log c'.copier.fresh)) (link_in (after c.machine answer).phase)
@@ -268,7 +268,7 @@ module _ {K V S H : Type 0} (eq : K → K → Bool) (input : K → List (List �
       (is.placed r.last_placed) (subst (λ (o : Option (Stored K V)). IsPlaced b (Some name) (pair_named o))
       (sym (ap (λ (d : Driver K V S H). d.copier.kept) rest)) r.kept_placed) (λ e. cc e) (λ n e. cc e) (λ slots limit e. absurd (cc e))
 
-  -- nothing of the call moved
+  -- the call is unchanged
   still : (c' : Driver K V S H) → c' ≡ c → loaded_with c'.copier.last c'.copier.kept made ≡ loaded_with c.copier.last c.copier.kept made
   still c' same = ap (λ (d : Driver K V S H). loaded_with d.copier.last d.copier.kept made) same
 
@@ -307,7 +307,7 @@ module _ {K V S H : Type 0} (eq : K → K → Bool) (input : K → List (List �
       quiet_still (copies.SizeOf t) asked log l pre (answers.Call (Size slots limit)) tt
       ((limit, places, ap (λ n. answers.Call (Size n limit)) many), (refl, refl)) (λ e. cc e) (λ n e. cc e) size c' same
 
-  -- the pair last told of is carried
+  -- the pair last loaded is moved
   pub hashed : (n : ℕ) → ask_of c.machine ≡ asks.Copy (copies.HashOf n) → (word : ℕ)
       → ((p : Stored K V) → c.copier.last ≡ Some p → word ≡ hashes b.hasher p.value.key.value) → (c' : Driver K V S H) → c' ≡ record c { copier = record c.copier { kept = c'.copier.kept } }
       → c'.copier.kept ≡ c.copier.last → Leaves v c' (answers.Hash word)
@@ -360,7 +360,7 @@ module _ {K V S H : Type 0} (eq : K → K → Bool) (input : K → List (List �
         (new_hand eq input build write finish classes respects b name matches fed form k begun v c.machine c.table c.copier.last c.copier.kept made c.taken c.put
         c.copier.fresh r valid (copies.MakeTable slots limit chunks) asked log slots limit chunks refl c'.copier.fresh n fresh) (λ many least e. absurd (cc e))
 
-    -- or it was refused
+    -- or memory or room ran out
     pub unmade : (refused : Refused) → (refused ≡ Memory) ⊎ ((refused ≡ Capacity) × IsFull c'.copier.given.done) → c'.copier.fresh ≡ c.copier.fresh
         → Leaves log c' (answers.Call (Was_refused refused))
     unmade refused why same =
@@ -417,7 +417,7 @@ module _ {K V S H : Type 0} (eq : K → K → Bool) (input : K → List (List �
     hand_kept told none pre same = kept_hand (copies.Exchange at old new) asked log pre (answers.Call told)
         (λ n e. let f : told ≡ Made_number n = cc e in none n f) c' same
 
-  -- or it was tried to be linked, and no table is about to be
+  -- or there was an attempt to link it, and no table is about to be linked
   pub hand_tried : (t old new : ℕ) → ask_of c.machine ≡ asks.Copy (copies.Exchange (Next t) old new)
       → (log : List (Event K V S)) (fresh : Option (Where Sheet × Pen)) (told : Call_answer) → (told ≡ Exchanged)
       ⊎ ((word : ℕ) × (told ≡ Found_instead word)) → In (IsMadeLink (IsReadyAs b name log fresh)) (link_in (after c.machine (answers.Call told)).phase)

@@ -1,4 +1,5 @@
--- A call that goes on for itself after a copy holds the table in which it is to search for its key; and how it got there, over all answers.
+-- A call that continues in phase `Calling` after a copy holds the table in which it is to search
+-- for its key; and the states between, over all answers.
 use Rattle.std.proofs.Common.{◌≡◌, ◌⊎◌, inl, inr, ⊎_elim, ℕ, Bool, true, MatchOption, Option, None, Some, List, refl, sym, ap, ◌∙◌, subst}
 use Rattle.std.specs.Cmp.{IsEquivalence}
 use mathlib.Core.List.{IsPrefix}
@@ -61,7 +62,7 @@ module _ {K V S H : Type 0} (eq : K → K → Bool) (input : K → List (List �
   abbrev relies_now : ChainRelying eq input build write finish classes respects b matches fed form k (exchanges_of begun) log m (loaded_with last kept made)
   relies_now = record { since = moved.since; is = moved.is; relies = moved.relies }
 
-  -- the table that it is to look in has come
+  -- the table that it is to search has come
   pub entering_came : (n : ℕ) → IsEntering m n → HasCome log n
   entering_came n is =
       let stage = subst (ReliesStage (G log) C (exchanges_of begun) moved.since k (loaded_with last kept made).call m.call.task) is.1 moved.relies.call.stage in
@@ -77,7 +78,7 @@ module _ {K V S H : Type 0} (eq : K → K → Bool) (input : K → List (List �
       (tables : List ℕ) (given : List CapacityCause) (leads : IsAside was m ⊎ HasResumed was m tables given) (pre : IsPrefix v log)
       (log' : List (Event K V S)) (pre' : IsPrefix log log') (l' : IsLawfulLog eq hash b log') (table' : Option (Bor Sheet))
       (held : (n : ℕ) → IsEntering m n → MatchOption table' ⊥ (λ z. IsTable log' n z.now)) (still : ((n : ℕ) → IsEntering m n → ⊥) → table' ≡ table) where
-    -- the table that it holds then
+    -- the table that it then holds
     pub record Lands : Type 0 where
       pub number : ℕ
       pub at_table : m.phase ≡ Calling → IsAtTable number m.call.state
@@ -147,12 +148,12 @@ module _ {K V S H : Type 0} (eq : K → K → Bool) (input : K → List (List �
           counts = counting_since (tables_of log) (tables_of log') (tables_since log log' pre') m moved.counts;
         }
 
--- where answers for a copy have led a call
+-- the state to which answers for a copy have led a call
 abbrev pub HasReached : Machine → Machine → (tables : List ℕ) → List CapacityCause → Type 0
 HasReached m m' tables given = (m' ≡ m) ⊎ IsAside m m' ⊎ HasResumed m m' tables given
 
 module _ (first m m' : Machine) (tables : List ℕ) (given : List CapacityCause) (same : m.call ≡ first.call) where
-  -- one step after others that left the call as it was
+  -- one step after others that left the call unchanged
   aside_further : IsAside m m' → IsAside first m'
   aside_further a = record { from = a.from; left = ap (λ (d : Call_machine). left_by d.state) (sym same) ∙ a.left; call = a.call ∙ same; busy = a.busy }
 
@@ -187,7 +188,7 @@ module _ (first m m' : Machine) (tables : List ℕ) (given : List CapacityCause)
   further (inl aside) = inr (inl (aside_further aside))
   further (inr led) = inr (inr (led_further led))
 
--- after each answer, to a machine whose call is where it was
+-- after each answer, for a machine whose call is in the same state
 pub reached_past : (first m mid m' : Machine) (tables tables' : List ℕ) (given given' : List CapacityCause) → HasReached first m tables given
     → (m.phase ≡ Calling → ⊥) → mid.call ≡ m.call → IsAside mid m' ⊎ HasResumed mid m' tables' given' → HasReached first m' tables' given'
 reached_past first m mid m' tables tables' given given' (inl same) busy call leads = further first mid m' tables' given'
@@ -195,7 +196,7 @@ reached_past first m mid m' tables tables' given given' (inl same) busy call lea
 reached_past first m mid m' tables tables' given given' (inr (inl aside)) busy call leads = further first mid m' tables' given' (call ∙ aside.call) leads
 reached_past first m mid m' tables tables' given given' (inr (inr led)) busy call leads = absurd (busy led.calling)
 
--- it is there still when more tables have come
+-- it is still in that state when more tables have come
 module _ (m m' : Machine) (tables tables' : List ℕ) (given : List CapacityCause) (pre : IsPrefix tables tables') where
   refused_since : WasRefused m m' tables given → WasRefused m m' tables' given
   refused_since ends = record {

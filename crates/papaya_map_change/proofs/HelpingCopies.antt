@@ -1,4 +1,5 @@
--- The asks of a copy for a call that is set aside may be answered, and after each answer the call relies on what holds.
+-- The asks of a copy for a call that is set aside may be answered, and after each answer the call
+-- relies on facts that hold.
 use Rattle.std.proofs.Common.{◌≡◌, ◌⊎◌, inl, inr, ⊎_elim, ℕ, ◌<◌, ◌==◌, Bool, true, false}
 use Rattle.std.proofs.Common.{if◌then◌else◌, MatchBool, Option, List, [], append-nil, refl, sym, ap}
 use Rattle.std.proofs.Common.{◌∙◌, subst}
@@ -57,7 +58,7 @@ module _ {K V S H : Type 0} (eq : K → K → Bool) (input : K → List (List �
       c.copier.fresh r) (state_of v) c.copier.last c.copier.kept ask
   there = all_there eq input build write finish classes respects b name matches fed form k begun v c.machine c.table c.copier.last c.copier.kept made c.taken c.put c.copier.fresh r
 
-  -- where a word is named, its table has come
+  -- if a word is named, its table has come
   reached : (at : At) → IsThere (G eq input build write finish classes respects b name matches fed form k begun v c.machine c.table c.copier.last c.copier.kept made
       c.taken c.put c.copier.fresh r v) (C eq input build write finish classes respects b name matches fed form k begun v c.machine c.table c.copier.last c.copier.kept made
       c.taken c.put c.copier.fresh r) (state_of v) c.copier.last c.copier.kept at → IsReached v at
@@ -132,7 +133,7 @@ module _ {K V S H : Type 0} (eq : K → K → Bool) (input : K → List (List �
       fit = (λ some. follows_came eq input build write finish classes respects b name matches fed form k begun made v c r slots limit chunks asked, fit)
 
   module _ (valid : IsValid c.machine) (log : List (Event K V S)) (pre : IsPrefix v log) (h : Copier K V S H) where
-    -- the call that took back what its copier holds
+    -- the call after it took back the state of its copier
     abbrev c' : Driver K V S H
     c' = with_copier c h
 
@@ -141,7 +142,7 @@ module _ {K V S H : Type 0} (eq : K → K → Bool) (input : K → List (List �
 
     module _ (at : At) (old new : ℕ) (asked : ask_of c.machine ≡ asks.Copy (copies.Exchange at old new)) (found : ℕ) (pair : Option (Stored K V))
         (t : IsTriedFor eq hash b name at (kind_of_ask c.machine) old new c.copier.kept c.copier.fresh v found log pair) where
-      -- the table at hand, after an exchange was tried
+      -- the table at hand, after an attempt to exchange
       abbrev Hand : Call_answer → Type 0
       Hand told = In (IsMadeLink (IsReadyAs b name log h.fresh)) (link_in (after c.machine (answers.Call told)).phase)
 
@@ -176,7 +177,7 @@ module _ {K V S H : Type 0} (eq : K → K → Bool) (input : K → List (List �
     tried_on at old new asked answer a = subst (Leaves log) (sym a.is)
         (ended at old new asked a.found a.tried.pair a.tried.tried (a.found == old) refl (ap (λ (z : Copier K V S H). z.kept) a.rest) a.tried.last_is a.hand)
 
-    -- each answer leaves the call relying on what holds
+    -- after each answer the call relies on facts that hold
     pub copied : (ask : CopyAsk) → ask_of c.machine ≡ asks.Copy ask → (answer : Answer)
         → AnswersTo eq hash b name ask (kind_of_ask c.machine) (follows_of c.machine) v c.copier log h answer → Leaves log answer
     copied (copies.Load at) asked answer a = subst (Leaves log) (sym a.is)

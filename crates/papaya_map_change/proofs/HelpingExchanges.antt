@@ -70,7 +70,7 @@ pub unmarked : {P : Type 0} (kind : Option StepKind) (pair last : Option P) → 
 unmarked (Some kinds.Mark) pair last other = absurd (other refl)
 unmarked kind pair last other = refl
 
--- the pair last told of, by the one that the word names
+-- the pair last loaded, by the one that the word names
 pub told_pair : {P : Type 0} (s : State P) (at : At) (last : Option P) → told_last s at last ≡ or_last (pair_at s at) last
 told_pair s Root last = refl
 told_pair s (Next t) last = refl
@@ -92,7 +92,7 @@ module _ {K P : Type 0} (c : Coding K P) (new : ℕ) (s : State P) (kept : Optio
   of_copy (Some kinds.Abort) at a = tt
   of_copy other at a = absurd a
 
-  -- it is told of the pair that it marked
+  -- it receives the pair that it marked
   pub last_marked : (kind : Option StepKind) (at : At) → IsCopyAsked c kind at new s kept e → (last : Option P)
       → last_after e last ≡ marked_or kind (pair_at s at) last
   last_marked (Some kinds.Link) (Next t) is last = ap (λ (z : Exchange P). last_after z last) is
@@ -107,7 +107,7 @@ module _ {K P : Type 0} (c : Coding K P) (new : ℕ) (s : State P) (kept : Optio
 
 module _ {K K' P : Type 0} (c : Coding K P) (c' : Coding K' P) (numbers : (p : P) → c.number p ≡ c'.number p) (new : ℕ) (s : State P)
     (kept : Option P) (e : Exchange P) where
-  -- what a copy asks for depends on the pairs' numbers alone
+  -- the asks of a copy depend only on the pairs' numbers
   pub copy_alike : (kind : Option StepKind) (at : At) → IsCopyAsked c kind at new s kept e → IsCopyAsked c' kind at new s kept e
   copy_alike (Some kinds.Link) (Next t) is = is
   copy_alike (Some kinds.Mark) (Slot t x) a = a
@@ -120,7 +120,7 @@ module _ {K K' P : Type 0} (c : Coding K P) (c' : Coding K' P) (numbers : (p : P
   copy_alike other at a = absurd a
 
 module _ {K V : Type 0} (new : ℕ) (s : State (Stored K V)) (kept : Option (Stored K V)) (e : Exchange (Stored K V)) where
-  -- the step of the book that is such an exchange: but for a link, nothing comes with it
+  -- the step of the book for such an exchange: except for a link, nothing comes with it
   pub record IsStepOf (kind : Option StepKind) (at : At) : Type 0 where
     pub step : Step K V
     pub is : exchange_of step ≡ e
@@ -140,7 +140,7 @@ module _ {K V : Type 0} (new : ℕ) (s : State (Stored K V)) (kept : Option (Sto
   step_of_copy kind at a other = absurd a
 
 module _ {K V S : Type 0} (eq : K → K → Bool) (hash : S → K → ℕ) (b : Begun K V S) (name : Book) where
-  -- what was exchanged was wished, and a table that came with it was at hand
+  -- the exchange was requested, and a table that came with it was at hand
   wished_then : (at : At) (kind : Option StepKind) (new : ℕ) (made : Option (Stored K V)) (fresh : Option (Where Sheet × Pen)) (brings : Named K V)
       → IsOwnTable fresh brings → (before log : List (Event K V S)) (exchanged : Bool)
       → MatchBool exchanged ((e : Step K V) × IsMeant eq hash at kind new made brings before e × (log ≡ before ++ Stepped e ∷ [])) (log ≡ before)
@@ -151,7 +151,7 @@ module _ {K V S : Type 0} (eq : K → K → Bool) (hash : S → K → ℕ) (b : 
 
   module _ (seen₀ seen : List (Event K V S)) (pre : IsPrefix seen₀ seen) (kind : Option StepKind) (old new : ℕ) (kept : Option (Stored K V))
       (fresh : Option (Where Sheet × Pen)) (found : ℕ) (log : List (Event K V S)) where
-    -- a slot's exchange was tried for a copy
+    -- there was an attempt to exchange a slot for a copy
     pub tried_slot : (t x : ℕ) (pair : Option (Stored K V)) → IsSlotTried eq hash b name t x kind old new kept names.Nothing seen found log pair
         → IsTriedFor eq hash b name (Slot t x) kind old new kept fresh seen₀ found log pair
     tried_slot t x pair s = record {
@@ -165,7 +165,7 @@ module _ {K V S : Type 0} (eq : K → K → Bool) (hash : S → K → ℕ) (b : 
       after = wished_then (Slot t x) kind new kept fresh names.Nothing tt s.tried.before log (found == old) s.tried.after;
     }
 
-    -- so was one of another word, which names no pair
+    -- or another word, which names no pair
     pub tried_word : (at : At) → ((s : State (Stored K V)) → pair_at s at ≡ None) → (state : Option (Named K V))
         → IsTried eq hash b at kind old new kept names.Nothing seen found log state
         → IsTriedFor eq hash b name at kind old new kept fresh seen₀ found log None
@@ -180,7 +180,7 @@ module _ {K V S : Type 0} (eq : K → K → Bool) (hash : S → K → ℕ) (b : 
       after = wished_then at kind new kept fresh names.Nothing tt s.before log (found == old) s.after;
     }
 
-  -- a link is wished whatever pair is carried
+  -- a link is requested whatever pair is moved
   wished_link : (t new : ℕ) (kept : Option (Stored K V)) (fresh : Option (Where Sheet × Pen)) (before log : List (Event K V S)) (exchanged : Bool)
       → MatchBool exchanged ((e : Step K V) × IsWished (Some kinds.Link) (Next t) new (state_of before) None (exchange_of e)
       × IsOwnTable fresh (comes e) × (log ≡ before ++ Stepped e ∷ [])) (log ≡ before)
@@ -190,7 +190,7 @@ module _ {K V S : Type 0} (eq : K → K → Bool) (hash : S → K → ℕ) (b : 
   wished_link t new kept fresh before log true (e, inr asked, own, is) = (e, inr asked, own, is)
   wished_link t new kept fresh before log false is = is
 
-  -- a table was tried to be linked for a copy
+  -- there was an attempt to link a table for a copy
   pub tried_link : (seen₀ seen : List (Event K V S)) → IsPrefix seen₀ seen
       → (t new : ℕ) (kept : Option (Stored K V)) (fresh : Option (Where Sheet × Pen)) (table : Where Sheet) (seal : Pen) → fresh ≡ Some (table, seal)
       → (found : ℕ) (log : List (Event K V S)) (state : Option (Named K V))
@@ -219,7 +219,7 @@ next_or (Done t c) = inr (λ u e. cc e)
 next_or (Slot t x) = inr (λ u e. cc e)
 next_or Made_word = inr (λ u e. cc e)
 
--- a setting has the words that were asked for where it has those of the table that is about to be linked
+-- a setting has the requested words if it has those of the table that is about to be linked
 pub words_where : {K P : Type 0} (g : Setting K P) (o : Option Link)
     → ((behind n chunks : ℕ) → o ≡ Some (links.Linking behind n chunks) → chunks ≤ g.chunks n) → HasWords g o
 words_where g None h = tt
@@ -235,7 +235,7 @@ link_step other t n e = absurd (cc e)
 pub eq_le : {m n : ℕ} → m ≡ n → n ≤ m
 eq_le e = omega arith
 
--- the table at hand has so many words
+-- the number of words of the table at hand
 pub own_words : (K V : Type 0) (o : Option (Where Sheet × Pen)) (w : Where Sheet) (chunks : ℕ) → IsOwnTable {K = K} {V = V} o (names.Table w)
     → HasChunks o chunks → length w.value.done ≡ chunks
 own_words K V None w chunks own has = absurd has
@@ -262,11 +262,11 @@ module _ {K V S H : Type 0} (eq : K → K → Bool) (input : K → List (List �
   abbrev pub C : Coding (Option K) (Stored K V)
   C = coded eq input build write finish classes respects b matches fed form k (exchanges_of begun)
 
-  -- the word that stands at a place, in the setting of any log
+  -- the word at a place, in the setting of any log
   pub word_there : (log log' : List (Event K V S)) (at : At) → word_of (G log') C (state_of log) at ≡ word_in eq hash b log at
   word_there log log' at = key_word (plain log') matches fed p (state_of log) at ∙ word_same (plain log) (plain log') p (state_of log) at
 
-  -- where a table is about to be linked, none has come under its number, over a longer log too
+  -- if a table is about to be linked, none has come under its number, over a longer log too
   module _ (t n chunks : ℕ) (about : link_in m.phase ≡ Some (links.Linking t n chunks)) where
     abbrev rest : ChainRelying eq input build write finish classes respects b matches fed form k (exchanges_of begun) v m (loaded_with last kept made)
     rest = relying eq input build write finish classes respects b name matches fed form k begun v m table last kept made taken put fresh r
@@ -293,7 +293,7 @@ module _ {K V S H : Type 0} (eq : K → K → Bool) (input : K → List (List �
       pub allowed : Allows (plain log) (state_of log) by
       pub written : IsWritten (plain log) p (state_of log) at new (after_exchange (state_of log) by)
 
-    -- where no table is to be linked none is about to be
+    -- if no table is to be linked, none is about to be
     unlinked : ((t : ℕ) → at ≡ Next t → ⊥) → (behind n chunks : ℕ) → link_in m.phase ≡ Some (links.Linking behind n chunks) → ⊥
     unlinked other behind n chunks e =
         let same : asks.Copy (Ask_exchange at old new) ≡ asks.Copy (Ask_exchange (Next behind) 0 n) = sym asked ∙ (machine_linking m behind n chunks e).0 in
@@ -338,7 +338,7 @@ module _ {K V S H : Type 0} (eq : K → K → Bool) (input : K → List (List �
           written = subst (λ (e : Exchange (Stored K V)). IsWritten (plain log) p (state_of log) at new (after_exchange (state_of log) e)) (sym s.is) g.written;
         }
 
-    -- a copy may try what it asks for, but a link
+    -- a copy may attempt the exchange that it asks for, unless it is a link
     pub can_copy : ((t : ℕ) → at ≡ Next t → ⊥) → (log : List (Event K V S)) → IsPrefix v log
         → CanExchange eq hash b at (kind_of_ask m) old new kept names.Nothing log
     can_copy other log pre longer pre' l stands = may_copy other longer (granted other longer (prefix_trans v log longer pre pre') l stands)
@@ -353,7 +353,7 @@ module _ {K V S H : Type 0} (eq : K → K → Bool) (input : K → List (List �
         (λ other. let g = granted other s pre l stands in of_copy Numbered new (state_of s) kept g.by (kind_of_ask m) at g.wished)
         (next_or at)
 
-    -- An exchange that was wished for this copy is one of the copy.
+    -- An exchange that was requested for this copy is one of the copy.
     copied_by : (s : List (Event K V S)) → IsPrefix v s → IsLawfulLog eq hash b s → word_in eq hash b s at ≡ old → (e : Exchange (Stored K V))
         → IsWished (kind_of_ask m) at new (state_of s) kept e → IsCopyAsked Numbered (kind_of_ask m) at new (state_of s) kept e
     copied_by s pre l stands e wished = copy_wished at new (state_of s) kept e (kind_of_ask m) (kind_copies s pre l stands) wished
@@ -364,7 +364,7 @@ module _ {K V S H : Type 0} (eq : K → K → Bool) (input : K → List (List �
       After z = MatchBool z ((e : Step K V) × IsWished (kind_of_ask m) at new (state_of t.before) kept (exchange_of e) × IsOwnTable fresh (comes e)
           × (log ≡ t.before ++ Stepped e ∷ [])) (log ≡ t.before)
 
-      -- the log goes on from what was there before
+      -- the log continues the previous one
       pub grown : (found == old) ≡ true → (pre : IsPrefix t.before log)
           × IsTrueOfCopy (G log) C (state_of t.before) (kind_of_ask m) (follows_of m) (loaded_with last kept made) (Ask_exchange at old new)
           (answers.Call Exchanged) (exchanges_of pre.0) (loaded_with (marked_or (kind_of_ask m) pair last) kept made)
@@ -380,7 +380,7 @@ module _ {K V S H : Type 0} (eq : K → K → Bool) (input : K → List (List �
           asked' last ∙ ap (λ (z : Option (Stored K V)). marked_or (kind_of_ask m) z last) t.names in
           ((Stepped done.0 ∷ [], sym done.3), rw here (refl, (e, wide_asked, refl, ap (λ (z : Option (Stored K V)). loaded_with z kept made) (sym told))))
 
-      -- where a table was linked, the setting has its words by now
+      -- if a table was linked, the setting now has its words
       pub linked_words : (found == old) ≡ true → HasWords (G log) (link_in m.phase)
       linked_words is =
           words_where (G log) (link_in m.phase)
@@ -435,7 +435,7 @@ module _ {K V S H : Type 0} (eq : K → K → Bool) (input : K → List (List �
           (loaded_with last kept made) (relying eq input build write finish classes respects b name matches fed form k begun v m table last kept made
           taken put fresh r) longer l pre
 
-      -- it has the words that were asked for
+      -- it has the requested words
       has_words : HasWords wide' (link_in m.phase)
       has_words =
           let many : length w.value.done ≡ chunks = subst (λ (o : Option (Where Sheet × Pen)). HasChunks o chunks) is words in

@@ -100,6 +100,6 @@ module _ {K P : Type 0} (g : Setting K P) (c : Coding K P) (behind n chunks : �
     pub machine_rises : Relies g c begun since k m loaded → link_in m.phase ≡ Some (links.Linking behind n chunks) → behind < n
     machine_rises r e = phase_rises m.phase r.phase e
 
--- how large a table is made that will not be linked
+-- the length of a table that is made and not linked
 pub small_size : IsSize 8 15
 small_size = record { power = (3, refl); most = omega arith; few = omega arith }

@@ -1,4 +1,5 @@
--- Each call that is set aside goes on after an answer to its copy's ask, with the table that it enters then.
+-- Each call that is set aside continues after an answer to its copy's ask, with the table that it
+-- then enters.
 use Rattle.std.proofs.Common.{◌≡◌, ℕ, Bool, true, MatchOption, List, refl, sym, ap, ◌∙◌, subst}
 use Rattle.std.specs.Cmp.{IsEquivalence}
 use mathlib.Core.List.{IsPrefix}
@@ -32,7 +33,7 @@ module _ {K V S H : Type 0} (eq : K → K → Bool) (input : K → List (List �
   abbrev hash : S → K → ℕ
   hash = hash_of input build write finish
 
-  -- the call is under way by now
+  -- the call is under way now
   driven : IsDriven eq hash b name can.0 can.1 can.3 can.4 v can.5 c
   driven = goes can.0 can.1 can.2 can.3 can.4 can.5 can.6
 
@@ -41,7 +42,7 @@ module _ {K V S H : Type 0} (eq : K → K → Bool) (input : K → List (List �
 
   module _ (log : List (Event K V S)) (c₁ : Driver K V S H) (answer : Answer) (copies : Copies eq hash b name v c log c₁ answer)
       (machine_is : c₁.machine ≡ c.machine) (m : Machine) (answered : m ≡ after c₁.machine answer) where
-    -- where the answer led the call
+    -- the state after the answer
     goes_to : m ≡ after c.machine answer
     goes_to = answered ∙ ap (λ (z : Machine). after z answer) machine_is
 
@@ -58,7 +59,7 @@ module _ {K V S H : Type 0} (eq : K → K → Bool) (input : K → List (List �
     pub lawful_now : IsLawfulLog eq hash b log
     lawful_now = copied_now.relies.lawful
 
-    -- the table in which it is to look has come
+    -- the table that it is to search has come
     pub come_now : (n : ℕ) → IsEntering m n → HasCome log n
     come_now n is = entering_came eq input build write finish classes respects b name can.0 can.1 can.2 can.3 can.4 log (after c.machine answer)
         c₁.copier.last c₁.copier.kept can.5 c₁.taken c₁.put c₁.copier.fresh copied_now.relies n (to n is)
@@ -91,7 +92,7 @@ module _ {K V S H : Type 0} (eq : K → K → Bool) (input : K → List (List �
           c₁.taken c₁.put c₁.copier.fresh moved.relies v c.machine c.table c.copier.last c.copier.kept c.taken c.put c.copier.fresh now (tables_of log) c₁.copier.given.done
           moved.leads pre log' pre' l' c₂.table held' still')
 
--- a machine that does not ask for a copy asks for its call
+-- a machine without an ask for a copy is in phase `Calling`
 calls_in : (call : Call_machine) (phase : Phase) → ((ask : CopyAsk) → asks_in call phase ≡ Copy ask → ⊥) → phase ≡ Calling
 calls_in call Calling none = refl
 calls_in call (Linking link) none = absurd (none _ refl)

@@ -1,4 +1,4 @@
--- After an answer to its copy's ask, a call stays set aside or goes on for itself.
+-- After an answer to its copy's ask, a call stays set aside or continues in phase `Calling`.
 use Rattle.std.proofs.Common.{◌≡◌, ◌⊎◌, inl, inr, ⊎_elim, ℕ, Bool, true, false, Some, List, ◌++◌, refl, sym, ap, ◌∙◌, subst}
 use Rattle.papaya_words.specs.declared.refused.Refused.{Refused}
 use Rattle.papaya_words.specs.declared.refused.Refused.TheVariants.{Capacity, Memory}
@@ -64,7 +64,7 @@ module _ {K P : Type 0} (g : Setting K P) (c : Coding K P) (hashed : IsHashed g 
   abbrev now : State P
   now = run (begun ++ since) start
 
-  -- the table that the call goes on from
+  -- the table from which the call continues
   left_in : (phase : Phase) → ReliesPhase g c begun since k m loaded phase → asks_in m.call phase ≡ asks.Copy ask → (t : ℕ) × (left_by m.call.state ≡ Some t)
   left_in Calling at e = absurd cc
   left_in (Linking link) at e = (Rattle.papaya_call.specs.Link.follows link, at.left)
@@ -77,7 +77,7 @@ module _ {K P : Type 0} (g : Setting K P) (c : Coding K P) (hashed : IsHashed g 
   not_replied : (reply : Reply) → ask_of m ≡ asks.Call (Ask_done reply) → ⊥
   not_replied reply e = let f : asks.Copy ask ≡ asks.Call (Ask_done reply) = sym asked ∙ e in cc f
 
-  -- why a table could not be made
+  -- the cause why a table could not be made
   abbrev IsWhy : Refused → Type 0
   IsWhy refused = (refused ≡ Memory) ⊎ ((refused ≡ Capacity) × HasNoRoom m.call.initial tables given)
 
@@ -102,7 +102,7 @@ module _ {K P : Type 0} (g : Setting K P) (c : Coding K P) (hashed : IsHashed g 
         }),
       )
 
-  -- it stays set aside, or goes on
+  -- it stays set aside, or continues
   abbrev Left : Machine → Type 0
   Left m' = IsAside m m' ⊎ HasResumed m m' tables given
 

@@ -48,7 +48,7 @@ module _ {K V S H : Type 0} (eq : K → K → Bool) (input : K → List (List �
     (begun log : List (Event K V S)) (m : Machine) (table : Option (Bor Sheet)) (last kept : Option (Stored K V)) (made : List (Stored K V))
     (taken put : Option (Stored K V)) (fresh : Option (Where Sheet × Pen))
     (r : IsCalling eq (hash_of input build write finish) b name matches fed k begun log m table last kept made taken put fresh) where
-  -- what the call relies on
+  -- the facts that the call relies on
   abbrev pub relying : ChainRelying eq input build write finish classes respects b matches fed form k (exchanges_of begun) log m (loaded_with last kept made)
   relying = record { since = r.since; is = r.is; relies = r.relies }
 
@@ -58,7 +58,7 @@ module _ {K V S H : Type 0} (eq : K → K → Bool) (input : K → List (List �
   abbrev c : Rattle.papaya_words_law.specs.Code.Coding (Option K) (Stored K V)
   c = coded eq input build write finish classes respects b matches fed form k (exchanges_of begun)
 
-  -- what is named in a copy's ask is there
+  -- each word and pair in a copy's ask is there
   pub all_there : (ask : CopyAsk) → ask_of m ≡ asks.Copy ask → AreThere g c (state_of log) last kept ask
   all_there ask e =
       subst (λ (z : List (Exchange (Stored K V))). AreThere g c (run z start) last kept ask) r.is
@@ -78,7 +78,7 @@ module _ {K V S H : Type 0} (eq : K → K → Bool) (input : K → List (List �
       let here : IsHint g c (state_of log) t x n = subst (λ (z : List (Exchange (Stored K V))). IsHint g c (run z start) t x n) r.is wide_hint in
       record { lawful = r.lawful; is = hint_without (setting_of eq hash b.mode b.limit log) (coding_of hash) matches fed ((state_of log).slot t x) n here }
 
-  -- where a word is named, its table has come
+  -- if a word is named, its table has come
   abbrev pub HasComeFor : At → Type 0
   HasComeFor Root = Unit {0}
   HasComeFor (Next t) = HasCome log t

@@ -1,4 +1,5 @@
--- After an answer to its copy's ask, a call that was set aside again relies on what holds, and stays set aside or goes on.
+-- After an answer to its copy's ask, a call that was set aside again relies on facts that hold, and
+-- stays set aside or continues.
 use Rattle.std.proofs.Common.{◌≡◌, ◌⊎◌, inl, inr, ⊎_elim, ℕ, Bool, true, Option, None, Some, List, ◌++◌, refl, sym, ap, ◌∙◌, subst}
 use Rattle.std.specs.Cmp.{IsEquivalence}
 use mathlib.Core.List.{IsPrefix}
@@ -50,7 +51,7 @@ use Rattle.papaya_map_change.proofs.HelpingPlaces.{relying}
 use Rattle.papaya_map_change.proofs.Sized.{counting_after, counting_since}
 use Rattle.papaya_map_change.proofs.Relying.{ChainRelying, carried, coded, hashed_in, may_first, relying_later, relying_told, told_then, wide}
 
--- a table is at hand still, over a longer log
+-- a table is still at hand, over a longer log
 pub fresh_later : {K V S : Type 0} (b : Begun K V S) (name : Book) (v log : List (Event K V S)) → IsPrefix v log
     → (n : ℕ) (fresh : Option (Where Sheet × Pen)) → IsFresh b name v n fresh → IsFresh b name log n fresh
 fresh_later b name v log pre n fresh f = record {
@@ -64,14 +65,14 @@ fresh_later b name v log pre n fresh f = record {
   seal_nib = f.seal_nib;
 }
 
--- with which ask a table comes
+-- the asks with which a table comes
 bringing : (ask : Ask) (n : ℕ) (Goal : Type 0) → IsBringing ask n → ((old new : ℕ) → ask ≡ asks.Call (Call_exchange Root old new) → Goal)
     → ((t old new : ℕ) → ask ≡ asks.Copy (copies.Exchange (Next t) old new) → new ≡ n → Goal) → Goal
 bringing (asks.Call (Call_exchange Root old new)) n Goal h call copy = call old new refl
 bringing (asks.Copy (copies.Exchange (Next t) old new)) n Goal h call copy = copy t old new refl h.1
 bringing other n Goal h call copy = absurd h
 
--- a machine that asks as its call asks to open a table asks for itself
+-- a machine with its call's ask to open a table is in phase `Calling`
 opening : (call : Call_machine) (phase : Phase) (old new : ℕ) → asks_in call phase ≡ asks.Call (Call_exchange Root old new) → (phase ≡ Calling)
     × (call_machine.ask_of call ≡ Call_exchange Root old new)
 opening call Calling old new e = (refl, cc e)
@@ -79,7 +80,7 @@ opening call (Linking link) old new e = absurd cc
 opening call (Copying_root copying) old new e = absurd cc
 
 module _ (m m' : Machine) (tables : List ℕ) (given : List CapacityCause) where
-  -- none that went on asks so
+  -- no call that continued has such an ask
   led_opens : HasResumed m m' tables given → (old new : ℕ) → call_machine.ask_of m'.call ≡ Call_exchange Root old new → ⊥
   led_opens led old new e = elim led.where_to [
     | inl on ↦ (let f : SizeOf on.table ≡ Call_exchange Root old new = sym (ap call_machine.ask_of on.call) ∙ e in cc f)
@@ -88,7 +89,7 @@ module _ (m m' : Machine) (tables : List ℕ) (given : List CapacityCause) where
     | inr (inr ends) ↦ (let f : Ask_done (Reply_refused ends.refused) ≡ Call_exchange Root old new = sym (ap call_machine.ask_of ends.call) ∙ e in cc f)
   ]
 
-  -- so a table comes only where one is about to be linked
+  -- so a table comes only if one is about to be linked
   brings_after : (Made : ℕ → Type 0) (Full : ℕ → Type 0) → IsAside m m' ⊎ HasResumed m m' tables given
       → In (IsMadeLink (λ n chunks. Made n × Full chunks)) (link_in m'.phase) → (n : ℕ) → IsBringing (ask_of m') n → Made n
   brings_after Made Full leads made n h =
@@ -118,14 +119,14 @@ module _ {K V S H : Type 0} (eq : K → K → Bool) (input : K → List (List �
   abbrev pub IsAtHand : List (Event K V S) → Option (Where Sheet × Pen) → (n chunks : ℕ) → Type 0
   IsAtHand log fresh' n chunks = IsReadyAs b name log fresh' n chunks
 
-  -- what is about to be linked is at hand
+  -- the table that is about to be linked is at hand
   at_hand : (log : List (Event K V S)) → IsPrefix v log → In (IsMadeLink (IsAtHand log fresh)) (link_in m.phase)
   at_hand log pre =
       made_is (IsAtHand log fresh) (link_in m.phase)
       (λ behind t chunks e. let links_it = machine_linking m behind t chunks e in
       (fresh_later b name v log pre t fresh (r.brings t (subst (λ (a : Ask). IsBringing a t) (sym links_it.0) (refl, refl))), r.words behind t chunks e))
 
-  -- and stays so where no table was made
+  -- and stays so if no table was made
   pub same_hand : (log : List (Event K V S)) → IsPrefix v log → (answer : Answer) → ((n : ℕ) → answer ≡ answers.Call (Made_number n) → ⊥)
       → In (IsMadeLink (IsAtHand log fresh)) (link_in (after m answer).phase)
   same_hand log pre answer none = machine_made (IsAtHand log fresh) m answer (λ n behind slots limit chunks aside e makes. absurd (none n e)) (at_hand log pre)
@@ -157,7 +158,7 @@ module _ {K V S H : Type 0} (eq : K → K → Bool) (input : K → List (List �
         (loaded_with last kept made) (relying eq input build write finish classes respects b name matches fed form k begun v m table last kept made
         taken put fresh r) before l₀ since
 
-    -- of the words
+    -- the answer is true of the words
     told_so : IsTrueOf (G log) C k (state_of before) (kind_of_ask m) (follows_of m) (loaded_with last kept made) (ask_of m) answer (exchanges_of pre.0)
         (loaded_with last' kept' made)
     told_so = subst (λ (a : Ask). IsTrueOf (G log) C k (state_of before) (kind_of_ask m) (follows_of m) (loaded_with last kept made) a answer
@@ -168,7 +169,7 @@ module _ {K V S H : Type 0} (eq : K → K → Bool) (input : K → List (List �
     told_there = told_then eq input build write finish classes respects b matches fed form k (exchanges_of begun) before l₀ m
         (loaded_with last kept made) mid log l pre answer (exchanges_of pre.0) (loaded_with last' kept' made) told_so
 
-    -- what the call relied on, in the setting of the longer log
+    -- the facts that the call relied on, in the setting of the longer log
     rested : Rattle.papaya_call_law.specs.ChainRelies.Relies (G log) C (exchanges_of begun) mid.since k m (loaded_with last kept made)
     rested = carried eq input build write finish classes respects b matches fed form k (exchanges_of begun) before l₀ m (loaded_with last kept made)
         mid log l pre
@@ -177,7 +178,7 @@ module _ {K V S H : Type 0} (eq : K → K → Bool) (input : K → List (List �
     counting : IsCountingOf (tables_of log) m
     counting = counting_since (tables_of v) (tables_of log) (tables_since v log (prefix_trans v before log since pre)) m r.counts
 
-    -- it stays set aside, or goes on
+    -- it stays set aside, or continues
     pub leads : IsAside m (after m answer) ⊎ HasResumed m (after m answer) (tables_of log) given
     leads =
         leaves (G log) C (hashed_in eq input build write finish classes respects b matches fed form k (exchanges_of begun) log l) (exchanges_of begun) mid.since
@@ -200,7 +201,7 @@ module _ {K V S H : Type 0} (eq : K → K → Bool) (input : K → List (List �
         (hashed_in eq input build write finish classes respects b matches fed form k (exchanges_of begun) log l) rested.call.hash
         ∙ (ap (λ (a : Ask). change_by (kind_of_ask m) a answer (change_in m.call.state)) asked ∙ aside_unchanged m.call.state left.0 left.1)
 
-    -- it relies on what holds again
+    -- it relies again on facts that hold
     pub copied : IsPlaced b (Some name) (pair_named last') → IsPlaced b (Some name) (pair_named kept')
         → In (IsMadeLink (IsAtHand log fresh')) (link_in (after m answer).phase)
         → ((slots limit : ℕ) → answer ≡ answers.Call (Size slots limit) → Member slots (tables_of log))

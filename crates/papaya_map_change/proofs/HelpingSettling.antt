@@ -1,4 +1,5 @@
--- A call that is set aside relies on what holds after each answer that leads its copy on, whatever runs.
+-- A call that is set aside relies on facts that hold after each answer with which its copy
+-- continues, whether its machine runs or is a ghost.
 use Rattle.std.proofs.Common.{◌≡◌, ℕ, Bool, true, Option, Some, List, [], ◌∷◌, append-nil, refl, sym, ap, ◌∙◌, subst}
 use Rattle.std.specs.Cmp.{IsEquivalence}
 use mathlib.Core.List.{IsPrefix}
@@ -25,11 +26,11 @@ use Rattle.papaya_map_change.proofs.HelpingArrives.{arrived}
 use Rattle.papaya_map_change.proofs.HelpingCopies.{can_answer, copied}
 use Rattle.papaya_map_change.proofs.ResizingStages.{stage_fits}
 
--- the call, as its copy stands here
+-- the call, with its copy in this state
 abbrev pub driver_at : {K V S H : Type 0} → Driver K V S H → Stop K V S H → Driver K V S H
 driver_at c s = record c { machine = record c.machine { phase = Copying_root s.copying }; copier = s.loaded }
 
--- a machine whose copy stands there
+-- a machine whose copy is in this state
 pub standing_at : {K V S H : Type 0} (c : Driver K V S H) (s : Stop K V S H) → IsValid c.machine → IsValidCopying s.copying
     → IsValid (driver_at c s).machine
 standing_at c s valid copying = record { call = valid.call; chunked = valid.chunked; initial = valid.initial; phase = copying }
@@ -45,7 +46,7 @@ module _ {K V S H : Type 0} (eq : K → K → Bool) (input : K → List (List �
     abbrev Relies : Stop K V S H → Type 0
     Relies s = IsDriven eq hash b name matches fed k begun s.log made (driver_at c s)
 
-    -- one answer leads on
+    -- one answer leads to the next state
     turned : (s t : Stop K V S H) → IsMoveStep eq hash b name c.machine.call.mode s t → IsValidCopying s.copying → Relies s → Relies t
     turned s t turn stands r =
         let d = driver_at c s in
@@ -67,7 +68,7 @@ module _ {K V S H : Type 0} (eq : K → K → Bool) (input : K → List (List �
     walked [] s t p stands r = subst (λ (z : Stop K V S H). IsValidCopying z.copying × Relies z) (sym p) (stands, r)
     walked (x ∷ ts) s t p stands r = walked ts x t p.1 p.0.valid (turned s x p.0 stands r)
 
-    -- and some lead on
+    -- and several answers lead to a later one
     pub led : (s t : Stop K V S H) → StepsTo eq hash b name c.machine.call.mode s t → IsValidCopying s.copying → Relies s
         → IsValidCopying t.copying × Relies t
     led s t l stands r = walked l.0 s t l.1 stands r
@@ -76,11 +77,11 @@ module _ {K V S H : Type 0} (eq : K → K → Bool) (input : K → List (List �
     answers_now t stands r = can_answer eq input build write finish classes respects b name matches fed form k begun made t.log (driver_at c t) r
         (copying_ask t.copying) refl (stage_fits (stages.Copying 0 t.copying) stands (copying_ask t.copying) refl)
 
-    -- so what is asked on the way may be answered
+    -- so each ask on the way may be answered
     pub may_lead : (s : Stop K V S H) → IsValidCopying s.copying → Relies s → CanStep eq hash b name c.machine.call.mode s
     may_lead s stands r = λ t l. let there = led s t l stands r in answers_now t there.0 there.1
 
-  -- the copy for a call that is under way may be led on from here
+  -- the copy for a call that is under way may continue from here
   pub can_lead : (s : Stop K V S H) → IsValidCopying s.copying → CanGoOn eq hash b name s.log (driver_at c s) → CanStep eq hash b name c.machine.call.mode s
   can_lead s stands can = may_lead can.0 can.1 can.2 can.3 can.4 can.5 s stands can.6
 
@@ -88,11 +89,11 @@ module _ {K V S H : Type 0} (eq : K → K → Bool) (input : K → List (List �
     abbrev last : Stop K V S H
     last = record { copying = s'.copying; log = e.log; loaded = e.loaded }
 
-    -- it goes on to the last answer
+    -- it continues up to the last answer
     pub goes : Continues eq hash b name s.log (driver_at c s) e.log (driver_at c last)
     goes matches fed form k begun made r = (led matches fed form k begun made s last e.leads stands r).1
 
-    -- and by it
+    -- and after it
     pub goes_by : IsValidCopying s'.copying → Copies eq hash b name e.log (driver_at c last) s'.log (driver_at c s') answer
     goes_by stands' matches fed form k begun made r =
         copied eq input build write finish classes respects b name matches fed form k begun made e.log (driver_at c last) r

@@ -1,5 +1,5 @@
--- After each answer an insertion again relies on what holds. It makes pairs of its value, with its own key or with one that it met, and puts in no
--- others.
+-- After each answer an insertion again relies on facts that hold. It makes pairs of its value, with
+-- its own key or with one that it met, and puts in no others.
 use Rattle.std.proofs.Common.{◌≡◌, ◌⊎◌, inl, inr, ⊎_elim, ℕ, ◌==◌, Bool, true, false, MatchBool}
 use Rattle.std.proofs.Common.{Option, None, Some, List, [], ◌∷◌, append-nil, refl, sym, ap, ◌∙◌}
 use Rattle.std.proofs.Common.{subst}
@@ -79,14 +79,14 @@ module _ {K V S H : Type 0} (eq : K → K → Bool) (input : K → List (List �
     abbrev pub IsUnpairing : Answer → Type 0
     IsUnpairing answer = (n : ℕ) → answer ≡ Made_number n → MakesPair (calls.ask_of m.call) → ⊥
 
-    -- what holds of what an answer says, or of a limit that is spent, holds of why it is refused
+    -- the cause of a failure is that of the answer, or the spent limit
     refused : (holds : Cause → Type 0) (answer : Answer) → IsValid m → m.phase ≡ Calling → IsOpen
         → ((cause : Cause) → answer ≡ Was_refused cause → holds cause) → (IsAtLimit m.call answer → holds Limit) → (cause : Cause)
         → ask_of (after m (answers.Call answer)) ≡ Call (Done (Refused cause)) → holds cause
     refused holds answer valid calling open_still told spent = refused_for m calling answer holds
         (λ e. subst IsComputer r.task_is (shows_none m valid e)) open_still told spent
 
-    -- the pair that was made of a key that was met serves in its slot still
+    -- the pair that was made of a key that was met may still be used in its slot
     of_later : (made' : List (Stored K V)) → ((q : Stored K V) → IsOneOf r.made q → IsOneOf made' q) → (log' : List (Event K V S))
         → IsLawfulLog eq hash b log' → IsPrefix log log' → HasOf value made' log' m.call.made.of x.of
     of_later made' more log' l' pre = record {
@@ -98,7 +98,7 @@ module _ {K V S H : Type 0} (eq : K → K → Bool) (input : K → List (List �
     own_later : (made' : List (Stored K V)) → ((q : Stored K V) → IsOneOf r.made q → IsOneOf made' q) → HasOwn key value made' m.call.made.own x.own
     own_later made' more = record { there = r.own_is.there; is = λ q e. let h = r.own_is.is q e in (more q h.0, h.1, h.2) }
 
-    -- it goes on, where it makes no pair, and puts in no other value
+    -- it continues if it makes no pair, and puts in no other value
     kept : (log' : List (Event K V S)) → IsPrefix log log' → (w : Writer K V S H) (answer : Answer) → w.call.machine ≡ m
         → ((v : V) → held_value w.value ≡ Some v → v ≡ value) → ((q : Stored K V) → w.call.put ≡ Some q → q.value.value ≡ value) → IsValid m
         → m.phase ≡ Calling → IsOpen → IsUnpairing answer → IsTakenCount log' (calls.ask_of m.call) answer → IsWithoutResult w.call.copier.given.done answer
@@ -130,7 +130,7 @@ module _ {K V S H : Type 0} (eq : K → K → Bool) (input : K → List (List �
           on.1,
         )
 
-    -- so it does after an answer that leaves its value and what it put in
+    -- so it does after an answer that leaves its value and the pair that it put in
     pub goes_on : (log' : List (Event K V S)) → IsPrefix log log' → (w : Writer K V S H) (answer : Answer) → w.call.machine ≡ m
         → w.value ≡ x.writer.value → w.call.put ≡ x.writer.call.put → IsValid m → m.phase ≡ Calling → IsOpen → IsUnpairing answer
         → IsTakenCount log' (calls.ask_of m.call) answer → IsWithoutResult w.call.copier.given.done answer
@@ -138,7 +138,7 @@ module _ {K V S H : Type 0} (eq : K → K → Bool) (input : K → List (List �
     goes_on log' pre w answer machine left put valid calling open_still unpairing tells unsaid on = kept log' pre w answer machine
         (λ v e. r.value_is v (ap held_value (sym left) ∙ e)) (λ q e. r.put_is q (sym put ∙ e)) valid calling open_still unpairing tells unsaid on
 
-    -- the pair was not logged
+    -- the pair was not stored in the arena
     pub pair_unmade : (w : Writer K V S H) (answer : Answer) → w.call.machine ≡ m → held_value w.value ≡ held_value x.writer.value
         → w.call.put ≡ x.writer.call.put → IsValid m → m.phase ≡ Calling → IsOpen → IsUnpairing answer → IsTakenCount log (calls.ask_of m.call) answer
         → IsWithoutResult w.call.copier.given.done answer
@@ -147,7 +147,7 @@ module _ {K V S H : Type 0} (eq : K → K → Bool) (input : K → List (List �
         kept log ([], append-nil log) w answer machine (λ v e. r.value_is v (sym left ∙ e)) (λ q e. r.put_is q (sym put ∙ e)) valid calling
         open_still unpairing tells unsaid on
 
-    -- a pair of its value was tried to be put in
+    -- there was an attempt to put in a pair of its value
     pub pair_tried : (log' : List (Event K V S)) → IsPrefix log log' → (w : Writer K V S H) (answer : Answer) (q : Stored K V) → q.value.value ≡ value
         → w.call.machine ≡ m → w.value ≡ x.writer.value → (w.call.put ≡ x.writer.call.put) ⊎ (w.call.put ≡ Some q) → IsValid m → m.phase ≡ Calling
         → IsOpen → IsUnpairing answer → IsTakenCount log' (calls.ask_of m.call) answer → IsWithoutResult w.call.copier.given.done answer
@@ -175,7 +175,7 @@ module _ {K V S H : Type 0} (eq : K → K → Bool) (input : K → List (List �
     writes : MakesPair (calls.ask_of m.call) → (write : Write) × (m.call.state ≡ Writing write)
     writes makes = pairs_write g c (exchanges_of begun) r.writing.calling.since (Some key) loaded true m.call.hash m.call.made m.call.state stage makes
 
-    -- the pair was logged
+    -- the pair was stored in the arena
     module _ (w : Writer K V S H) (q : Stored K V) (n : ℕ) (number : n ≡ q.index) (machine : w.call.machine ≡ m)
         (had : held_value x.writer.value ≡ Some q.value.value) (left : held_value w.value ≡ held_value x.writer.value)
         (put : w.call.put ≡ x.writer.call.put) (valid : IsValid m) (calling : m.phase ≡ Calling)
@@ -195,7 +195,7 @@ module _ {K V S H : Type 0} (eq : K → K → Bool) (input : K → List (List �
       value_so : q.value.value ≡ value
       value_so = r.value_is q.value.value had
 
-      -- what the machine has made then, which writes here
+      -- the pairs that the machine has then made, which writes here
       made_so : (to : Write) → m.call.state ≡ Writing to → next.call.made ≡ made_in m.call.made n (Writing to)
       made_so to is = ap (λ (z : Machine). z.call.made) same
           ∙ (ap (λ p. (after_in m (answers.Call (Made_number n)) p).call.made) calling ∙ ap (made_in m.call.made n) is)
@@ -228,7 +228,7 @@ module _ {K V S H : Type 0} (eq : K → K → Bool) (input : K → List (List �
             going.1,
           )
 
-      -- of its own key
+      -- for its own key
       pub pair_made : ask_of m ≡ Call MakePair → key_of q ≡ key
           → IsInsertingOn eq hash b name key value begun log (record x { writer = w; own = Some q }) (Some (Made_number n))
       pair_made asks key_is =
@@ -245,7 +245,7 @@ module _ {K V S H : Type 0} (eq : K → K → Bool) (input : K → List (List �
           (subst (λ o. HasOf value made_now log o x.of) (sym (ap (λ z. z.of) is ∙ grown.1))
           (of_later made_now more log r.writing.calling.lawful ([], append-nil log)))
 
-      -- of the key that it met
+      -- for the key that it met
       pub pair_of_made : (i : ℕ) → ask_of m ≡ Call (MakePairOf i) → ((p : Stored K V) → x.writer.call.copier.last ≡ Some p → key_of q ≡ key_of p)
           → IsInsertingOn eq hash b name key value begun log (record x { writer = w; of = Some q }) (Some (Made_number n))
       pair_of_made i asks key_is =
@@ -268,7 +268,7 @@ module _ {K V S H : Type 0} (eq : K → K → Bool) (input : K → List (List �
             is = λ p e. let one : q ≡ p = cc e in subst (λ (z : Stored K V). IsOneOf made_now z × (z.value.value ≡ value)) one (inl refl, value_so);
           })
         where
-          -- the pair that it met last is the one that the write is to take the place of
+          -- the pair that it met last is the one that the write is to replace
           met_there : (to : Write) → m.call.state ≡ Writing to → (to.old == 0) ≡ false → (p : Stored K V) × (x.writer.call.copier.last ≡ Some p)
               × HasKeyAt log to.place.table to.place.probe.i (key_of p)
           met_there to is full =
@@ -330,18 +330,18 @@ module _ {K V S H : Type 0} (eq : K → K → Bool) (hash : S → K → ℕ) (b 
     pub put_kind : IsPutting (kind_of_ask m')
     put_kind = subst IsPutting (sym (own_kind m' own.0)) own_put
 
-    -- it may stand there, has the number that is written, and is one of those that were made
+    -- it may be put there, has the number that is written, and is one of those that were made
     pub record Puts (q : Stored K V) : Type 0 where
       pub one : IsOneOf r.made q
       pub stands : MayOverwrite log key t i old q
       pub number : pair_of new ≡ q.index
       pub value_is : q.value.value ≡ value
 
-    -- the machine knows which serves there
+    -- the machine has made the pair that is put there
     served : IsServed m'.call.made t i old (pair_of new)
     served = asked_served m'.call valid.call.state (subst IsWriter (sym r.task_is) tt) t i old new own.1
 
-    -- where the slot is empty it is the one of its own key
+    -- if the slot is empty it is the one of its own key
     pub puts_own : (old == 0) ≡ true → (q : Stored K V) × (x.own ≡ Some q) × Puts q
     puts_own empty =
         let n = subst (λ (z : Bool). MatchBool z (m'.call.made.own ≡ Some (pair_of new))

@@ -31,7 +31,7 @@ use Rattle.papaya_map_change.proofs.Written.{own_query}
 use Rattle.papaya_map_book.proofs.Logs.{prefix_trans}
 use Rattle.papaya_map_lookup.proofs.Readings.{IsQuery}
 
--- the key that a pair has that comes
+-- the key of a pair that comes
 pub its_key : {K V : Type 0} (key : K) (taken : Option (Stored K V)) (q : Stored K V)
     → MatchOption taken (Some (key_of q) ≡ Some key) (λ p. key_of q ≡ key_of p) → key_of q ≡ key_kept taken key
 its_key key None q is = cc is
@@ -49,7 +49,7 @@ module _ {K V S H : Type 0} (eq : K → K → Bool) (input : K → List (List �
   abbrev query : IsQuery eq input (eq key) (input key)
   query = own_query eq input build write finish classes respects b name key
 
-  -- a class with a key of the call's class is that
+  -- keys that are equal to a key equal to the call's are equal to the call's
   its_class : (class other : K) → eq class other ≡ true → eq key other ≡ true → eq class key ≡ true
   its_class class other of_class same = classes.congr class other key of_class ∙ (classes.symm other key ∙ same)
 
@@ -65,7 +65,7 @@ module _ {K V S H : Type 0} (eq : K → K → Bool) (input : K → List (List �
     some_put class change n puts None is = let none : Some n ≡ None = sym puts ∙ is in absurd (cc none)
     some_put class change n puts (Some q) is = (q, refl, is.1, is.2)
 
-    -- its change, with the value of the pair that went
+    -- its change, with the value of the pair that was taken out
     put_changed : (change : Option ℕ × Option ℕ) (n : ℕ) → change.1 ≡ Some n → change_in x.writer.call.machine.call.state ≡ Some change
         → (answer : Option (Bor V)) → MatchOption answer (x.writer.call.taken ≡ None)
         (λ v. (p : Stored K V) × (x.writer.call.taken ≡ Some p) × (v.now ≡ p.value.value)) → IsPut eq key value (history_of begun) (history_of log) answer
@@ -84,7 +84,7 @@ module _ {K V S H : Type 0} (eq : K → K → Bool) (input : K → List (List �
           taken_is = taken;
         }
 
-    -- a reply that is no refusal is a change
+    -- a reply other than a failure is a change
     put_reply : (reply : Reply) → IsReply (Wide eq input build write finish classes respects b (eq key) (input key) query (Some key) name begun log)
         (Coded eq input build write finish classes respects b (eq key) (input key) query (Some key) name begun) (exchanges_of begun)
         r.writing.calling.since (Some key) loaded (Insert true) reply
@@ -134,7 +134,7 @@ module _ {K V S H : Type 0} (eq : K → K → Bool) (input : K → List (List �
         → x.writer.call.taken ≡ None → IsPut {V = V} eq key value (history_of begun) (history_of log) None
     inserted reply asks some is = put_replied reply asks some None is
 
--- what was seen before the call began was seen before its change
+-- a history before the call began comes before its change
 pub put_since : {K V S : Type 0} (eq : K → K → Bool) (key : K) (value : V) (old begun log : List (Event K V S)) (answer : Option (Bor V))
     → IsPrefix old begun → IsPut eq key value (history_of begun) (history_of log) answer → IsPut eq key value (history_of old) (history_of log) answer
 put_since eq key value old begun log answer pre p = record {

@@ -17,7 +17,7 @@ pub mod OwnSays
 pub mod Inserting
 pub mod InsertingReplies
 pub mod InsertingHelped
--- insertions at once
+-- insertions on the fast path
 pub mod Seeking
 pub mod Claiming
 pub mod Replacing
@@ -25,15 +25,15 @@ pub mod Burying
 pub mod Trading
 pub mod Logged
 pub mod Onward
--- searches that go over places at once
+-- searches that pass several places in one step
 pub mod ProbingOn
--- what closures are shown
+-- the arguments of closures
 pub mod ClosureCalls
 -- removals
 pub mod Removing
 pub mod RemovingReplies
 pub mod RemovingHelped
--- removals at once
+-- removals on the fast path
 pub mod RemovingHits
 -- copies for a call that is set aside
 pub mod HelpingPlaces

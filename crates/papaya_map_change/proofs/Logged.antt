@@ -1,5 +1,5 @@
--- An insertion that begins with a pair in the arena, of its own key or of one that it met; and one that goes on after another that left the map as it
--- was.
+-- An insertion that begins with a pair in the arena, of its own key or of one that it met; and one
+-- that continues after another that left the map unchanged.
 use Rattle.std.proofs.Common.{◌≡◌, inl, ⊎_elim, ℕ, Bool, true, false, Option, None, Some, List, [], ◌∷◌, append-nil, refl, sym, ap, ◌∙◌, subst}
 use Rattle.logbook.specs.Pages.{Book}
 use Rattle.papaya_call.specs.declared.call.Task.TheVariants.{Insert}
@@ -37,7 +37,7 @@ module _ {K V S : Type 0} (eq : K → K → Bool) (hash : S → K → ℕ) (b : 
   own_pair : (p : Stored K V) → IsOneOf (q ∷ []) p → p ≡ q
   own_pair p one = ⊎_elim (λ is. is) (λ other. absurd other) one
 
-  -- nothing but this was made
+  -- only this was made
   abbrev pub made_with : Option ℕ → Option Of → Made
   made_with own of = record (nothing_made b.limit) { own = own; of = of }
 
@@ -128,7 +128,7 @@ module _ {K V S : Type 0} (eq : K → K → Bool) (hash : S → K → ℕ) (b : 
       spent = λ e. let f = sym (ap ask_of machine) ∙ e in absurd (cc f);
     }
 
-    -- and one that has made it of the key that is in a slot
+    -- and one that has made it of the key in a slot
     pub begins_met : (t i : ℕ) → HasKeyAt log t i (key_of q) → IsAt None (Some (record { pair = q.index; table = t; index = i })) → x.own ≡ None
         → x.of ≡ Some q → IsInserting eq hash b name key q.value.value log log x
     begins_met t i met machine own of = record {
@@ -167,11 +167,11 @@ module _ {K V S : Type 0} (eq : K → K → Bool) (hash : S → K → ℕ) (b : 
     }
 
 module _ {K V S H : Type 0} {d : keyed.Ghosts S K H} where
-  -- what is made after nothing was done is all that is made
+  -- changes made after a window without own steps are all the changes made
   pub makes_since : (changed : Bool) (a w w' : Window K V S H d) → Does false a w → Makes changed (own w) (own w') (past w')
       → Makes changed (own a) (own w') (past w')
   makes_since changed a w w' none m = subst (λ (z : List _). Makes changed (changes_by z) (own w') (past w')) (none ∙ append-nil a.own.done) m
 
-  -- nothing is made where nothing is done
+  -- no change is made if nothing is done
   pub makes_none : (a w : Window K V S H d) → Does false a w → Makes false (own a) (own w) (past w)
   makes_none a w none = ap changes_by (none ∙ append-nil a.own.done) ∙ sym (append-nil (own a))

@@ -1,4 +1,5 @@
--- The pairs that an insertion made stay the same with each answer but one to an ask for a pair, which is made for the place of its write.
+-- The pairs that an insertion made stay the same with each answer, except one to an ask for a pair,
+-- which is made for the place of its write.
 use Rattle.std.proofs.Common.{◌≡◌, ⊎_elim, ℕ, ◌==◌, nat_lt, Bool, true, false, cond, Option, None, Some, List, refl, sym, subst}
 use Rattle.std.proofs.lemmas.Bool.{cond_both}
 use Rattle.papaya_words.specs.Word.{pair_of}
@@ -53,7 +54,7 @@ pub record Keeps (made next : Made) : Type 0 where
 same : (made : Made) → Keeps made made
 same made = record { own = refl; of = refl }
 
--- so it is where there is a next one
+-- the same, if there is a next state of the parts
 abbrev KeepsIn : Made → Option Made → Type 0
 KeepsIn made None = Unit {0}
 KeepsIn made (Some next) = Keeps made next
@@ -77,7 +78,7 @@ taken_keeps made Taken = same made
 taken_keeps made Wanted = same made
 taken_keeps made (Free n) = record { own = refl; of = refl }
 
--- what was logged changes no pair that was made
+-- storing a part in the arena changes no pair that was made
 abbrev KeepsGrown : Made → Grown → Type 0
 KeepsGrown made (On next) = Keeps made next
 KeepsGrown made (Pair next) = Keeps made next
@@ -112,7 +113,7 @@ decided_keeps (Insert replace) kind made = same made
 decided_keeps RemoveIf kind made = same made
 decided_keeps Compute kind made = answered_keeps made kind
 
--- an insertion that writes, by the pair that serves
+-- an insertion that writes, by the pair that it uses
 write_made_keeps : (served : Option ℕ) (made : Made) (count : ℕ) → Keeps made (write_made served made count)
 write_made_keeps None made count = number_keeps made (told made count) (told_keeps made made.number count)
 write_made_keeps (Some n) made count = same made
@@ -121,7 +122,7 @@ write_taken_keeps : (served : Option ℕ) (made : Made) → Keeps made (write_ta
 write_taken_keeps None made = taken_keeps made made.number
 write_taken_keeps (Some n) made = same made
 
--- where no pair was asked for
+-- if no pair was asked for
 unpaired_keeps : (made : Made) (write : Write) (n : ℕ) (g : Grown) → grown made write.old ≡ g → KeepsGrown made g
     → (MakesPair (pair_ask made write.old) → ⊥) → Keeps made (made_to_write g write n)
 unpaired_keeps made write n (On next) e h none = h
@@ -153,7 +154,8 @@ module _ (hash : ℕ) where
   made_keeps made n (Pairing purpose) none = paired_keeps made (grown made (in_place_of purpose)) (grown_keeps made.number made (in_place_of purpose))
   made_keeps made n s none = same made
 
-  -- where a pair is asked for in place of nothing it is the one of the own key, and else that of the key that was met
+  -- a pair that is asked for in place of nothing is the one of the own key, and otherwise that of
+  -- the key that was met
   own_asked : (keyed valued : Bool) (i : ℕ) → own_ask keyed valued ≡ MakePairOf i → ⊥
   own_asked false valued i e = cc e
   own_asked true false i e = cc e
@@ -218,7 +220,7 @@ module _ (hash : ℕ) where
         × ((made_in made n (Writing write)).of ≡ Some (made_of write n)) × ((write.old == 0) ≡ false)
     of_made i e = grown_of (serves made write) i e
 
--- each answer leaves the pairs that were made, where none was asked for
+-- each answer leaves the pairs that were made, if none was asked for
 pub keeps : (m : Machine) (answer : Answer) → ((n : ℕ) → answer ≡ Made_number n → MakesPair (ask_of m) → ⊥) → Keeps m.made (after m answer).made
 keeps m (Word_read word) none = word_keeps m.hash m.made word m.state
 keeps m Exchanged none = exchanged_keeps m.hash m.made m.state
@@ -230,7 +232,7 @@ keeps m (Made_number n) none = made_keeps m.hash m.made n m.state (none n refl)
 keeps m Ok_done none = same m.made
 keeps m (Was_refused refused) none = same m.made
 
--- of a machine over a chain, after an answer to the call itself
+-- for a machine over a chain, after an answer to the call itself
 pub keeps_then : (m : Chain) → m.phase ≡ Calling → (answer : Answer) → ((n : ℕ) → answer ≡ Made_number n → MakesPair (ask_of m.call) → ⊥)
     → Keeps m.call.made (chains.after m (answers.Call answer)).call.made
 keeps_then m calling answer none = ⊎_elim (λ own. subst (Keeps m.call.made) (sym own) (keeps m.call answer none))

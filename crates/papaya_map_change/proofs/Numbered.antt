@@ -1,4 +1,4 @@
--- The chunk at which a call begins to copy does not matter for what it relies on.
+-- The chunk at which a call begins to copy makes no difference to the facts that it relies on.
 use Rattle.std.proofs.Common.{◌≡◌, inl, inr, ℕ, Bool, Option, Some, List, refl}
 use denote.Bor.{Bor}
 use Rattle.logbook.specs.Pages.{Book}
@@ -40,7 +40,7 @@ module _ {K P : Type 0} (g : Setting K P) (c : Coding K P) (begun since : List (
   relies_numbered : Relies g c begun since k m loaded → Relies g c begun since k (with_number m n) loaded
   relies_numbered r = record { cut = r.cut; call = r.call; phase = phase_numbered m.phase r.phase }
 
-  -- one that was set aside had come to a table
+  -- a call that was set aside had come to a table
   left_in : (phase : Phase) → ReliesPhase g c begun since k m loaded phase → (phase ≡ Calling → ⊥) → (t : ℕ) × (left_by m.call.state ≡ Some t)
   left_in Calling at aside = absurd (aside refl)
   left_in (Linking link) at aside = (Rattle.papaya_call.specs.Link.follows link, at.left)
@@ -73,7 +73,7 @@ module _ {K V S : Type 0} (eq : K → K → Bool) (hash : S → K → ℕ) (b : 
     }
 
   module _ {H : Type 0} (log : List (Event K V S)) (c : Driver K V S H) (n : ℕ) where
-    -- so it goes on with any
+    -- so it continues with any
     pub goes_numbered : Continues eq hash b name log c log (record c { machine = with_number c.machine n })
     goes_numbered = λ matches fed form k begun made r. calling_numbered matches fed k begun log c.machine c.table c.copier.last c.copier.kept made c.taken c.put c.copier.fresh r n
 

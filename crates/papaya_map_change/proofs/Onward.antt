@@ -20,7 +20,7 @@ use Rattle.papaya_map_change.specs.Writing.{HasKey, HasValue, held_value}
 
 module _ {K V S : Type 0} (eq : K → K → Bool) (hash : S → K → ℕ) (b : Begun K V S) (name : Book) (key : K) (begun log : List (Event K V S)) (n : ℕ)
     (table : Bor Sheet) (r : IsInsertingAt eq hash b name key begun log (Growing (Room n)) None table.now) where
-  -- its call, in a map of any initial capacity, which was told of no pair
+  -- its call, in a map of any initial capacity, which has loaded no pair
   onward : (initial : ℕ) → IsCalling eq hash b name (eq key) (hash b.hasher key) (Some key) begun log
       (insertion_at (hash b.hasher key) b.mode initial (nothing_made b.limit) (Growing (Room n))) (Some table) None None [] None None None
   onward initial = let it = r.4 in let relies = it.relies in record {

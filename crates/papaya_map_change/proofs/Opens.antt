@@ -1,4 +1,5 @@
--- After a call tried to open a table, it again relies on what holds, and holds the root's table.
+-- After a call tried to open a table, it again relies on facts that hold, and holds the root's
+-- table.
 use Rattle.std.proofs.Common.{◌≡◌, ◌⊎◌, inl, inr, ℕ, ◌==◌, Bool, true, false, Option, None, Some, List, [], ◌∷◌, ◌++◌, refl, sym, ap, ◌∙◌, subst}
 use Rattle.std.specs.Cmp.{IsEquivalence}
 use mathlib.Core.List.{IsPrefix}
@@ -48,7 +49,7 @@ module _ {K V S H : Type 0} (eq : K → K → Bool) (input : K → List (List �
   Under log m table last kept made taken put fresh = Calling eq input build write finish classes respects b matches query lawful k name begun log m
       table last kept made taken put fresh
 
-  -- the table that was brought is brought no more
+  -- a call that has tried to open its table brings it no longer
   unbrought : (m : Machine) (n : ℕ) → ask_of m ≡ Call (Ask_exchange Root 0 n) → (answer : Answer) → (answer ≡ Exchanged)
       ⊎ ((word : ℕ) × (answer ≡ Found_instead word)) → (log : List (Event K V S)) (fresh : Option (Where Sheet × Pen)) (i : ℕ)
       → IsBringing (ask_of (after m (answers.Call answer))) i → IsFresh b name log i fresh

@@ -16,7 +16,7 @@ use Rattle.papaya_map_lookup.specs.History.{key_of}
 use Rattle.papaya_map_change.specs.Writing.{HasKey, IsKeyPlaced, IsNotStored, IsValuePlaced}
 
 module _ {K V S H : Type 0} (book : Book K V S H) (name : Name) where
-  -- what a pair is made of that lies in the logs may be logged
+  -- a part that is stored in the arena may become a part of a pair
   pub key_in_book : (part : KeyPart K V) → IsKeyPlaced (begun_of book.parts) name part → IsKeyPartIn book part
   key_in_book (keys.Own k) h = tt
   key_in_book (keys.Of p) h = (h.0, h.1)
@@ -25,13 +25,13 @@ module _ {K V S H : Type 0} (book : Book K V S H) (name : Name) where
   value_in_book (values.Own v) h = tt
   value_in_book (values.Of p) h = (h.0, h.2)
 
--- the key of a pair that was logged with a call's key
+-- the key of a pair that was stored in the arena with a call's key
 pub own_key : {K V S : Type 0} (b : Begun K V S) (name : Name) (key : K) (own : Option (KeyPart K V)) → HasKey b name key own → (q : Stored K V)
     → ((part : KeyPart K V) → own ≡ Some part → key_of q ≡ key_in part) → key_of q ≡ key
 own_key b name key None h q is = absurd h
 own_key b name key (Some part) h q is = is part refl ∙ h.0
 
--- where no pair was logged, none was made
+-- if no pair was stored in the arena, none was made
 pub unlogged_unmade : {X : Type 0} (answer : Answer) → IsNotStored answer → (n : ℕ) → answer ≡ Made n → X → ⊥
 unlogged_unmade answer unlogged n e x = ⊎_elim
     (λ refused. ⊎_elim (λ memory. let f = sym memory ∙ e in cc f) (λ full. let f = sym full ∙ e in cc f) refused)

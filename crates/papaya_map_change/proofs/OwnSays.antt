@@ -1,4 +1,5 @@
--- The closure's answers on which a machine over a chain relies: after an answer for which its closure was not called, and after one for which it was.
+-- The closure's results on which a machine over a chain relies: after an answer for which its
+-- closure was not called, and after one for which it was.
 use Rattle.std.proofs.Common.{◌≡◌, ◌⊎◌, inl, inr, Bool, refl, sym, ap, subst}
 use Rattle.papaya_call.specs.declared.ask.Answer.{Answer}
 use Rattle.papaya_call.specs.declared.ask.Answer.TheVariants.{Yes}
@@ -19,11 +20,11 @@ use Rattle.papaya_map_change.proofs.Helped.{stands_before, values_left}
 use Rattle.papaya_map_change.proofs.StepsOfOwn.{own_order, own_went}
 
 module _ (m : Machine) (calling : m.phase ≡ Calling) where
-  -- one that showed pairs that are there shows such pairs
+  -- a machine whose closure was called with pairs that are there calls it with such pairs
   pub own_shows : (answer : Answer) → NamesPairs m.call → NamesPairs (after m (answers.Call answer)).call
   own_shows answer shows = chain_shows m (answers.Call answer) (own_order m calling answer) shows
 
-  -- one that has the value of the pair that it remembers has it still
+  -- a machine that has the value of the pair that it remembers still has it
   pub own_values : (answer : Answer) → HasValue m.call → HasValue (after m (answers.Call answer)).call
   own_values answer has = elim (own_went m calling answer) [
     | inl h ↦ subst HasValue (sym h.0) (machine_values m.call answer has)
@@ -31,7 +32,7 @@ module _ (m : Machine) (calling : m.phase ≡ Calling) where
     | inr (inr h) ↦ subst HasValue (sym h.5) (values_left m.call h.0 h.2 (Searching (Sizing h.1)) has)
   ]
 
-  -- what it stands on, it stood on before
+  -- the result that it relies on is one that it relied on before
   pub own_stood : (answer : Answer) → IsSilent (calls.ask_of m.call) → IsValid m → NamesPairs m.call → (said : ClosureResult)
       → ActsOn (after m (answers.Call answer)).call said → ActsOn m.call said
   own_stood answer silent valid shows said stands = elim (own_went m calling answer) [
@@ -41,7 +42,7 @@ module _ (m : Machine) (calling : m.phase ≡ Calling) where
         (subst (λ (z : Call_machine). ActsOn z said) h.5 stands)
   ]
 
-  -- where its closure agreed, or not, it stands on that or on what it stood on
+  -- the result that it relies on is the closure's new one, or one that it relied on before
   pub own_said : (agreed : Bool) → IsValid m → NamesPairs m.call → (said : ClosureResult) → ActsOn (after m (answers.Call (Yes agreed))).call said
       → ActsOn m.call said ⊎ IsResultBy m.call (Yes agreed) said
   own_said agreed valid shows said stands =

@@ -1,4 +1,5 @@
--- A call whose search passes places of a table in one step. A search that nothing runs accompanies it and ends at the same place.
+-- A call whose search passes places of a table in one step. A ghost search accompanies it and ends
+-- at the same place.
 use Rattle.std.proofs.Common.{◌≡◌, inl, inr, ℕ, Bool, true, false, Option, None, Some, List, [], refl, sym, ap, ◌∙◌, subst}
 use Rattle.std.proofs.lemmas.List.{append_cancel_left}
 use Rattle.std.specs.Cmp.{IsEquivalence}
@@ -44,7 +45,7 @@ use Rattle.papaya_map_change.proofs.Changing.{form, held_later, mode_is, relies_
 use Rattle.papaya_map_change.proofs.Relying.{ChainRelying, relying_later}
 use Rattle.papaya_map_change.proofs.Written.{own_query}
 
--- a call that has looked on asks for itself, and has changed the map or not as before
+-- a call that has probed further is in phase `Calling`, and has changed the map or not as before
 module _ {K V S H : Type 0} {d : keyed.Ghosts S K H} (w w' : Window K V S H d) (c c' : Driver K V S H) (looked : HasProbedOn w c w' c') where
   pub looked_calling : c.machine.phase ≡ Calling → c'.machine.phase ≡ Calling
   looked_calling calling = elim looked [
@@ -72,7 +73,7 @@ module _ {K V S H : Type 0} {d : keyed.Ghosts S K H} (w w' : Window K V S H d) (
         subst (λ (z : Driver K V S H). Does (has_changed z.machine) a w') (sym p.is) (ap (λ o. o.done) own ∙ before)
   ]
 
--- a machine that looks at a place of its table stands
+-- a machine that probes a place of its table is valid
 pub looking_stands : (m : Machine) (at : Place) → IsValid m → IsWithin at → IsValid (probing_at m at)
 looking_stands m at s within = record {
   call = record { made = s.call.made; remembered = s.call.remembered; state = within };
@@ -103,7 +104,7 @@ module _ {K V S H : Type 0} (eq : K → K → Bool) (input : K → List (List �
   module _ (log : List (Event K V S)) (m : Machine) (at : Place) (table : Option (Bor Sheet)) (last kept : Option (Stored K V))
       (made : List (Stored K V)) (taken put : Option (Stored K V)) (fresh : Option (Where Sheet × Pen))
       (r : Under log (probing_at m at) table last kept made taken put fresh) where
-    -- it looks at the same place by a longer log
+    -- it probes the same place over a longer log
     pub stays : (log' : List (Event K V S)) → IsLawfulLog eq hash b log' → IsPrefix log log'
         → Under log' (probing_at m at) table last kept made taken put fresh
     stays log' l' pre =
@@ -134,7 +135,7 @@ module _ {K V S H : Type 0} (eq : K → K → Bool) (input : K → List (List �
           counts = tt;
         }
 
-    -- it looks at another place, where that is one of the search too
+    -- it probes another place, if that is one of the search too
     moves : (to : Place) → to.table ≡ at.table
         → IsAt (setting_for eq hash b (eq key) h log) (coding_for hash b.hasher h) (exchanges_of begun) r.since (Some key) to
         → Under log (probing_at m to) table last kept made taken put fresh
@@ -164,7 +165,7 @@ module _ {K V S H : Type 0} (eq : K → K → Bool) (input : K → List (List �
   module _ (log : List (Event K V S)) (m : Machine) (at : Place) (lent : Bor Sheet) (last kept : Option (Stored K V))
       (made : List (Stored K V)) (taken put : Option (Stored K V)) (fresh : Option (Where Sheet × Pen))
       (r : Under log (probing_at m at) (Some lent) last kept made taken put fresh) where
-    -- an insertion that has made no pair would look there too
+    -- an insertion that has made no pair would probe there too
     pub seeks : Seeks log at lent.now
     seeks = (
       lent,
@@ -208,7 +209,7 @@ module _ {K V S H : Type 0} (eq : K → K → Bool) (input : K → List (List �
       },
     )
 
-    -- where that has come to another place, it stands there
+    -- if such an insertion has come to another place, so has this call
     pub passes : (log' : List (Event K V S)) → IsPrefix log log' → (to : Place) → to.table ≡ at.table → Seeks log' to lent.now
         → Under log' (probing_at m to) (Some lent) last kept made taken put fresh
     passes log' pre to same s =
@@ -219,7 +220,7 @@ module _ {K V S H : Type 0} (eq : K → K → Bool) (input : K → List (List �
         (subst (λ (z : List (Exchange (Stored K V))).
         IsAt (setting_for eq hash b (eq key) h log') (coding_for hash b.hasher h) (exchanges_of begun) z (Some key) to) one it.relies.call.stage)
 
-  -- so does a search that nothing runs
+  -- so does a ghost search
   pub seeker_stays : (who : Seeker) (log log' : List (Event K V S)) → IsPrefix log log' → IsLawfulLog eq hash b log' → (at : Place) (table : Sheet)
       → IsSeekingAt who eq hash b name key begun log (Searching (Looking at)) None table
       → IsSeekingAt who eq hash b name key begun log' (Searching (Looking at)) None table
@@ -231,7 +232,7 @@ module _ {K V S H : Type 0} (eq : K → K → Bool) (input : K → List (List �
     stays log (seeker_at who h b.mode 1 (nothing_made b.limit) (Searching (Looking at))) at (Some lent) last None [] None None None r log' l' pre,
   )
 
-  -- an insertion goes on so
+  -- an insertion continues so
   module _ (value : V) (log log' : List (Event K V S)) (pre : IsPrefix log log') (x : Insertion K V S H)
       (r : IsInserting eq hash b name key value begun log x) where
     inserting_passed : (c : Driver K V S H) → HasPassed x.writer.call c

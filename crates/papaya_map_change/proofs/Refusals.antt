@@ -1,5 +1,5 @@
--- Why a call's own answer refuses it: its driver's answer does, or no number was left for a pair, or its closure would remove a pair where there is
--- none.
+-- The causes with which a call may fail by its own answer: its driver's answer states one, or no
+-- number was left for a pair, or its closure would remove a pair although there is none.
 use Rattle.std.proofs.Common.{◌≡◌, ◌⊎◌, inl, inr, ⊎_elim, ℕ, Option, List, refl, sym, ap, ◌∙◌, subst}
 use Rattle.papaya_words.specs.declared.refused.Refused.{Refused as Cause}
 use Rattle.papaya_words.specs.declared.refused.Refused.TheVariants.{Capacity, Limit, RemoveNothing}
@@ -37,11 +37,11 @@ use Rattle.papaya_map_book.specs.Limits.{HasNoRoom}
 use Rattle.papaya_map_change.specs.Writing.{IsMemoryOrCapacity, IsWithoutResult}
 use Rattle.papaya_map_change.proofs.StepsOfOwn.{aside_asks_none, calling_asks, grown_leaves, own_went}
 
--- only a compute shows that there is none
+-- only a compute calls its closure with None
 pub shows_none : (m : Machine) → IsValid m → ask_of m ≡ Call ShowNone → IsComputer m.call.task
 shows_none m valid e = subst (λ (a : Ask). MayAsk m.call.task (calls.kind_of_ask m.call) a) (call_asks m ShowNone e).1 (asked_of_task m.call valid.call)
 
--- only one that may insert asks how many numbers for pairs were taken
+-- only a call that may insert asks how many numbers for pairs were taken
 number_inserts : (task : Task) (kind : Option StepKind) (ask : Ask) → IsNumberAsk ask → MayAsk task kind ask → MayInsert task
 number_inserts task kind (Load Made_word) number may = may
 number_inserts task kind (Exchange Made_word old new) number may = may.0
@@ -67,7 +67,7 @@ module _ (m : Machine) (calling : m.phase ≡ Calling) (answer : Answer) where
   abbrev m' : Machine
   m' = after m (answers.Call answer)
 
-  -- one that needs a next table is not ended by an answer of its own
+  -- a call that needs a next table is not ended by an answer of its own
   grown_goes : (need : Need) → m.call.state ≡ Growing need → (reply : Reply) → calls.ask_of (calls.after m.call answer) ≡ Done reply
       → ask_of m' ≡ Call (Done reply) → ⊥
   grown_goes need grows reply ended e =
@@ -82,7 +82,8 @@ module _ (m : Machine) (calling : m.phase ≡ Calling) (answer : Answer) where
         | inr h ↦ let asks = calling_asks then h.6 ∙ ap (λ (z : Call_machine). Call (calls.ask_of z)) h.5 in let f = sym asks ∙ e' in cc f
       ]
 
-  -- it was answered so, it was told that no number is left, or it showed that its key is absent
+  -- the answer states the cause, or no number is left, or its closure was called with None and
+  -- returned `Remove`
   abbrev pub IsOwnEnd : Cause → Type 0
   IsOwnEnd cause = (answer ≡ Was_refused cause) ⊎ ((cause ≡ Limit) × IsAtLimit m.call answer)
       ⊎ ((cause ≡ RemoveNothing) × (ask_of m ≡ Call ShowNone) × (answer ≡ Op Remove))
@@ -104,7 +105,8 @@ module _ (m : Machine) (calling : m.phase ≡ Calling) (answer : Answer) where
     | inr (inr h) ↦ let asks = calling_asks m' h.6 ∙ ap (λ (z : Call_machine). Call (calls.ask_of z)) h.5 in let f = sym asks ∙ e in absurd (cc f)
   ]
 
-  -- what holds of what an answer says holds of why a call is refused after it that showed no absence
+  -- a property of the answer's cause and of a spent limit holds of the cause with which a call
+  -- fails that did not call its closure with None
   pub refused_for : (holds : Cause → Type 0) → (ask_of m ≡ Call ShowNone → ⊥) → ((reply : Reply) → ask_of m ≡ Call (Done reply) → ⊥)
       → ((cause : Cause) → answer ≡ Was_refused cause → holds cause) → (IsAtLimit m.call answer → holds Limit) → (cause : Cause)
       → ask_of m' ≡ Call (Done (Refused cause)) → holds cause
@@ -112,12 +114,12 @@ module _ (m : Machine) (calling : m.phase ≡ Calling) (answer : Answer) where
       ⊎_elim (told cause) (λ others. ⊎_elim (λ over. subst holds (sym over.0) (spent over.1)) (λ none. absurd (never none.1)) others)
       (own_refused open_still cause e)
 
--- where no closure had a part in it, there was no memory, or no number left
+-- a failure without a closure's result comes from missing memory or room
 pub unsaid_cause : (given : List CapacityCause) (answer : Answer) → IsWithoutResult given answer → (cause : Cause) → answer ≡ Was_refused cause
     → IsMemoryOrCapacity cause
 unsaid_cause given answer unsaid cause e = ⊎_elim (λ memory. inl memory) (λ full. inr full.0) (unsaid cause e)
 
--- and a log is full, where there was room for no more
+-- and an arena is full if room is missing
 pub unsaid_room : (initial : ℕ) (tables : List ℕ) (given : List CapacityCause) (answer : Answer) → IsWithoutResult given answer → (cause : Cause)
     → answer ≡ Was_refused cause → cause ≡ Capacity → HasNoRoom initial tables given
 unsaid_room initial tables given answer unsaid cause e full = ⊎_elim (λ memory. let f = sym memory ∙ full in absurd (cc f)) (λ h. inl h.1) (unsaid cause e)

@@ -1,4 +1,5 @@
--- A call over a chain of tables, with its key as a further key: what it relies on, over longer logs and after each answer.
+-- A call over a chain of tables, with its key as a further key: the facts that it relies on, over
+-- longer logs and after each answer.
 use Rattle.std.proofs.Common.{◌≡◌, ℕ, Bool, true, Option, None, List, [], ◌++◌, append_assoc, sym, ap, ◌∙◌, subst}
 use Rattle.std.specs.Cmp.{IsEquivalence}
 use mathlib.Core.List.{IsPrefix}
@@ -44,7 +45,7 @@ module _ {K V S H : Type 0} (eq : K → K → Bool) (input : K → List (List �
   abbrev hash : S → K → ℕ
   hash = hash_of input build write finish
 
-  -- the settings of a log, with what is called by as a further key and without it
+  -- the settings of a log, with the argument of the call as a further key and without it
   abbrev pub wide : List (Event K V S) → Setting (Option K) (Stored K V)
   wide log = setting_for eq hash b matches by log
 
@@ -75,7 +76,7 @@ module _ {K V S H : Type 0} (eq : K → K → Bool) (input : K → List (List �
     pub relying_may : AllAllowed (wide log) start (begun ++ r.since)
     relying_may = subst (AllAllowed (wide log) start) (sym r.is) (allowed_in log l)
 
-  -- the same where this table is the next to come
+  -- the same if this table is the next to come
   module _ (w : Where Sheet) (log : List (Event K V S)) (l : IsLawfulLog eq hash b log) (none : table_in (steps_of log) (number_of w) ≡ None) where
     abbrev pub plain_with : Setting K (Stored K V)
     plain_with = setting_with eq (hash b.hasher) b.mode b.limit (names.Table w) log
@@ -104,7 +105,7 @@ module _ {K V S H : Type 0} (eq : K → K → Bool) (input : K → List (List �
 
   module _ (log : List (Event K V S)) (l : IsLawfulLog eq hash b log) (m : Machine) (loaded : LoadedPairs (Stored K V))
       (r : ChainRelying log m loaded) (log' : List (Event K V S)) (l' : IsLawfulLog eq hash b log') (pre : IsPrefix log log') where
-    -- what has come since
+    -- the exchanges that have come since
     abbrev more : List (Exchange (Stored K V))
     more = exchanges_of pre.0
 
@@ -112,7 +113,7 @@ module _ {K V S H : Type 0} (eq : K → K → Bool) (input : K → List (List �
     longer = sym (append_assoc begun r.since more)
         ∙ (ap (λ (z : List (Exchange (Stored K V))). z ++ more) r.is ∙ (sym (exchanges_of-append log pre.0) ∙ ap exchanges_of pre.1))
 
-    -- the longer log's tables are no matter
+    -- the facts hold in the setting of the longer log, whose further tables make no difference
     pub carried : Relies (wide log') coded begun r.since k m loaded
     carried =
         let On = IsOn (state_of log).first (state_of log).next in
@@ -125,7 +126,7 @@ module _ {K V S H : Type 0} (eq : K → K → Bool) (input : K → List (List �
     may_longer : AllAllowed (wide log') start (begun ++ (r.since ++ more))
     may_longer = subst (AllAllowed (wide log') start) (sym longer) (allowed_in log' l')
 
-    -- what was exchanged before was allowed in the longer log's setting
+    -- the exchanges before were allowed in the longer log's setting
     pub may_first : AllAllowed (wide log') start (begun ++ r.since)
     may_first = allowed_first (wide log') (begun ++ r.since) more start
         (subst (AllAllowed (wide log') start) (sym (append_assoc begun r.since more)) may_longer)
@@ -138,14 +139,15 @@ module _ {K V S H : Type 0} (eq : K → K → Bool) (input : K → List (List �
       relies = all_stable (wide log') coded (hashed_in log' l') begun r.since more may_longer k m loaded carried;
     }
 
-    -- what was true of the words of the first log was so where the call relies on what holds
+    -- an answer that is true of the words of the first log is true of the words that the call
+    -- relies on
     pub told_then : (answer : Answer) (es : List (Exchange (Stored K V))) (loaded' : LoadedPairs (Stored K V))
         → IsTrueOf (wide log') coded k (state_of log) (kind_of_ask m) (follows_of m) loaded (ask_of m) answer es loaded'
         → IsTrueOf (wide log') coded k (run (begun ++ r.since) start) (kind_of_ask m) (follows_of m) loaded (ask_of m) answer es loaded'
     told_then answer es loaded' told = subst (λ (z : List (Exchange (Stored K V))).
         IsTrueOf (wide log') coded k (run z start) (kind_of_ask m) (follows_of m) loaded (ask_of m) answer es loaded') (sym r.is) told
 
-    -- it is told of the log's words, with which the log grew
+    -- it receives an answer about the log's words, with which the log grew
     pub relying_told : (answer : Answer) → (answer ≡ answers.Call Exchanged → HasWords (wide log') (link_in m.phase))
         → (loaded' : LoadedPairs (Stored K V)) → IsTrueOf (wide log') coded k (state_of log) (kind_of_ask m) (follows_of m) loaded (ask_of m) answer more
         loaded' → ChainRelying log' (after m answer) loaded'

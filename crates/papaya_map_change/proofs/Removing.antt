@@ -1,5 +1,5 @@
--- After each answer a removal again relies on what holds, and what its machine relies on was returned for the pair with which the closure was called
--- last.
+-- After each answer a removal again relies on facts that hold, and its machine relies on the
+-- closure's result for the pair with which the closure was called last.
 use Rattle.std.proofs.Common.{◌≡◌, inl, inr, ⊎_elim, ℕ, ◌==◌, Bool, true, false, MatchBool}
 use Rattle.std.proofs.Common.{MatchOption, Option, None, Some, List, [], ◌∷◌, length, append-nil}
 use Rattle.std.proofs.Common.{refl, sym, ap, ◌∙◌, subst}
@@ -94,7 +94,7 @@ module _ {K V S H F : Type 0} (eq : K → K → Bool) (input : K → List (List 
     abbrev m : Machine
     m = x.call.machine
 
-    -- what was shown was held, over a longer log
+    -- the pair that the closure was called with was held, over a longer log
     abbrev HeldOn : List (Event K V S) → Stored K V → Type 0
     HeldOn log' p = WasHeld eq matches (history_of begun) (history_of log') (Some p)
 
@@ -102,12 +102,12 @@ module _ {K V S H F : Type 0} (eq : K → K → Bool) (input : K → List (List 
     held_later log' pre p h = held_wider eq matches (history_of begun) (history_of begun) (history_of log) (history_of log')
         ([], append-nil (history_of begun)) (history_since log log' pre) (Some p) h
 
-    -- the pairs that its call was told of
+    -- the pairs that its call has loaded
     abbrev loaded : LoadedPairs (Stored K V)
     loaded = call_loaded eq input build write finish classes respects b matches query lawful None name begun x.call.copier.last []
 
     module _ (valid : IsValid m) where
-      -- no answer of its own has it refused: it asks for nothing to be made
+      -- it fails with no answer of its own: it asks to make nothing
       not_refused : (ask : Ask) → ask_of m ≡ Call ask → ((reply : Reply) → ask ≡ Done reply → ⊥) → (answer : Answer)
           → ((cause : Cause) → answer ≡ Was_refused cause → ⊥) → (cause : Cause) → ask_of (after m (answers.Call answer)) ≡ Call (Done (Refused cause)) → ⊥
       not_refused ask asks open_still answer unrefused cause e =
@@ -115,7 +115,7 @@ module _ {K V S H F : Type 0} (eq : K → K → Bool) (input : K → List (List 
           (λ reply done. open_still reply (let f = sym asks ∙ done in cc f)) unrefused
           (λ over. subst MayInsert r.task_is (limit_inserts m valid answer over)) cause e
 
-      -- it goes on after an answer that shows nothing
+      -- it continues after an answer for which its closure is not called
       pub goes_on : (log' : List (Event K V S)) → IsPrefix log log' → (y : Driver K V S H) (answer : Answer) → y.machine ≡ m → IsFit answer
           → ((cause : Cause) → answer ≡ Was_refused cause → ⊥) → (ask : Ask) → ask_of m ≡ Call ask → IsSilent ask
           → IsDriven eq hash b name matches fed_to None begun log' [] (record y { machine = after m (answers.Call answer) })
@@ -168,7 +168,7 @@ module _ {K V S H F : Type 0} (eq : K → K → Bool) (input : K → List (List 
           (size_table eq input build write finish classes respects b matches query lawful None name begun log m x.call.table x.call.copier.last x.call.copier.kept []
           x.call.taken x.call.put x.call.copier.fresh r.calling t asks)
 
-      -- its size was told
+      -- its size was received
       pub sized_on : (t : ℕ) (lent : Bor Sheet) → x.call.table ≡ Some lent → (slots limit : ℕ) → slots ≡ length lent.now.slots
           → limit ≡ lent.now.limit → IsSize slots limit → ask_of m ≡ Call (SizeOf t) → RemovingOn log x f (Some (Size slots limit))
       sized_on t lent has slots limit slots_is limit_is size asks =
@@ -189,14 +189,14 @@ module _ {K V S H F : Type 0} (eq : K → K → Bool) (input : K → List (List 
           (hinted eq input build write finish classes respects b matches query lawful None name begun log log' pre is.lawful m x.call.table
           x.call.copier.last x.call.copier.kept [] x.call.taken x.call.put x.call.copier.fresh r.calling t i n asks is)
 
-      -- a pair that was told of last
+      -- the pair that was loaded last
       abbrev Told : Type 0
       Told = (p : Stored K V) × (x.call.copier.last ≡ Some p) × IsPlaced b (Some name) (names.Pair p)
 
       told_of : (p : Stored K V) → x.call.copier.last ≡ Some p → Told
       told_of p last = (p, last, subst (λ (o : Option (Stored K V)). IsPlaced b (Some name) (pair_named o)) last r.calling.last_placed)
 
-      -- a pair whose key is compared was told of
+      -- a pair whose key is compared was loaded
       pub compared_last : (n : ℕ) → ask_of m ≡ Call (SameKey n) → Told
       compared_last n asks =
           let s = Wide eq input build write finish classes respects b matches query lawful None name begun log in
@@ -204,7 +204,7 @@ module _ {K V S H F : Type 0} (eq : K → K → Bool) (input : K → List (List 
           let told = held.machine_told s c (exchanges_of begun) r.calling.since None loaded m.call r.calling.relies.call n (call_asks m (SameKey n) asks).1 in
           told_of told.0 told.1
 
-      -- so was a pair that is shown
+      -- so was a pair that the closure is called with
       pub shown_last : (n : ℕ) → ask_of m ≡ Call (ShowPair n) → Told
       shown_last n asks =
           let s = Wide eq input build write finish classes respects b matches query lawful None name begun log in
@@ -214,7 +214,7 @@ module _ {K V S H F : Type 0} (eq : K → K → Bool) (input : K → List (List 
           (call_asks m (ShowPair n) asks).1 in
           told_of shows.0 shows.1
 
-      -- the pair last told of was compared
+      -- the pair last loaded was compared
       pub compared_on : (n : ℕ) (same : Bool) → ((p : Stored K V) → x.call.copier.last ≡ Some p → same ≡ matches (key_of p)) → ask_of m ≡ Call (SameKey n)
           → RemovingOn log x f (Some (Yes same))
       compared_on n same is asks =
@@ -229,7 +229,7 @@ module _ {K V S H F : Type 0} (eq : K → K → Bool) (input : K → List (List 
           (counted eq input build write finish classes respects b matches query lawful None name begun log m x.call.table x.call.copier.last x.call.copier.kept []
           x.call.taken x.call.put x.call.copier.fresh r.calling by asks)
 
-      -- the pair last told of was shown
+      -- the closure was called with the pair last loaded
       pub shown_on : (n : ℕ) (p : Stored K V) (agreed : Bool) (g : F) → x.call.copier.last ≡ Some p → judges f p agreed g → ask_of m ≡ Call (ShowPair n)
           → RemovingOn log (record x { shown = Some p }) g (Some (Yes agreed))
       shown_on n p agreed g last judged showing =
@@ -317,7 +317,7 @@ module _ {K V S H F : Type 0} (eq : K → K → Bool) (input : K → List (List 
               (lost eq input build write finish classes respects b matches query lawful None name begun log log' m x.call.table x.call.copier.last
               x.call.copier.kept [] x.call.taken x.call.put x.call.copier.fresh r.calling t i old new found None pair tries s is)
 
-          -- as the call holds it afterwards
+          -- the state of the call afterwards
           abbrev AfterBury : Bool → Driver K V S H → Answer → Type 0
           AfterBury z y answer = MatchBool z ((answer ≡ Exchanged) × (y ≡ record x.call { taken = pair; put = None }))
               ((answer ≡ Found_instead found) × (y ≡ record x.call { copier = record x.call.copier { last = or_last pair x.call.copier.last } }))

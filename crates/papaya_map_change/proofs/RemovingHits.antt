@@ -1,4 +1,5 @@
--- The fast path of a removal: its machine, which nothing runs, is where the lookup's search met the pair.
+-- The fast path of a removal: its ghost machine is in the state in which the lookup's search met
+-- the pair.
 use Rattle.std.proofs.Common.{◌≡◌, inl, inr, ℕ, zero, suc, ◌<◌, ◌==◌, Bool, true, false, MatchBool}
 use Rattle.std.proofs.Common.{Option, None, Some, Result, Ok, Err, List, [], ◌∷◌, ◌++◌, append-nil}
 use Rattle.std.proofs.Common.{length, refl, sym, ap, ◌∙◌, subst, arith}
@@ -54,7 +55,7 @@ use Rattle.papaya_map_change.proofs.Removing.{Removing, counted_on, bury_can, bu
 use Rattle.papaya_map_change.proofs.RemovingReplies.{answered, removal_since}
 use Rattle.papaya_map_change.proofs.ClosureCalls.{all_shown, held_wider, shown_each}
 
--- the machine of a removal that stands here
+-- the machine of a removal in this state
 abbrev pub removal_at : (hash : ℕ) → ResizeMode → (limit : Option ℕ) → State → Machine
 removal_at hash mode limit state = record {
   call = record (started RemoveIf hash mode 1 limit) { state = state };
@@ -68,7 +69,7 @@ wanted_stands : (limit : Option ℕ) → IsNumber (wanted limit)
 wanted_stands None = tt
 wanted_stands (Some most) = tt
 
--- it was given nothing
+-- it lacked no room so far
 abbrev nothing_given : OwnSteps CapacityCause
 nothing_given = record { marker = record {}; done = [] }
 
@@ -98,7 +99,7 @@ module _ {K V S H F : Type 0} (eq : K → K → Bool) (input : K → List (List 
     abbrev Under : State → Type 0
     Under state = IsCalling eq hash b name matches by None begun log (removal_at by b.mode b.limit state) (Some lent) (Some p) None [] None None None
 
-    -- it is to show the pair
+    -- it is to call the closure with the pair
     calling : Under (Showing place)
     calling = record {
       lawful = hit.lawful;
@@ -137,7 +138,8 @@ module _ {K V S H F : Type 0} (eq : K → K → Bool) (input : K → List (List 
       counts = tt;
     }
 
-    -- the removal with this machine, which its closure was shown this, and which took out this
+    -- the removal with this machine, whose closure was called with this pair, and which took out
+    -- this one
     abbrev pub removal_with : Machine → (shown taken : Option (Stored K V)) → Removal K V S H
     removal_with m shown taken = record {
       call = record { machine = m; table = Some lent; copier = record { last = Some p; kept = None; fresh = None; given = nothing_given }; taken = taken; put = None };
@@ -181,7 +183,7 @@ module _ {K V S H F : Type 0} (eq : K → K → Bool) (input : K → List (List 
       phase = tt;
     }
 
-    -- the closure answered so of the pair
+    -- the closure returned this for the pair
     module _ (agreed : Bool) (g : F) (judged : judges first p agreed g) where
       abbrev asked : Removal K V S H
       asked = removal_with (after (removal_at by b.mode b.limit (Showing place)) (answers.Call (Yes agreed))) (Some p) None
@@ -190,14 +192,14 @@ module _ {K V S H F : Type 0} (eq : K → K → Bool) (input : K → List (List 
       said = (shown_on eq input build write finish classes respects b name matches query lawful judges first begun log showing first shows
           (valid (Showing place) (tt, hit.within)) (pair_of met.word) p agreed g refl judged refl).0
 
-    -- it does not agree
+    -- it returned `false`
     pub stays : (g : F) → judges first p false g → (entry : Bor K × Bor V) → AreOf entry p
         → IsRemovalBy eq matches (history_of begun) (history_of log) judges first (Ok (Err entry))
     stays g judged entry are =
         answered eq input build write finish classes respects b name matches query lawful judges first begun log (asked false g judged) g
         (said false g judged) (Kept (pair_of met.word)) refl (Ok (Err entry)) (p, entry, refl, are, refl)
 
-    -- it agrees
+    -- it returned `true`
     module _ (g : F) (judged : judges first p true g) where
       abbrev buries : Removal K V S H
       buries = asked true g judged
@@ -252,12 +254,12 @@ module _ {K V S H F : Type 0} (eq : K → K → Bool) (input : K → List (List 
         counted = (counted_on eq input build write finish classes respects b name matches query lawful judges first begun log' buried g went
             (valid (Uncounting (pair_of met.word)) tt) _ refl).0
 
-        -- which is the call's change
+        -- this is the call's change
         pub hit_changed : (change : Option ℕ × Option ℕ) → change_in ended.call.machine.call.state ≡ Some change
             → HasChanged eq None begun log' pair None change
         hit_changed = counted.calling.changed
 
-        -- the pair that went is the one that was met
+        -- the pair that was taken out is the one that was met
         pub hit_went : (taken : Stored K V) → pair ≡ Some taken → p.value ≡ taken.value → (entry : Bor K × Bor V) → AreOf entry p
             → IsRemovalBy eq matches (history_of begun) (history_of log') judges first (Ok (Ok (Some entry)))
         hit_went taken took value entry are =
@@ -265,7 +267,7 @@ module _ {K V S H F : Type 0} (eq : K → K → Bool) (input : K → List (List 
             (Removed (pair_of met.word)) refl (Ok (Ok (Some entry)))
             (p, taken, entry, refl, took, value, (are.0 ∙ ap (λ z. z.key.value) value, are.1 ∙ ap (λ z. z.value) value), refl)
 
--- A closure was shown pairs before a removal began.
+-- A closure was called with pairs before a removal began.
 module _ {K V F : Type 0} (eq : K → K → Bool) (matches : K → Bool) (judges : F → Stored K V → Bool → F → Type 0) (first g : F) where
   abbrev Shows : Type 0
   Shows = List (Stored K V × Bool)
@@ -306,10 +308,10 @@ module _ {K V F : Type 0} (eq : K → K → Bool) (matches : K → Bool) (judges
         answered = judged_on s.said s.has_said older new w.said answer w.answered;
       }
 
--- what a removal that was tried at once told, while more was seen since then and before
+-- the postcondition of a removal on its fast path, for a longer observed history
 module _ {K V F : Type 0} (eq : K → K → Bool) (matches : K → Bool) (older old new : List (Change K (Stored K V)))
     (judges : F → Stored K V → Bool → F → Type 0) (first left : F) where
-  -- it has shown one pair
+  -- it has called its closure once
   pub one_shown : (p : Stored K V) (agreed : Bool) → judges first p agreed left → WasHeld eq matches old new (Some p) → IsPrefix older old
       → HasCalled eq matches older new judges first left
   one_shown p agreed judged held pre = record {

@@ -39,7 +39,7 @@ use Rattle.papaya_map_lookup.proofs.Readings.{IsQuery}
 use Rattle.papaya_map_change.proofs.Removing.{Removing}
 use Rattle.papaya_map_change.proofs.ClosureCalls.{all_shown, held_then, held_wider, said_only, shown_each}
 
--- no removal replies this
+-- replies that no removal gives
 abbrev pub IsNoRemoval : Reply → Type 0
 IsNoRemoval Absent = ⊥
 IsNoRemoval (Found n) = Unit {0}
@@ -52,7 +52,7 @@ IsNoRemoval (Aborted t) = Unit {0}
 IsNoRemoval Reply_done = Unit {0}
 IsNoRemoval (Refused cause) = ⊥
 
--- where two are the same, both are there or neither is
+-- an option that is this value has its property
 same_there : {P : Type 0} (holds : P → Type 0) (none : Type 0) (o : Option P) (p : P) → o ≡ Some p → MatchOption o none holds → holds p
 same_there holds none o p is m = subst (λ z. MatchOption z none holds) is m
 
@@ -67,7 +67,7 @@ module _ {K V S H F : Type 0} (eq : K → K → Bool) (input : K → List (List 
   abbrev loaded : LoadedPairs (Stored K V)
   loaded = record { last = x.call.copier.last; made = [] }
 
-  -- what it has replied
+  -- the facts about its reply
   replies : (reply : Reply) → ask_of m ≡ Call (Done reply)
       → IsReply (Wide eq input build write finish classes respects b matches query lawful None name begun log)
       (Coded eq input build write finish classes respects b matches query lawful None name begun) (exchanges_of begun) r.calling.since None loaded
@@ -78,17 +78,17 @@ module _ {K V S H F : Type 0} (eq : K → K → Bool) (input : K → List (List 
       let all = machine_replies g c (exchanges_of begun) r.calling.since None loaded m.call r.calling.relies.call reply (call_asks m (Done reply) e).1 in
       (subst (λ (t : Task). IsReply g c (exchanges_of begun) r.calling.since None loaded t reply) r.task_is all.0, all.1)
 
-  -- what its reply stands on
+  -- the result of the closure that its reply relies on
   stands : (reply : Reply) (said : ClosureResult) → ask_of m ≡ Call (Done reply) → result_of_removal reply ≡ Some said → ActsOn m.call said
   stands reply said e is = inl (ap (λ t. result_in t m.call.state) r.task_is
       ∙ (ap (result_in RemoveIf) (ended_in m.call.made m.call.hash m.call.state reply (call_asks m (Done reply) e).1) ∙ is))
 
-  -- what the closure said of the pair
+  -- the closure returned this for the pair
   was_said : (reply : Reply) (n : ℕ) (agrees : Bool) → ask_of m ≡ Call (Done reply) → result_of_removal reply ≡ Some (Agrees n agrees)
       → (p : Stored K V) × (x.shown ≡ Some p) × (p.index ≡ n) × Member (p, agrees) r.said
   was_said reply n agrees e is = r.stood n agrees (stands reply (Agrees n agrees) e is)
 
-  -- what it answers, whatever that is
+  -- its contract, by the part about its result
   answers : (answer : Result (Result (Option (Bor K × Bor V)) (Bor K × Bor V)) Cause)
       → IsJudged eq matches (history_of begun) (history_of log) r.said answer → IsRemovalBy eq matches (history_of begun) (history_of log) judges first answer
   answers answer judged = record { said = r.said; left = f; has_said = r.has_said; held = r.held; answered = judged }
@@ -98,7 +98,7 @@ module _ {K V S H F : Type 0} (eq : K → K → Bool) (input : K → List (List 
   absent e = answers (Ok (Ok None)) (held_then eq input build write finish classes respects b matches query lawful begun log r.calling.lawful
       r.calling.since r.calling.is None (replies Absent e).0)
 
-  -- it was refused while it helped to copy
+  -- it failed while it helped to copy
   refused : (cause : Cause) → ask_of m ≡ Call (Done (Refused cause)) → IsRemovalBy eq matches (history_of begun) (history_of log) judges first (Err cause)
   refused cause e = answers (Err cause) (r.refuses cause e)
 
@@ -110,7 +110,7 @@ module _ {K V S H F : Type 0} (eq : K → K → Bool) (input : K → List (List 
       let one : s.0 ≡ p = cc (s.1, has) in
       answers (Ok (Err entry)) (p, subst (λ (z : Stored K V). Member (z, false) r.said) one s.3, are)
 
-  -- a pair that stays was shown
+  -- the closure was called with a pair that stays
   can_tell_kept : (n : ℕ) → ask_of m ≡ Call (Done (Kept n)) → HoldsResult b name x (Kept n)
   can_tell_kept n e = let s = was_said (Kept n) n false e refl in
       (s.0, s.1, subst (λ (o : Option (Stored K V)). IsPlaced b (Some name) (pair_named o)) s.1 r.shown_placed)
@@ -134,7 +134,7 @@ module _ {K V S H F : Type 0} (eq : K → K → Bool) (input : K → List (List 
   no_other : (reply : Reply) → IsNoRemoval reply → ask_of m ≡ Call (Done reply) → ⊥
   no_other reply never e = replies_no_other reply never (replies reply e).0
 
-  -- a pair that it holds is in the logs
+  -- a pair that it holds is stored in the book's arenas
   placed : (p : Stored K V) (o : Option (Stored K V)) → o ≡ Some p → IsPlaced b (Some name) (pair_named o) → IsPlaced b (Some name) (Pair p)
   placed p o is = subst (λ (z : Option (Stored K V)). IsPlaced b (Some name) (pair_named z)) is
 
@@ -145,7 +145,7 @@ module _ {K V S H F : Type 0} (eq : K → K → Bool) (input : K → List (List 
     changed : HasChanged eq None begun log x.call.taken x.call.put change
     changed = r.calling.changed change (replies (Removed n) e).1
 
-    -- the pair that went has the number of the one that was shown
+    -- the pair that was taken out has the number of the one that the closure was called with
     same_number : (shown taken : Stored K V) → x.shown ≡ Some shown → x.call.taken ≡ Some taken → shown.index ≡ taken.index
     same_number shown taken has took =
         let s = was_said (Removed n) n true e refl in
@@ -164,14 +164,14 @@ module _ {K V S H F : Type 0} (eq : K → K → Bool) (input : K → List (List 
     some_taken None h = absurd (cc h)
     some_taken (Some p) h = (p, refl)
 
-    -- a pair was shown, and one went
+    -- the closure was called with a pair, and one was taken out
     can_tell_removed : HoldsResult b name x (Removed n)
     can_tell_removed =
         let s = was_said (Removed n) n true e refl in
         let t = some_taken x.call.taken changed.taken_is in
         (s.0, t.0, s.1, t.1, same_number s.0 t.0 s.1 t.1, placed s.0 x.shown s.1 r.shown_placed, placed t.0 x.call.taken t.1 r.calling.taken_placed)
 
-    -- it went
+    -- it was taken out
     went : (shown taken : Stored K V) → x.shown ≡ Some shown → x.call.taken ≡ Some taken → shown.value ≡ taken.value → (entry : Bor K × Bor V)
         → AreOf entry taken → IsRemovalBy eq matches (history_of begun) (history_of log) judges first (Ok (Ok (Some entry)))
     went shown taken has took value entry are =
@@ -197,7 +197,7 @@ module _ {K V S H F : Type 0} (eq : K → K → Bool) (input : K → List (List 
         } in
         answers (Ok (Ok (Some entry))) (taken, taken_as, (shown, (same_number shown taken has took, value), there), are)
 
-  -- it has at hand what it tells of
+  -- it holds the pairs that its result refers to
   pub can_tell : (reply : Reply) → ask_of m ≡ Call (Done reply) → HoldsResult b name x reply
   can_tell Absent e = tt
   can_tell (Found n) e = no_other (Found n) tt e
@@ -210,7 +210,7 @@ module _ {K V S H F : Type 0} (eq : K → K → Bool) (input : K → List (List 
   can_tell Reply_done e = no_other Reply_done tt e
   can_tell (Refused cause) e = tt
 
-  -- what it answers, by what it tells
+  -- its result, by its reply
   pub answered : (reply : Reply) → ask_of m ≡ Call (Done reply) → (answer : Result (Result (Option (Bor K × Bor V)) (Bor K × Bor V)) Cause)
       → IsRemovalResult x reply answer → IsRemovalBy eq matches (history_of begun) (history_of log) judges first answer
   answered Absent e answer is = subst (IsRemovalBy eq matches (history_of begun) (history_of log) judges first) (sym is) (absent e)
@@ -225,7 +225,7 @@ module _ {K V S H F : Type 0} (eq : K → K → Bool) (input : K → List (List 
   answered Reply_done e answer t = absurd t
   answered (Refused cause) e answer is = subst (IsRemovalBy eq matches (history_of begun) (history_of log) judges first) (sym is) (refused cause e)
 
--- whether a pair went, by what a removal with this reply tells
+-- whether a pair was taken out, by the reply of a removal
 pub told_went : {K V S H : Type 0} (x : Removal K V S H) (reply : Reply) (answer : Result (Result (Option (Bor K × Bor V)) (Bor K × Bor V)) Cause)
     → IsRemovalResult x reply answer → pair_went answer ≡ is_some (change_of_reply reply)
 told_went x Absent answer is = ap pair_went is
@@ -239,7 +239,7 @@ told_went x (Aborted n) answer t = absurd t
 told_went x Reply_done answer t = absurd t
 told_went x (Refused cause) answer is = ap pair_went is
 
--- and where it was refused, so was its machine
+-- and if it failed, so did its machine
 pub told_refused : {K V S H : Type 0} (x : Removal K V S H) (reply : Reply) (answer : Result (Result (Option (Bor K × Bor V)) (Bor K × Bor V)) Cause)
     → IsRemovalResult x reply answer → (cause : Cause) → answer ≡ Err cause → reply ≡ Refused cause
 told_refused x Absent answer is cause e = let f = sym is ∙ e in absurd (cc f)
@@ -253,7 +253,7 @@ told_refused x (Aborted n) answer t cause e = absurd t
 told_refused x Reply_done answer t cause e = absurd t
 told_refused x (Refused other) answer is cause e = let f = sym is ∙ e in let same : other ≡ cause = cc f in ap Refused same
 
--- no removal tells of another reply
+-- no removal gives another reply
 pub tells_no_other : {K V S H : Type 0} (b : Begun K V S) (name : Book) (x : Removal K V S H) (reply : Reply) → IsNoRemoval reply → HoldsResult b name x reply → ⊥
 tells_no_other b name x Absent never t = never
 tells_no_other b name x (Found n) never t = t
@@ -266,7 +266,7 @@ tells_no_other b name x (Aborted n) never t = t
 tells_no_other b name x Reply_done never t = t
 tells_no_other b name x (Refused cause) never t = never
 
--- what was seen before a removal began was seen before its change, and before what its closure was shown
+-- a history before a removal began comes before its change, and before the closure's arguments
 module _ {K V : Type 0} (eq : K → K → Bool) (matches : K → Bool) (older old new : List (Change K (Stored K V))) (pre : IsPrefix older old) where
   taken_since : (p : Stored K V) → IsTaken eq matches old new p → IsTaken eq matches older new p
   taken_since p t = record {
@@ -301,7 +301,7 @@ module _ {K V : Type 0} (eq : K → K → Bool) (matches : K → Bool) (older ol
     answered = judged_since r.said answer r.answered;
   }
 
--- why a removal was refused
+-- the cause with which a removal failed
 pub refused_removed : {K V F : Type 0} (eq : K → K → Bool) (matches : K → Bool) (old new : List (Change K (Stored K V)))
     (judges : F → Stored K V → Bool → F → Type 0) (first : F) (answer : Result (Result (Option (Bor K × Bor V)) (Bor K × Bor V)) Cause)
     → IsRemovalBy eq matches old new judges first answer → (cause : Cause) → answer ≡ Err cause → IsMemoryOrCapacity cause
@@ -310,7 +310,7 @@ refused_removed eq matches old new judges first answer r cause is = subst (IsJud
 module _ {K V F : Type 0} (eq : K → K → Bool) (matches : K → Bool) (old new : List (Change K (Stored K V)))
     (judges : F → Stored K V → Bool → F → Type 0) (first : F) (answer : Result (Result (Option (Bor K × Bor V)) (Bor K × Bor V)) Cause)
     (entry : Bor K × Bor V) (r : IsRemovalBy eq matches old new judges first answer) where
-  -- the value of the pair that went
+  -- the value of the pair that was taken out
   pub value_removed : answer ≡ Ok (Ok (Some entry)) → (p : Stored K V) × IsTaken eq matches old new p × (entry.1.now ≡ p.value.value)
   value_removed is = let h = subst (IsJudged eq matches old new r.said) is r.answered in (h.0, h.1, h.3.1)
 
@@ -318,7 +318,7 @@ module _ {K V F : Type 0} (eq : K → K → Bool) (matches : K → Bool) (old ne
   pub entry_removed : answer ≡ Ok (Ok (Some entry)) → (p : Stored K V) × IsTaken eq matches old new p × AreOf entry p
   entry_removed is = let h = subst (IsJudged eq matches old new r.said) is r.answered in (h.0, h.1, h.3)
 
-  -- where the closure always agrees, no pair stays
+  -- if the closure always returns `true`, no pair stays
   pub none_stays : ((f : F) (p : Stored K V) (agrees : Bool) (g : F) → judges f p agrees g → agrees ≡ true) → answer ≡ Ok (Err entry) → ⊥
   none_stays always is = let h = subst (IsJudged eq matches old new r.said) is r.answered in
       let agreed : false ≡ true = said_only judges (λ a. a ≡ true) always first r.said r.left r.has_said h.0 false h.1 in cc agreed

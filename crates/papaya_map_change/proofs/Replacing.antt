@@ -1,5 +1,5 @@
--- The fast path of an insertion that replaces a pair: one of that pair's key is stored and put in, and its machine, which nothing runs, goes on
--- likewise.
+-- The fast path of an insertion that replaces a pair: one of that pair's key is stored and put in,
+-- and its ghost machine follows it.
 use Rattle.std.proofs.Common.{◌≡◌, inl, inr, ⊎_elim, ℕ, ◌<◌, ◌==◌, ◌&&◌, eq-eqb, Bool, true, false}
 use Rattle.std.proofs.Common.{if◌then◌else◌, MatchOption, Option, None, Some, List, [], ◌∷◌, ◌++◌}
 use Rattle.std.proofs.Common.{append-nil, length, refl, sym, ap, ◌∙◌, subst}
@@ -78,14 +78,14 @@ module _ {K V S H : Type 0} (eq : K → K → Bool) (input : K → List (List �
     abbrev target : Write
     target = record { place = at; old = word }
 
-    -- a pair that was made for this place serves here
+    -- a pair that was made for this place may be used here
     same_place : ((at.table == at.table) && (at.probe.i == at.probe.i)) ≡ true
     same_place = rw (eq-eqb at.table at.table refl, eq-eqb at.probe.i at.probe.i refl) refl
 
     last_is : r.2 ≡ Some p
     last_is = r.3 p refl
 
-    -- the pair that was met lies in the logs
+    -- the pair that was met is stored in the book's arenas
     pub met_placed : IsPlaced b (Some name) (names.Pair p)
     met_placed = subst (λ (o : Option (Stored K V)). IsPlaced b (Some name) (pair_named o)) last_is r.4.last_placed
 
@@ -96,7 +96,7 @@ module _ {K V S H : Type 0} (eq : K → K → Bool) (input : K → List (List �
     met_is : may.pair ≡ p
     met_is = let both : Some may.pair ≡ Some p = sym may.last ∙ last_is in cc both
 
-    -- its key is in the slot, and is of the call's class
+    -- its key is in the slot, and is equal to the call's
     pub met_key_there : HasKeyAt log at.table at.probe.i (key_of p)
     met_key_there = subst (λ (z : Stored K V). HasKeyAt log at.table at.probe.i (key_of z)) met_is
         (met_key eq hash b (eq key) h (exchanges_of begun) r.4.since (Some key) log r.4.is at word may.pair may.met)
@@ -116,9 +116,9 @@ module _ {K V S H : Type 0} (eq : K → K → Bool) (input : K → List (List �
         let one : shown.0 ≡ p = cc both in
         ap (λ (z : Stored K V). z.index) (sym one) ∙ shown.2
 
-    -- a pair of that key was logged
+    -- a pair of that key was stored in the arena
     module _ (unlimited : b.limit ≡ None) (q : Stored K V) (key_is : key_of q ≡ key_of p) (placed : IsPlaced b (Some name) (names.Pair q)) where
-      -- the machine that has made this, and writes there
+      -- the machine that has made this, and writes at the place
       abbrev writes : Made → Machine
       writes made = insertion_at h b.mode 1 made (Writing target)
 
@@ -210,7 +210,7 @@ module _ {K V S H : Type 0} (eq : K → K → Bool) (input : K → List (List �
           (q ∷ []) None None None paired) at.table at.probe.i word new (let e = serves_there in cc e) (inr replaces) q
           (λ claims. absurd (let f = sym replaces ∙ claims in cc f), λ it. subst (HasKeyAt log at.table at.probe.i) (sym key_is) met_key_there) number)
 
-      -- its key is that of the slot still, where another pair was found there
+      -- the slot still has its key, if another pair was found there
       pub key_there : (log' : List (Event K V S)) → IsLawfulLog eq hash b log' → IsPrefix log log' → HasKeyAt log' at.table at.probe.i (key_of q)
       key_there log' l' pre = key_at_stays eq input build write finish classes respects b log log' l' pre at.table at.probe.i (key_of q)
           (subst (HasKeyAt log at.table at.probe.i) (sym key_is) met_key_there)
@@ -246,7 +246,7 @@ module _ {K V S H : Type 0} (eq : K → K → Bool) (input : K → List (List �
         some_there None e = absurd (cc e)
         some_there (Some z) e = (z, refl)
 
-        -- it took the place of a pair
+        -- it replaced a pair
         pub taken_some : (z : Stored K V) × (before ≡ Some z)
         taken_some = some_there before replace_changed.taken_is
 
@@ -260,7 +260,7 @@ module _ {K V S H : Type 0} (eq : K → K → Bool) (input : K → List (List �
             (subst (λ (w : Option (Stored K V)). MatchOption w (Some (key_of q) ≡ Some key) (λ v. key_of q ≡ key_of v)) took is)
 
         module _ (taken : Stored K V) (took : before ≡ Some taken) where
-          -- the pair that went has the number of the one that was met
+          -- the pair that was taken out has the number of the one that was met
           pub taken_number : p.index ≡ taken.index
           taken_number =
               let at = subst (λ (w : Option (Stored K V)).
@@ -269,7 +269,7 @@ module _ {K V S H : Type 0} (eq : K → K → Bool) (input : K → List (List �
               let same : pair_of word ≡ taken.index = let e = at.0 in cc e in
               met_number ∙ same
 
-          -- so the history ends with it
+          -- so the history ends with its change
           pub replace_traded : IsChangeOf (eq key) (history_of begun) (history_of log') (Some taken) (Some q)
           replace_traded =
               let c = replace_changed in record {

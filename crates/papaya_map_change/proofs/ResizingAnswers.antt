@@ -1,4 +1,5 @@
--- After each answer a call that resizes relies on what holds, and if it ends with a refusal, the cause is right.
+-- After each answer a call that resizes relies on facts that hold, and if it fails, the cause is
+-- right.
 use Rattle.std.proofs.Common.{◌≡◌, ◌⊎◌, inl, inr, ⊎_elim, ℕ, ◌+◌, ◌==◌, Bool, true, false}
 use Rattle.std.proofs.Common.{if◌then◌else◌, MatchBool, Option, None, Some, List, [], length}
 use Rattle.std.proofs.Common.{append-nil, refl, sym, ap, ◌∙◌, subst}
@@ -96,14 +97,14 @@ module _ (tables : List ℕ) where
       new_in None n = tt
       new_in (Some made) n = tt
 
--- what is answered has not ended
+-- a call that receives an answer has not ended
 not_done : {K P : Type 0} (g : Rattle.papaya_words_law.specs.Exchange.Setting K P) (c : Rattle.papaya_words_law.specs.Code.Coding K P) (s : State P)
     (stage : Stage) (loaded : LoadedPairs P) (answer : Answer) (es : List (Exchange P)) (loaded' : LoadedPairs P)
     → IsTrueOfStage g c s stage loaded answer es loaded' → stage ≡ Done → ⊥
 not_done g c s Done loaded answer es loaded' told e = let none = told.1 in cc none
 not_done g c s other loaded answer es loaded' told e = cc e
 
--- where a table is made, in other words
+-- the making of a table, in other words
 has_link : (stage : Stage) (link : Link) → HasLink stage link → link_of stage ≡ Some link
 has_link (Linking other) link h = ap (λ (l : Link). Some l) h
 has_link (Copying from goes) link h = h
@@ -116,7 +117,7 @@ room_for initial Chunk tables given h = h
 room_for initial CopyAll tables given h = h
 room_for initial (Reserve more) tables given h = inl h
 
--- why it ends
+-- the cause with which it ends
 why : (m : Resizer) (answer : Answer) (cause : Cause) (tables : List ℕ) (given : List CapacityCause) → IsSizedBy tables (link_of m.state)
     → IsGivenBy answer given → IsResizeCause m answer cause → IsResizeEnd m.initial m.resize tables given cause
 why m answer cause tables given counts by (inl unmade) =
@@ -196,7 +197,7 @@ module _ {K V S H : Type 0} (eq : K → K → Bool) (input : K → List (List �
               (resizer_why (Gs log) Cs (state_of before) m held answer (exchanges_of pre.0) (loaded_with h'.last h'.kept []) told cause e);
         }
 
-  -- the table at hand is as before where none was made or tried
+  -- the table at hand is as before if there was no attempt to make or link one
   hand_kept : (log : List (Event K V S)) → IsPrefix v log → (answer : Answer) → ((n : ℕ) → answer ≡ answers.Call (Made_number n) → ⊥)
       → (h' : Copier K V S H) → h'.fresh ≡ h.fresh → IsAtHand log h' (after m answer).state
   hand_kept log pre answer none h' same =
@@ -232,7 +233,7 @@ module _ {K V S H : Type 0} (eq : K → K → Bool) (input : K → List (List �
       not_made told (inl is) n e = let f : answers.Call Exchanged ≡ answers.Call (Made_number n) = sym (ap answers.Call is) ∙ e in cc f
       not_made told (inr (word, is)) n e = let f : answers.Call (Found_instead word) ≡ answers.Call (Made_number n) = sym (ap answers.Call is) ∙ e in cc f
 
-      -- it was tried to be linked, and no table is about to be
+      -- there was an attempt to link it, and no table is about to be linked
       hand_tried : (i : ℕ) → at ≡ Next i → (told : Call_answer) → (told ≡ Exchanged) ⊎ ((word : ℕ) × (told ≡ Found_instead word))
           → IsAtHand log h' (after m (answers.Call told)).state
       hand_tried i e told is =
@@ -294,7 +295,7 @@ module _ {K V S H : Type 0} (eq : K → K → Bool) (input : K → List (List �
     tried_on at old new asked answer a = subst (Leaves log) (sym a.is)
         (ended at old new asked a.found a.tried.pair a.tried.tried (a.found == old) refl (ap (λ (z : Copier K V S H). z.kept) a.rest) a.tried.last_is a.hand)
 
-    -- each answer leaves it relying on what holds
+    -- after each answer it relies on facts that hold
     pub resized : (ask : CopyAsk) → ask_of m ≡ Some ask → (answer : Answer)
         → AnswersTo eq hashing b name ask (kind_of_ask m) (follows_of m) v h log h' answer → Leaves log answer
     resized (copies.Load at) asked answer a =
@@ -382,7 +383,7 @@ module _ {K V S H : Type 0} (eq : K → K → Bool) (input : K → List (List �
         (hand_kept log pre (answers.Call (Was_refused n.0)) (λ i e. cc e) h' n.3) (λ e. cc e) (λ many least e. absurd (cc e))))
         a.makes
       where
-        -- where a table is to be made none is about to be linked
+        -- if a table is to be made, none is about to be linked
         not_linking : (slots limit chunks : ℕ) → ask_of m ≡ Some (copies.MakeTable slots limit chunks) → (behind n words : ℕ)
             → link_of m.state ≡ Some (links.Linking behind n words) → ⊥
         not_linking slots limit chunks asked behind n words e = let f : Some (copies.MakeTable slots limit chunks) ≡ Some

@@ -53,7 +53,7 @@ mode_is : (mode : ResizeMode) → IsModeOf mode (is_blocking mode)
 mode_is (Incremental chunk) = refl
 mode_is Blocking = refl
 
--- one that begins makes no table and has not ended
+-- a call that begins makes no table and has not ended
 opens_none : (resize : Resize) (n : ℕ) → begun_in resize ≡ Opening n → ⊥
 opens_none Chunk n e = cc e
 opens_none CopyAll n e = cc e

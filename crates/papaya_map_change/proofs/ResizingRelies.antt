@@ -1,4 +1,5 @@
--- A call that resizes relies on longer logs too: its asks may be answered, and after each answer it relies on what holds.
+-- A call that resizes relies on longer logs too: its asks may be answered, and after each answer it
+-- relies on facts that hold.
 use Rattle.std.proofs.Common.{◌≡◌, inr, ⊎_elim, ℕ, ◌+◌, ◌<◌, ◌==◌, Bool, true, false, MatchBool}
 use Rattle.std.proofs.Common.{Option, None, Some, List, [], ◌∷◌, ◌++◌, length, append-nil, eqb-true}
 use Rattle.std.proofs.Common.{refl, sym, ap, ◌∙◌, subst}
@@ -66,7 +67,7 @@ use Rattle.papaya_map_change.proofs.HelpingPlaces.{chain_came}
 use Rattle.papaya_map_change.proofs.ResizingStages.{stage_linking, stage_links}
 
 module _ {K P : Type 0} (g : Setting K P) (c : Coding K P) (s : State P) where
-  -- but for a table that is opened, it asks and is told as a copy is
+  -- except for a table that is opened, it asks and receives answers as a copy does
   stage_asked : (stage : Stage) → ((n : ℕ) → stage ≡ Opening n → ⊥) → (at : At) (new : ℕ) (loaded : LoadedPairs P) (e : Exchange P)
       → IsStageAsked g c s stage at new loaded e → IsCopyAsked c (Rattle.papaya_call.specs.Resizer.kind_in stage) at new s loaded.kept e
   stage_asked (Opening n) closed at new loaded e a = absurd (closed n refl)
@@ -109,7 +110,7 @@ module _ {K V S H : Type 0} (eq : K → K → Bool) (input : K → List (List �
   pub hashed : (log : List (Event K V S)) → IsLawfulLog eq hash b log → IsHashed (G log) C
   hashed log l = is_hashed eq input build write finish classes respects b log l
 
-  -- the word that stands at a place, in the setting of any log
+  -- the word at a place, in the setting of any log
   pub word_there : (log log' : List (Event K V S)) (at : At) → word_of (G log') C (state_of log) at ≡ word_in eq hash b log at
   word_there log log' at = word_same (G log) (G log') C (state_of log) at
 
@@ -120,7 +121,7 @@ module _ {K V S H : Type 0} (eq : K → K → Bool) (input : K → List (List �
     all : AllAllowed (G log) start (exchanges_of v ++ exchanges_of pre.0)
     all = subst (AllAllowed (G log) start) (sym longer) l.allowed
 
-    -- what was seen before a lawful log kept a map in its setting
+    -- the log before a lawful log preserved a map in its setting
     pub first_may : AllAllowed (G log) start (exchanges_of v)
     first_may = allowed_first (G log) (exchanges_of v) (exchanges_of pre.0) start all
 
@@ -137,7 +138,7 @@ module _ {K V S H : Type 0} (eq : K → K → Bool) (input : K → List (List �
     abbrev pub loaded : LoadedPairs (Stored K V)
     loaded = loaded_with h.last h.kept []
 
-    -- it relies on the words of a longer log, in the setting of one that goes on from it
+    -- it relies on the words of a longer log, in the setting of one that continues it
     pub later : (before : List (Event K V S)) → IsPrefix v before → (log : List (Event K V S)) → IsLawfulLog eq hash b log → IsPrefix before log
         → ReliesStage (G log) C (state_of before) loaded m.state
     later before since log l pre =
@@ -166,7 +167,7 @@ module _ {K V S H : Type 0} (eq : K → K → Bool) (input : K → List (List �
           (keeping (G v) (hashed v r.lawful).lawful (exchanges_of v) r.lawful.allowed) loaded m.mode r.relies.mode m.state r.relies.stage t x n asked;
     }
 
-    -- where a word is named, its table has come
+    -- if a word is named, its table has come
     reached : (at : At) → IsThere (G v) C (state_of v) h.last h.kept at → IsReached v at
     reached Root is = tt
     reached (Next t) is = chain_came v t is
@@ -179,7 +180,7 @@ module _ {K V S H : Type 0} (eq : K → K → Bool) (input : K → List (List �
         (came.0, came.1, subst (λ (n : ℕ). x < n) (sizes (steps_of v) t came.0 came.1).0 is.1)
     reached Made_word is = absurd is
 
-    -- where a table is about to be linked, none has come under its number, over a longer log too
+    -- if a table is about to be linked, none has come under its number, over a longer log too
     module _ (t n chunks : ℕ) (about : link_of m.state ≡ Some (links.Linking t n chunks)) where
       not_come : (log : List (Event K V S)) → IsPrefix v log → IsLawfulLog eq hash b log → word_in eq hash b log (Next t) ≡ 0 → table_in (steps_of log) n ≡ None
       not_come log pre l stands =
@@ -197,7 +198,7 @@ module _ {K V S H : Type 0} (eq : K → K → Bool) (input : K → List (List �
         pub allowed : Allows (G log) (state_of log) by
         pub written : IsWritten (G log) C (state_of log) at new (after_exchange (state_of log) by)
 
-      -- where no table is to be linked none is about to be
+      -- if no table is to be linked, none is about to be
       unlinked : ((t : ℕ) → at ≡ Next t → ⊥) → (behind n chunks : ℕ) → link_of m.state ≡ Some (links.Linking behind n chunks) → ⊥
       unlinked other behind n chunks e =
           let same : Some (copies.Exchange at old new) ≡ Some (copies.Exchange (Next behind) 0 n) = sym asked ∙ (stage_linking m.state behind n chunks e).0 in
@@ -217,7 +218,7 @@ module _ {K V S H : Type 0} (eq : K → K → Bool) (input : K → List (List �
             written = done.3;
           }
 
-      -- but for a link, nothing comes with it
+      -- except for a link, nothing comes with it
       pub can_try : ((t : ℕ) → at ≡ Next t → ⊥) → CanExchange eq hash b at (kind_of_ask m) old new h.kept names.Nothing v
       can_try other log pre l stands =
           let g = granted other log pre l stands in
@@ -228,7 +229,7 @@ module _ {K V S H : Type 0} (eq : K → K → Bool) (input : K → List (List �
             written = subst (λ (e : Exchange (Stored K V)). IsWritten (G log) C (state_of log) at new (after_exchange (state_of log) e)) (sym s.is) g.written;
           }
 
-      -- an exchange that was wished is one of it
+      -- an exchange that was requested is one of it
       wished_by : (s : List (Event K V S)) → IsPrefix v s → IsLawfulLog eq hash b s → word_in eq hash b s at ≡ old → (e : Exchange (Stored K V))
           → IsWished (kind_of_ask m) at new (state_of s) h.kept e → IsCopyAsked Numbered (kind_of_ask m) at new (state_of s) h.kept e
       wished_by s pre l stands e wished = copy_wished at new (state_of s) h.kept e (kind_of_ask m) kind_copies wished
@@ -249,7 +250,7 @@ module _ {K V S H : Type 0} (eq : K → K → Bool) (input : K → List (List �
         After z = MatchBool z ((e : Step K V) × IsWished (kind_of_ask m) at new (state_of t.before) h.kept (exchange_of e)
             × IsOwnTable h.fresh (comes e) × (log ≡ t.before ++ Stepped e ∷ [])) (log ≡ t.before)
 
-        -- what was true of the words before it
+        -- the answer was true of the words before it
         abbrev pub Tells : IsPrefix t.before log → Answer → Option (Stored K V) → Type 0
         Tells pre answer last = IsTrueOfCopy (G log) C (state_of t.before) (kind_of_ask m) (follows_of m) loaded (copies.Exchange at old new) answer
             (exchanges_of pre.0) (loaded_with last h.kept [])
@@ -267,7 +268,7 @@ module _ {K V S H : Type 0} (eq : K → K → Bool) (input : K → List (List �
             (kind_of_ask m) at asked' h.last ∙ ap (λ (z : Option (Stored K V)). marked_or (kind_of_ask m) z h.last) t.names in
             ((Stepped done.0 ∷ [], sym done.3), rw here (refl, (e, own, refl, ap (λ (z : Option (Stored K V)). loaded_with z h.kept []) (sym told))))
 
-        -- where a table was linked, the setting has its words by now
+        -- if a table was linked, the setting now has its words
         pub linked_words : (found == old) ≡ true → HasWords (G log) (link_of m.state)
         linked_words is =
             words_where (G log) (link_of m.state)
@@ -302,9 +303,9 @@ module _ {K V S H : Type 0} (eq : K → K → Bool) (input : K → List (List �
                   (ap (λ (n : ℕ). answers.Call (Found_instead n)) (sym word), refl, ap (λ (z : Option (Stored K V)). loaded_with z h.kept []) (sym told)),
             )
 
-    -- what it asks may be answered
+    -- its ask may be answered
     module _ (closed : (n : ℕ) → m.state ≡ Opening n → ⊥) where
-      -- it asks to link the table at hand, where none is linked yet
+      -- it asks to link the table at hand, if none is linked yet
       module _ (t old new : ℕ) (asked : ask_of m ≡ Some (copies.Exchange (Next t) old new)) where
         abbrev chunks : ℕ
         chunks = (stage_links m.state t old new asked).0
@@ -330,7 +331,7 @@ module _ {K V S H : Type 0} (eq : K → K → Bool) (input : K → List (List �
             absent : table_in (steps_of log) (number_of w) ≡ None
             absent = ap (table_in (steps_of log)) number ∙ not_come t new chunks about log pre l stands
 
-            -- the setting where this table is the next to come
+            -- the setting in which this table is the next to come
             abbrev G' : Setting K (Stored K V)
             G' = setting_with eq (hash b.hasher) b.mode b.limit (names.Table w) log
 

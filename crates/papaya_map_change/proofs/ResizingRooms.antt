@@ -1,4 +1,5 @@
--- A call that resizes knows the length of the root, and when it ends there is the room that was requested.
+-- A call that resizes has read the length of the root, and when it ends there is the room that was
+-- requested.
 use Rattle.std.proofs.Common.{◌≡◌, ℕ, ◌+◌, ◌≤◌, ◌^◌, ◌==◌, nat_le, max, Bool, true, false, cond}
 use Rattle.std.proofs.Common.{arith, leb-true, Option, None, Some, List, [], ◌∷◌, refl, ap, subst}
 use Rattle.std.proofs.lemmas.Bool.{cond_both}
@@ -103,7 +104,7 @@ module _ (tables : List ℕ) (given : List CapacityCause) where
   copied_in resize from copied_to.Chunk = over_in resize
   copied_in resize from (copied_to.Refused refused) = tt
 
-  -- after an answer, where nothing is linked or copied
+  -- after an answer, if nothing is linked or copied
   told_in : (resize : Resize) (mode : ResizeMode) (stage : Stage) (answer : Call_answer)
       → ((slots limit : ℕ) → answer ≡ Size slots limit → Member slots tables) → In resize stage → In resize (told_root resize mode stage answer)
   told_in resize mode AtRoot (Word_read root) size h = root_in resize root
@@ -125,7 +126,7 @@ module _ (tables : List ℕ) (given : List CapacityCause) where
   called_in resize mode stage (answers.Count count) by size h = counted_in resize stage count by h
   called_in resize mode stage (answers.Hash hash) by size h = h
 
-  -- after any answer to one that has not ended
+  -- after any answer to a call that has not ended
   room_in : (resize : Resize) (mode : ResizeMode) (initial number : ℕ) (answer : Answer) (stage : Stage) → IsGivenBy answer given
       → ((slots limit : ℕ) → answer ≡ answers.Call (Size slots limit) → Member slots tables) → In resize stage
       → In resize (after_in resize mode initial number answer stage)
@@ -140,7 +141,7 @@ module _ (tables : List ℕ) (given : List CapacityCause) where
   room_in resize mode initial number answer Done by size h = called_in resize mode Done answer by size h
   room_in resize mode initial number answer (Ended_refused refused) by size h = called_in resize mode (Ended_refused refused) answer by size h
 
--- what one that has not ended knows is so of more tables too, whatever was given since
+-- the facts of a call that has not ended hold over more tables and more failures too
 room_since : (resize : Resize) (tables tables' : List ℕ) (given given' : List CapacityCause) → ((len : ℕ) → Member len tables → Member len tables')
     → (stage : Stage) → (stage ≡ Done → ⊥) → IsRoomIn resize tables given stage → IsRoomIn resize tables' given' stage
 room_since resize tables tables' given given' more (Counting root len) on h = more len h
@@ -155,7 +156,7 @@ pub room_after : (resize : Resize) (mode : ResizeMode) (initial number : ℕ) (a
 room_after resize mode initial number answer tables tables' given given' more stage on by size h = room_in tables' given' resize mode initial number
     answer stage by size (room_since resize tables tables' given given' more stage on h)
 
--- one that begins has found nothing
+-- a call that begins has found nothing
 pub room_begins : (resize : Resize) (tables : List ℕ) (given : List CapacityCause) → IsRoomIn resize tables given (begun_in resize)
 room_begins Chunk tables given = tt
 room_begins CopyAll tables given = tt

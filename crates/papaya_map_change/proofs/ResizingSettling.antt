@@ -1,4 +1,5 @@
--- A call that resizes relies on what holds after each answer that leads its copy on, whatever runs.
+-- A call that resizes relies on facts that hold after each answer with which its copy continues,
+-- whether its machine runs or is a ghost.
 use Rattle.std.proofs.Common.{◌≡◌, ℕ, Bool, true, Option, Some, List, [], ◌∷◌, refl, sym, ap, ◌∙◌, subst}
 use Rattle.std.specs.Cmp.{IsEquivalence}
 use mathlib.Core.List.{IsPrefix}
@@ -24,7 +25,7 @@ module _ {K V S H : Type 0} (eq : K → K → Bool) (input : K → List (List �
   abbrev hash : S → K → ℕ
   hash = hash_of input build write finish
 
-  -- the resizer, as its copy stands here
+  -- the resizer, with its copy in this state
   abbrev at : Stop K V S H → Resizer
   at s = record m { state = Copying from s.copying }
 
@@ -50,11 +51,11 @@ module _ {K V S H : Type 0} (eq : K → K → Bool) (input : K → List (List �
   answers_now t stands r = can_answer eq input build write finish classes respects b name t.log (at t) t.loaded r (closed t) (copying_ask t.copying)
       refl (stage_fits (Copying from t.copying) stands (copying_ask t.copying) refl)
 
-  -- what is asked on the way may be answered
+  -- each ask on the way may be answered
   pub can_lead : (s : Stop K V S H) → IsValidCopying s.copying → Relies s → CanStep eq hash b name m.mode s
   can_lead s stands r = λ t l. let there = walked l.0 s t l.1 stands r in answers_now t there.0 there.1
 
-  -- it relies on what holds once it has the last answer
+  -- it relies on facts that hold once it has the last answer
   pub relies_by : (s s' : Stop K V S H) (answer : Answer) → IsValidCopying s.copying → Relies s → Ends eq hash b name m.mode s s' answer
       → IsResizing eq hash b name s'.log (after (at s') answer) s'.loaded
   relies_by s s' answer stands r e =

@@ -52,7 +52,7 @@ use Rattle.papaya_call_law.specs.Resizers.{link_of}
 
 module _ (Opened : ℕ → Type 0) (Holds : Link → Type 0) (Told New : Link → ℕ → Type 0) (stable : IsStable Holds Told New)
     (making : (behind slots limit chunks : ℕ) → Holds (links.Making behind slots limit chunks)) where
-  -- of the table that is about to be opened, and of the making of a table
+  -- the facts about the table that is about to be opened, and about the making of a table
   abbrev pub At : Stage → Type 0
   At (Opening n) = Opened n
   At (Linking link) = Holds link
@@ -101,7 +101,7 @@ module _ (Opened : ℕ → Type 0) (Holds : Link → Type 0) (Told New : Link �
   copied_at resize from copied_to.Chunk h = over_at resize
   copied_at resize from (copied_to.Refused refused) h = tt
 
-  -- after an answer, where nothing is linked or copied
+  -- after an answer, if nothing is linked or copied
   told_at : (resize : Resize) (mode : ResizeMode) (stage : Stage) (answer : Call_answer) → ((n : ℕ) → answer ≡ Made_number n → Opened n) → At stage
       → At (told_root resize mode stage answer)
   told_at resize mode AtRoot (Word_read root) opened h = root_at resize root
@@ -123,7 +123,7 @@ module _ (Opened : ℕ → Type 0) (Holds : Link → Type 0) (Told New : Link �
   called_at resize mode stage (answers.Count count) opened h = counted_at resize stage count h
   called_at resize mode stage (answers.Hash hash) opened h = h
 
-  -- after any
+  -- after any answer
   pub stage_at : (resize : Resize) (mode : ResizeMode) (initial number : ℕ) (answer : Answer) (stage : Stage)
       → ((slots limit : ℕ) → answer ≡ answers.Call (Size slots limit) → Of Told (link_of stage) slots)
       → ((n : ℕ) → answer ≡ answers.Call (Made_number n) → Of New (link_of stage) n) → ((n : ℕ) → answer ≡ answers.Call (Made_number n) → Opened n)
@@ -141,7 +141,8 @@ module _ (Opened : ℕ → Type 0) (Holds : Link → Type 0) (Told New : Link �
   stage_at resize mode initial number answer Done told new opened h = called_at resize mode Done answer opened h
   stage_at resize mode initial number answer (Ended_refused refused) told new opened h = called_at resize mode (Ended_refused refused) answer opened h
 
--- `Opened` is what a first table is that was made, and `Made` one with so many words for chunks.
+-- `Opened` states that a first table was made, and `Made` that a table was made with this many
+-- words for chunks.
 module _ (Opened : ℕ → Type 0) (Made : (n chunks : ℕ) → Type 0) where
   -- the table that is about to be opened or linked was made
   abbrev pub IsMadeAt : Stage → Type 0
@@ -200,7 +201,7 @@ module _ (Opened : ℕ → Type 0) (Made : (n chunks : ℕ) → Type 0) where
   links_made (Copying from goes) h behind n chunks e = made.is_made Made (link_in_copying goes) h behind n chunks e
   links_made other h behind n chunks e = absurd cc
 
--- Once it has tried to link a table it is about to open or link none.
+-- Once it has tried to link a table, it is about to open or link none.
 module _ (behind table chunks : ℕ) (resize : Resize) (mode : ResizeMode) (initial number : ℕ) where
   abbrev IsNone : Stage → Type 0
   IsNone = IsMadeAt (λ n. ⊥) (λ n chunks. ⊥)
@@ -233,7 +234,7 @@ module _ (behind table chunks : ℕ) (resize : Resize) (mode : ResizeMode) (init
   tried_none stage e told (inr (word, is)) = subst (λ (a : Call_answer). IsNone (after_in resize mode initial number (answers.Call a) stage)) (sym is)
       (found_none word stage e)
 
--- Where it asks to link a table, it is about to; and the other way round.
+-- It asks to link a table if, and only if, it is about to link it.
 pub stage_links : (stage : Stage) (behind old new : ℕ) → asks_in stage ≡ Some (Exchange (Next behind) old new) → (chunks : ℕ)
     × (link_of stage ≡ Some (links.Linking behind new chunks))
 stage_links (Linking link) behind old new e = link_asks link behind old new cc

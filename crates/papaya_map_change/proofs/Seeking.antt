@@ -1,4 +1,5 @@
--- The search of an insertion's or a compute's fast path: where each of its steps leads the machine, which nothing runs.
+-- The search of an insertion's or a compute's fast path: the state to which each of its steps leads
+-- the ghost machine.
 use Rattle.std.proofs.Common.{◌≡◌, inl, ℕ, ◌<◌, ◌≤◌, ◌==◌, nat_lt, Bool, true, false, if◌then◌else◌}
 use Rattle.std.proofs.Common.{Option, None, Some, List, [], length, refl, sym, ap, ◌∙◌, subst}
 use Rattle.std.proofs.Common.{arith}
@@ -49,16 +50,16 @@ use Rattle.papaya_map_change.specs.declared.fast_path.ProbeHit.TheVariants.{Empt
 use Rattle.papaya_map_change.proofs.Changing.{begins, compared, hint_table, hinted as hint_loaded, loads, sized, slot_table}
 use Rattle.papaya_map_change.proofs.Written.{own_query}
 
--- where a search leads a call that saw this
+-- the state of a call after this outcome of a probe
 abbrev pub led_by : Seeker → ResizeMode → ProbeStep → State
 led_by who mode seen = goes_as (task_of who) mode nothing seen
 
--- it looks at a root that there is
+-- it probes a root that exists
 sized_at : (who : Seeker) (word : ℕ) → (word == 0) ≡ false → at_root (task_of who) None word ≡ Searching (Sizing word)
 sized_at Inserts word some = rw some refl
 sized_at Computes word some = rw some refl
 
--- and goes on where it met a live pair with its key
+-- and continues as follows if it met a live pair with its key
 live_met : (who : Seeker) (mode : ResizeMode) (at : Place) (word : ℕ) (same : Bool) → same ≡ true → kind_of word ≡ kinds.Live
     → led_by who mode (at_yes (Comparing at word) same) ≡ at_live who at word
 live_met who mode at word same is_same live =
@@ -73,7 +74,7 @@ module _ (M : Type 0) where
   abbrev Left : ProbeStep → ℕ
   Left seen = left_to {M = M} (hit_of seen)
 
-  -- each turn leaves fewer places
+  -- each step leaves fewer places
   fewer_on : (at : Place) → at.probe.len ≤ at.limit → Left (go_on at) < left_at at
   fewer_on at low = chosen (λ s. Left s < left_at at) (nat_lt at.probe.len at.limit) (On (Looking (next_place at))) (Over at.table)
       (λ e. omega (arith, low)) (λ e. omega (arith, low))
@@ -108,7 +109,7 @@ module _ (M : Type 0) where
   fewer_yes at word true low = fewer_match (kind_of word) at word low
   fewer_yes at word false low = fewer_on at low
 
-  -- a place that is looked at next is one of the search
+  -- a place that is probed next is one of the search
   within_on : (goes : Search) → IsProbed (On goes) → (next : Place) → hit_of {M = M} (On goes) ≡ Next next → IsWithin next
   within_on (Looking at) seen next e = let is : at ≡ next = cc e in subst IsWithin is seen
   within_on goes seen next e = absurd (cc e)
@@ -117,7 +118,7 @@ module _ (M : Type 0) where
   within_next (On goes) is next e = within_on goes is next e
   within_next seen is next e = absurd (cc e)
 
-  -- a place that is looked at next is of the same table
+  -- a place that is probed next is of the same table
   abbrev StaysIn : Place → ProbeStep → Type 0
   StaysIn at seen = (next : Place) → hit_of {M = M} seen ≡ Next next → next ≡ record at { probe = next.probe }
 
@@ -145,7 +146,7 @@ module _ (M : Type 0) where
   stays_yes at word false = stays_on at
 
 module _ (K V : Type 0) where
-  -- where a turn leads that met no pair, the search leads the machine
+  -- the outcome of a step that met no pair leads the machine as the search does
   led_on : (who : Seeker) (mode : ResizeMode) (goes : Search) (state : State) → leads who (hit_of {M = Met K V} (On goes)) ≡ Some state
       → led_by who mode (On goes) ≡ state
   led_on who mode (Looking at) state e = cc e
@@ -177,7 +178,7 @@ module _ (K V : Type 0) where
   none_met (Seen_empty at) = refl
   none_met seen = refl
 
--- a pair was met only where its key matches
+-- a pair was met only if its key matches
 pub here_same : (at : Place) (word : ℕ) (same : Bool) (a : Place) (w : ℕ) → at_yes (Comparing at word) same ≡ Here a w → same ≡ true
 here_same at word true a w e = refl
 here_same at word false a w e = absurd (chosen (λ s. s ≡ Here a w → ⊥) (nat_lt at.probe.len at.limit) (On (Looking (next_place at))) (Over at.table)
@@ -205,7 +206,7 @@ module _ {K V S H : Type 0} (eq : K → K → Bool) (input : K → List (List �
   unmet : (last : Option (Stored K V)) (p : Stored K V) → None ≡ Some p → last ≡ Some p
   unmet last p e = absurd (cc e)
 
-  -- the root was loaded, and its size told
+  -- the root was loaded, and its size received
   pub root_found : (log : List (Event K V S)) → IsPrefix begun log → IsLawfulLog eq hash b begun
       → (word : ℕ) (root : Option (Bor Sheet)) (lent : Bor Sheet) → root ≡ Some lent → IsRoot eq hash b name word log root → (slots limit : ℕ)
       → slots ≡ length lent.now.slots → limit ≡ lent.now.limit → At log (Searching (Looking (first_place h word slots limit))) None lent.now
@@ -234,14 +235,14 @@ module _ {K V S H : Type 0} (eq : K → K → Bool) (input : K → List (List �
       (hint_table eq input build write finish classes respects b (eq key) (input key) query (Some key) name begun log
       (seeker_at who h b.mode 1 (nothing_made b.limit) (Searching (Looking at))) (Some lent) last None [] None None None r at.table at.probe.i (inl refl))
 
-  -- where a turn met no pair, it leads the machine on as the search does
+  -- the outcome of a step that met no pair leads the machine as the search does
   pub turned : (log : List (Event K V S)) (seen : ProbeStep) (table : Sheet) → At log (led_by who b.mode seen) None table → (state : State)
       → leads who (hit_of {M = Met K V} seen) ≡ Some state → At log state (met_by (hit_of {M = Met K V} seen)) table
   turned log seen table r state e =
       subst (λ (o : Option (Stored K V)). At log state o table) (sym (none_met K V seen))
       (subst (λ (s : State). At log s None table) (led_so K V who b.mode seen state e) r)
 
-  -- its hint was loaded, and looked at with the key's hash
+  -- its hint was loaded, and compared with the key's hash
   module _ (log log' : List (Event K V S)) (pre : IsPrefix log log') (at : Place) (table : Sheet) (r : At log (Searching (Looking at)) None table)
       (n : ℕ) (n_is : n ≡ h) (hint : ℕ) (told : IsSlotHint eq hash b at.table at.probe.i hint log') where
     pub hint_seen : At log' (led_by who b.mode (hinted at n hint)) None table
@@ -256,7 +257,7 @@ module _ {K V S H : Type 0} (eq : K → K → Bool) (input : K → List (List �
               at.table at.probe.i hint refl told,
         )
 
-    -- its word is loaded next, where the hint says nothing or is the key's
+    -- its word is loaded next, if the hint states nothing or is the key's
     pub word_next : (a : Place) → hinted at n hint ≡ On (Reading a) → At log' (Searching (Reading at)) None table
     word_next a e = subst (λ (s : ProbeStep). At log' (led_by who b.mode s) None table) (read_hinted at n hint a e) hint_seen
 
@@ -312,7 +313,7 @@ module _ {K V S H : Type 0} (eq : K → K → Bool) (input : K → List (List �
           pub matched : At log' (led_by who b.mode (at_yes (Comparing at word) same)) None table
           matched = (r.0, r.1, Some p, unmet (Some p), matched_under)
 
-          -- where it is live it is to be replaced
+          -- if it is live it is to be replaced
           pub met_live : same ≡ true → kind_of word ≡ kinds.Live → At log' (at_live who at word) (Some p) table
           met_live is_same live = (
             r.0,

@@ -46,12 +46,12 @@ module _ {K V S H : Type 0} {d : keyed.Ghosts S K H} (w : Window K V S H d) wher
   abbrev pub CanAnswer : ResizeMode → Stop K V S H → Type 0
   CanAnswer mode s = CanAnswerAt d.keys.eq d.keys.hash (begun_of w.book.now.parts) w.book.now.begun.book mode s
 
-  -- what is asked may be answered
+  -- the ask may be answered
   pub asked : (mode : ResizeMode) (s : Stop K V S H) → CanStep w mode s → CanAnswer mode s
   asked mode s can = can s (leads_none d.keys.eq d.keys.hash (begun_of w.book.now.parts) w.book.now.begun.book mode s)
 
   module _ (w' : Window K V S H d) where
-    -- by what is seen later too
+    -- over a later log too
     pub placed_on : Observes w w' → (site : Site K V S H) → IsPlacedAt w site → IsPlacedAt w' site
     placed_on sees site placed = record {
       table = table_since w.sight.log w'.sight.log site.chunk.cursor.from site.table.now sees.log placed.table;
@@ -63,7 +63,7 @@ module _ {K V S H : Type 0} {d : keyed.Ghosts S K H} (w : Window K V S H d) wher
           → IsMoveStep d.keys.eq d.keys.hash (begun_of w'.book.now.parts) w'.book.now.begun.book mode s t
       turn_on mode s t turn = subst (λ (z : _). IsMoveStep d.keys.eq d.keys.hash (begun_of z.now.parts) z.now.begun.book mode s t) (sym same) turn
 
-      -- by the same book
+      -- for the same book
       pub can_still : (mode : ResizeMode) (s : Stop K V S H) → CanStep w mode s → CanStep w' mode s
       can_still mode s can = subst (λ (z : _).
           Rattle.papaya_map_change.specs.Settling.CanStep d.keys.eq d.keys.hash (begun_of z.now.parts) z.now.begun.book mode s) (sym same) can
@@ -84,14 +84,14 @@ module _ {K V S H : Type 0} {d : keyed.Ghosts S K H} (w : Window K V S H d) wher
       leaves_on site s t h halt turn left = leaves_then d.keys.eq d.keys.hash (begun_of w'.book.now.parts) w'.book.now.begun.book site.mode site.aim
           site.chunk s t w'.sight.log h halt (turn_on site.mode s t turn) left
 
-      -- the slot is settled by an answer
+      -- an answer migrates the slot
       pub settled_on : (site : Site K V S H) (s : Stop K V S H) (h : Copier K V S H)
           → TurnsBy site.mode s (record { copying = past_slot site.aim site.chunk; log = w'.sight.log; loaded = h }) → LeavesFrom s w' site h None
       settled_on site s h turn = leads_one d.keys.eq d.keys.hash (begun_of w'.book.now.parts) w'.book.now.begun.book site.mode s
           (record { copying = past_slot site.aim site.chunk; log = w'.sight.log; loaded = h })
           (turn_on site.mode s (record { copying = past_slot site.aim site.chunk; log = w'.sight.log; loaded = h }) turn)
 
-      -- or its copy is left by one
+      -- or leaves its copy
       pub left_on : (site : Site K V S H) (settle : Settle) (log : List (Event K V S)) (h h' : Copier K V S H) (answer : Answer) → IsPrefix log w'.sight.log
           → AnswersAt d.keys.eq d.keys.hash (begun_of w.book.now.parts) w.book.now.begun.book site.mode
           (record { copying = at_slot site.aim site.chunk settle; log = log; loaded = h }) w'.sight.log h' answer

@@ -1,4 +1,4 @@
--- Answers to a copy's asks, one after another: what each leads to, and how they are put together.
+-- Answers to a copy's asks, one after another: the state after each, and how they are combined.
 use Rattle.std.proofs.Common.{◌≡◌, ℕ, ◌+◌, ◌<◌, ◌==◌, nat_lt, Bool, true, false, if◌then◌else◌}
 use Rattle.std.proofs.Common.{Option, None, Some, List, [], ◌∷◌, ◌++◌, append-nil, refl, sym, ap}
 use Rattle.std.proofs.Common.{◌∙◌, subst}
@@ -69,7 +69,7 @@ module _ {K V S H : Type 0} (eq : K → K → Bool) (hash : S → K → ℕ) (b 
     pub leads_none : (s : Stop K V S H) → StepsTo eq hash b name mode s s
     leads_none s = ([], refl)
 
-    -- what may be asked later
+    -- a later ask
     pub can_then : (s t : Stop K V S H) → CanStep eq hash b name mode s → IsMoveStep eq hash b name mode s t → CanStep eq hash b name mode t
     can_then s t can turn = λ u l. can u (leads_then s t u (leads_one s t turn) l)
 
@@ -101,7 +101,7 @@ module _ {K V S H : Type 0} (eq : K → K → Bool) (hash : S → K → ℕ) (b 
       fit = fit;
     }
 
-    -- the copy of a slot goes on from where an answer led it
+    -- the copy of a slot continues from the state after an answer
     pub leaves_then : (aim : Aim) (chunk : Chunk) (s t : Stop K V S H) (log : List (Event K V S)) (h : Copier K V S H) (halt : Option Halt)
         → IsMoveStep eq hash b name mode s t → LeavesSlot eq hash b name mode aim chunk t log h halt → LeavesSlot eq hash b name mode aim chunk s log h halt
     leaves_then aim chunk s t log h None turn l = leads_then s t (record { copying = past_slot aim chunk; log = log; loaded = h }) (leads_one s t turn) l
@@ -139,7 +139,7 @@ module _ {K V S H : Type 0} (eq : K → K → Bool) (hash : S → K → ℕ) (b 
         subst (AnswersExchange eq hash b name (Slot t x) kind old new log h log' h')
         (ap (λ (z : Bool). if z then Call Exchanged else Call (Found found)) same) told
 
--- a slot of the chunk that is settled leads past it
+-- the copy continues past a slot that is migrated
 past_by : (aim : Aim) (chunk : Chunk) (mode : ResizeMode) (z : Bool)
     → leads aim mode (if z then Step_on (Settling (next_slot chunk) Looking) else Step_on (Advancing chunk.cursor)) ≡ On
     (if z then at_slot aim (next_slot chunk) Looking else Stepping aim (Advancing chunk.cursor))
@@ -157,7 +157,7 @@ past_standing aim chunk valid = by_next (nat_lt (chunk.at + 1) chunk.end) refl
     by_next true is = (record { cursor = valid.cursor; at = ltb-true (chunk.at + 1) chunk.end is; within = valid.within }, tt)
     by_next false is = valid.cursor
 
--- which is the next slot, or the end of the chunk
+-- this is the next slot, or the end of the chunk
 pub past_next : (aim : Aim) (chunk : Chunk) → chunk.at + 1 < chunk.end → past_slot aim chunk ≡ at_slot aim (next_slot chunk) Looking
 past_next aim chunk more = ap (λ (z : Bool). if z then at_slot aim (next_slot chunk) Looking else Stepping aim (Advancing chunk.cursor))
     (lt-ltb (chunk.at + 1) chunk.end more)
@@ -170,7 +170,7 @@ past_last aim chunk none = ap (λ (z : Bool). if z then at_slot aim (next_slot c
     not_below true is = absurd (none (ltb-true (chunk.at + 1) chunk.end is))
     not_below false is = is
 
--- the hint of a place leads a carry as it leads a search
+-- the hint of a place leads the move of a pair as it leads a search
 pub passes : (hash : ℕ) (at : Place) (mode : ResizeMode) (hint : ℕ) (next : Place) → searches.hinted at hash hint ≡ seen.On (seeking.Looking next)
     → (carries.hinted hash at mode hint ≡ Carry_on (Looking_at hash next)) × (next ≡ next_place at) × (at.probe.len < at.limit)
 passes hash at mode hint next is = by_hint (may_hold hint hash) (nat_lt at.probe.len at.limit) refl is
@@ -197,7 +197,7 @@ reads hash at mode hint it is = by_hint (may_hold hint hash) (nat_lt at.probe.le
     by_hint false true e = absurd (cc e)
     by_hint false false e = absurd (cc e)
 
--- a word that is neither empty, live nor marked says that its slot is settled
+-- a word that is neither empty, live nor marked is that of a migrated slot
 pub looked_past : (kind : Kind) (slot : Slot_of) (word : ℕ) → (kind ≡ word_kinds.Empty → ⊥) → (kind ≡ word_kinds.Live → ⊥)
     → (kind ≡ word_kinds.Marked → ⊥) → look_at kind slot word ≡ Was_settled
 looked_past word_kinds.Empty slot word empty live marked = absurd (empty refl)
@@ -207,7 +207,7 @@ looked_past word_kinds.Copied slot word empty live marked = refl
 looked_past word_kinds.Buried slot word empty live marked = refl
 looked_past word_kinds.Closed slot word empty live marked = refl
 
--- Each answer that leads the copy of a slot on.
+-- Each answer with which the copy of a slot continues.
 module _ {K V S H : Type 0} (eq : K → K → Bool) (hash : S → K → ℕ) (b : Begun K V S) (name : Book) (mode : ResizeMode) (aim : Aim) (chunk : Chunk)
     (valid : IsValidChunk chunk) (log : List (Event K V S)) (h : Copier K V S H) (log' : List (Event K V S)) (h' : Copier K V S H)
     (since : IsPrefix log log') where
@@ -227,7 +227,7 @@ module _ {K V S H : Type 0} (eq : K → K → Bool) (hash : S → K → ℕ) (b 
   Slots t x kind old new found = HasTried eq hash b name (Slot t x) (Some kind) (old, new) h.kept h.fresh log h.last found log' h'.last
 
   module _ (rest : h' ≡ record h { last = h'.last }) where
-    -- the slot's word says that its pair is copied
+    -- by the slot's word its pair is copied
     pub finished : (marked found : ℕ) → Slots chunk.cursor.from chunk.at kinds.Finish marked (copied_as marked) found → Turns (before (Finishing marked)) past
     finished marked found tried = record {
       since = since;
@@ -254,7 +254,7 @@ module _ {K V S H : Type 0} (eq : K → K → Bool) (hash : S → K → ℕ) (b 
       valid = (valid, tt);
     }
 
-    -- or shut
+    -- or sealed
     pub closes : (found : ℕ) → Slots chunk.cursor.from chunk.at kinds.Close 0 5 found → found ≡ 0 → Turns (before Closing) (later Shutting)
     closes found tried is = record {
       since = since;
@@ -307,7 +307,7 @@ module _ {K V S H : Type 0} (eq : K → K → Bool) (hash : S → K → ℕ) (b 
         pub sees_live : kind_of word ≡ word_kinds.Live → Turns (before Looking) (later (Marking word))
         sees_live is = looks_by word_kinds.Live is (Marking word) refl tt
 
-        -- or is settled
+        -- or is migrated
         pub sees_settled : (kind_of word ≡ word_kinds.Empty → ⊥) → (kind_of word ≡ word_kinds.Live → ⊥) → (kind_of word ≡ word_kinds.Marked → ⊥)
             → Turns (before Looking) past
         sees_settled empty live marked = record {
@@ -361,7 +361,7 @@ module _ {K V S H : Type 0} (eq : K → K → Bool) (hash : S → K → ℕ) (b 
       valid = (valid, stands);
     }
 
-  -- the size of the next table is known
+  -- the size of the next table was read
   pub sizes_next : (marked byte to : ℕ) (size : ℕ × ℕ) → IsSizeOf eq hash b name to log' size → h' ≡ h → IsWithin (first_place byte to size.0 size.1)
       → Turns (before (Carrying marked (Sizing byte to))) (later (Carrying marked (Looking_at byte (first_place byte to size.0 size.1))))
   sizes_next marked byte to size size_of rest within = record {
@@ -374,7 +374,7 @@ module _ {K V S H : Type 0} (eq : K → K → Bool) (hash : S → K → ℕ) (b 
 
 module _ {K V S H : Type 0} (eq : K → K → Bool) (hash : S → K → ℕ) (b : Begun K V S) (name : Book) (mode : ResizeMode) (aim : Aim) (chunk : Chunk)
     (valid : IsValidChunk chunk) (log : List (Event K V S)) (h h' : Copier K V S H) where
-  -- the hash of the pair's key is known, and the pair is carried
+  -- the hash of the pair's key was computed, and the pair is moved
   pub hashes : (marked to byte : ℕ) → Carries eq hash b name h h' byte → h' ≡ record h { kept = h'.kept }
       → IsMoveStep eq hash b name mode (record { copying = at_slot aim chunk (Carrying marked (Hashing to)); log = log; loaded = h })
       (record { copying = at_slot aim chunk (Carrying marked (Sizing byte to)); log = log; loaded = h' })

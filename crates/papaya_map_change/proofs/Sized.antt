@@ -1,4 +1,5 @@
--- The length by which a next table is sized is that of a table in the log, and stays so whatever is answered.
+-- The length by which a next table is sized is that of a table in the log, and stays so with each
+-- answer.
 use Rattle.std.proofs.Common.{◌≡◌, ℕ, ◌^◌, ◌==◌, nat_le, Bool, Option, None, Some, List}
 use Rattle.std.proofs.lemmas.Bool.{cond_both}
 use mathlib.Core.List.{IsPrefix}
@@ -37,7 +38,7 @@ module _ (tables tables' : List ℕ) (pre : IsPrefix tables tables') where
   counting_since m counts = sized_since (link_in m.phase) counts
 
 module _ (tables : List ℕ) where
-  -- the length that was told is that of one of these
+  -- the length that was received is that of one of these
   abbrev pub IsOfSize : Link → Type 0
   IsOfSize = IsSizedLink tables
 
@@ -99,7 +100,8 @@ module _ (tables : List ℕ) where
   in_sized None h = tt
   in_sized (Some made) h = h
 
-  -- where the size that was told is that of one of these, the call counts by one of these after the answer
+  -- if the size that was received is that of one of these, the call counts by one of these after
+  -- the answer
   pub counting_after : (m : Machine) (answer : Answer) → ((slots limit : ℕ) → answer ≡ answers.Call (Size slots limit) → Member slots tables)
       → IsCountingOf tables m → IsCountingOf tables (after m answer)
   counting_after m answer told counts =

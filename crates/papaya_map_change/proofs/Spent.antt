@@ -1,4 +1,4 @@
--- A call that has learned that no number is left for a pair: the limit on pairs is spent.
+-- A call has read that no number is left for a pair: the limit on pairs is spent.
 use Rattle.std.proofs.Common.{◌≡◌, ⊎_elim, ℕ, Bool, ◌≤◌, MatchOption, Option, Some, List, sym, ◌∙◌, subst, arith}
 use Rattle.papaya_words.specs.declared.refused.Refused.{Refused as Cause}
 use Rattle.papaya_words.specs.declared.refused.Refused.TheVariants.{Limit}
@@ -18,19 +18,19 @@ use Rattle.papaya_map_book.specs.Rule.{IsLawfulLog}
 use Rattle.papaya_map_change.specs.Writing.{IsWithoutResult, IsTakenCount}
 
 module _ {K V S : Type 0} (eq : K → K → Bool) (hash : S → K → ℕ) (b : Begun K V S) (log : List (Event K V S)) (l : IsLawfulLog eq hash b log) where
-  -- so many numbers were taken as the limit says
+  -- as many numbers were taken as the limit permits
   at_most : (most : ℕ) → b.limit ≡ Some most → most ≤ (state_of log).made → (state_of log).made ≡ most
   at_most most limit over = let below : (state_of log).made ≤ most = numbers_below (setting_of eq (hash b.hasher) b.mode b.limit log) most limit
       (exchanges_of log) start l.allowed (omega arith) in omega (arith, below, over)
 
-  -- where the answer tells how many were taken
+  -- if the answer states how many were taken
   pub limit_spent : (m : Machine) (answer : Answer) → m.made.limit ≡ b.limit → IsTakenCount log (calls.ask_of m) answer → IsAtLimit m answer → IsSpent b.limit log
   limit_spent m answer limit tells (most, count, is, over, number, says) =
       let made_is = tells number count says in
       let has : b.limit ≡ Some most = sym limit ∙ is in
       subst (λ (o : Option ℕ). MatchOption o ⊥ (λ n. (state_of log).made ≡ n)) (sym has) (at_most most has (omega (arith, made_is, over)))
 
--- what was to be made is not refused for that
+-- making a part never fails with this cause
 pub unsaid_limit : (Holds : Type 0) (given : List CapacityCause) (answer : Answer) → IsWithoutResult given answer → (cause : Cause)
     → answer ≡ Was_refused cause → cause ≡ Limit → Holds
 unsaid_limit Holds given answer unsaid cause e limit = absurd

@@ -1,5 +1,5 @@
--- A machine over a chain that asks for its call itself, and where an answer leads: the call takes a step, is set aside, or goes on in the next table
--- at once.
+-- A machine over a chain in phase `Calling`, and its state after an answer: the call takes a step,
+-- is set aside, or continues in the next table directly.
 use Rattle.std.proofs.Common.{◌≡◌, ◌⊎◌, inl, inr, ⊎_elim, ℕ, ◌==◌, Bool, true, false, cond, Option, None, Some, List, refl, sym, ap, ◌∙◌, subst}
 use Rattle.std.proofs.lemmas.Bool.{cond_both, cond-false}
 use Rattle.papaya_words.specs.declared.resize_mode.ResizeMode.{ResizeMode}
@@ -68,7 +68,7 @@ use Rattle.papaya_map_book.specs.Logs.{Stored}
 use Rattle.papaya_map_book.specs.Plays.{IsCallAsked, IsWished, loaded_of}
 use Rattle.papaya_map_change.specs.Changing.{IsBringing, IsSizedBy}
 
--- a call that asks for itself asks its call's ask, and for an exchange of that kind
+-- a call in phase `Calling` has its call's ask, and exchanges of that kind
 pub calling_asks : (m : Machine) → m.phase ≡ Calling → ask_of m ≡ asked.Call (calls.ask_of m.call)
 calling_asks m e = ap (asks_in m.call) e
 
@@ -115,11 +115,11 @@ kind_asked_is made (Leaving t) = tt
 kind_asked_is made (Growing need) = tt
 kind_asked_is made (Ended reply) = tt
 
--- what a call asks for itself is of its own kinds
+-- the asks of a call in phase `Calling` are of its own kinds
 pub own_kind_is : (m : Machine) → m.phase ≡ Calling → IsCallKind (kind_of_ask m)
 own_kind_is m e = subst IsCallKind (sym (own_kind m e)) (kind_asked_is m.call.made m.call.state)
 
--- where such an exchange was asked for, it was the call's and no copy's
+-- if such an exchange was asked for, it was the call's and no copy's
 pub asked_by_call : {K V : Type 0} (kind : Option StepKind) → IsCallKind kind
     → (at : At) (new : ℕ) (s : Words (Stored K V)) (made : Option (Stored K V)) (e : Law_exchange (Stored K V)) → IsWished kind at new s made e
     → IsCallAsked kind at new s (loaded_of made) e
@@ -146,15 +146,15 @@ IsSetAside (Copying_root (Stepping aim At_root)) = Unit {0}
 IsSetAside (Copying_root (Lone slot Looking_to_settle)) = Unit {0}
 IsSetAside _ = ⊥
 
--- the call went a step of its own
+-- the call took a step of its own
 abbrev IsStepped : Machine → Answer → Machine → Type 0
 IsStepped m answer m' = (m'.call ≡ calls.after m.call answer) × (m'.phase ≡ Calling)
 
--- it was set aside as it stood
+-- it was set aside unchanged
 abbrev IsAside : Machine → Machine → Type 0
 IsAside m m' = (t : ℕ) × (left_by m.call.state ≡ Some t) × (m'.call ≡ m.call) × IsSetAside m'.phase
 
--- it looks on in the next table, whose number it was told
+-- it continues in the next table, whose number it received
 abbrev HasEntered : Machine → Answer → Machine → Type 0
 HasEntered m answer m' = (t : ℕ) × (next : ℕ) × (left_by m.call.state ≡ Some t) × (answer ≡ Word_read next) × ((next == 0) ≡ false)
     × (m'.call ≡ record m.call { state = Searching (Sizing next) }) × (m'.phase ≡ Calling)
@@ -209,18 +209,18 @@ module _ (m : Machine) (calling : m.phase ≡ Calling) where
   called_went Ok_done = steps Ok_done
   called_went (Was_refused refused) = steps (Was_refused refused)
 
-  -- where an answer to its call leads a machine
+  -- the state of a machine after an answer to its call
   pub own_went : (answer : Answer) → Went m answer (after m (answers.Call answer))
   own_went answer = subst (Went m answer) (sym (ap (after_in m (answers.Call answer)) calling)) (called_went answer)
 
--- one that needs a next table is set aside, or looks on there
+-- a call that needs a next table is set aside, or continues there
 pub grown_leaves : (m : Machine) → m.phase ≡ Calling → (need : Need) → m.call.state ≡ Growing need → (word : ℕ)
     → Leaves m (Word_read word) (after m (answers.Call (Word_read word)))
 grown_leaves m calling need grows word =
     subst (Leaves m (Word_read word)) (sym (ap (after_in m (answers.Call (Word_read word))) calling ∙ ap (λ (s : State). told_next m s word) grows))
     (grows_went m calling word (needed need) (ap left_by grows) m.call.mode need)
 
--- a call that was just set aside asks nothing itself
+-- a call that was just set aside has no ask of its own
 pub aside_asks_none : (call : Call_machine) (phase : Phase) → IsSetAside phase → (ask : Ask) → asks_in call phase ≡ asked.Call ask → ⊥
 aside_asks_none call Calling aside ask e = aside
 aside_asks_none call (Linking link) aside ask e = cc e
@@ -257,7 +257,7 @@ brought_root : (ask : Ask) (n : ℕ) → IsBringing (asked.Call ask) n → ask �
 brought_root (Exchange Root old new) n brings = λ i. Exchange Root (brings.0 i) (brings.1 i)
 brought_root ask n brings = absurd brings
 
--- a call brings a table only where it asks for its exchange, or after it asked for one to be made
+-- a call brings a table only if it asks for its exchange, or after it asked to make one
 abbrev pub IsBarren : Ask → Type 0
 IsBarren (Exchange Root old new) = ⊥
 IsBarren (MakeTable slots limit chunks) = ⊥
@@ -267,7 +267,7 @@ module _ (m : Machine) (calling : m.phase ≡ Calling) (answer : Answer) where
   abbrev m' : Machine
   m' = after m (answers.Call answer)
 
-  -- the table told of last is the one that it is in, while it asks for itself
+  -- the table received last is the one that it is in, while it is in phase `Calling`
   pub own_at : (n : ℕ) → IsAtTable n m.call.state → m'.phase ≡ Calling → IsAtTable (told_table (calls.ask_of m.call) answer n) m'.call.state
   own_at n at still = elim (own_went m calling answer) [
     | inl h ↦ subst (λ (z : Call_machine). IsAtTable (told_table (calls.ask_of m.call) answer n) z.state) (sym h.0) (table_told m.call answer n at)
@@ -279,7 +279,7 @@ module _ (m : Machine) (calling : m.phase ≡ Calling) (answer : Answer) where
         subst (λ (z : Call_machine). IsAtTable (told_table (calls.ask_of m.call) answer n) z.state) (sym h.5) (sym told)
   ]
 
-  -- after the answer it brings a table that it was told of, or that it brought before
+  -- after the answer it brings a table that it received, or that it brought before
   pub own_brings : (n : ℕ) → IsBringing (ask_of m') n
       → ((answer ≡ Made_number n) × ((slots : ℕ) × (limit : ℕ) × (calls.ask_of m.call ≡ MakeTable slots limit 0))) ⊎ (calls.ask_of m.call ≡ Exchange Root 0 n)
   own_brings n brings = elim (own_went m calling answer) [
@@ -317,7 +317,7 @@ module _ (m : Machine) (calling : m.phase ≡ Calling) (answer : Answer) where
       (λ opens. subst IsBarren (sym asks ∙ opens) barren)
       (own_brings n brings)
 
-  -- what the call was told, the machine is told
+  -- the machine receives each answer that the call receives
   pub own_told : {K P : Type 0} (g : Setting K P) (c : Coding K P) (k : K) (s : Words P) (loaded : LoadedPairs P) (es : List (Law_exchange P))
       (call : told_calls.LoadedPairs P) (ask : Ask) → calls.ask_of m.call ≡ ask → told_calls.IsTrueOf g c k s (kind_of_ask m) loaded.call ask answer es call
       → IsTrueOf g c k s (kind_of_ask m) (follows_of m) loaded (ask_of m) (answers.Call answer) es (record loaded { call = call })
@@ -329,7 +329,7 @@ module _ (m : Machine) (calling : m.phase ≡ Calling) (answer : Answer) where
   pub own_order : IsInOrder m (answers.Call answer) m.phase
   own_order = subst (IsInOrder m (answers.Call answer)) (sym calling) (answer, refl)
 
-  -- what it has changed then
+  -- its changes after the answer
   pub own_changes : {K P : Type 0} (g : Setting K P) (c : Coding K P) → IsHashed g c → (k : K) → m.call.hash ≡ c.hash k
       → (s : Words P) (loaded : LoadedPairs P) (es : List (Law_exchange P)) (call : told_calls.LoadedPairs P) (ask : Ask) → calls.ask_of m.call ≡ ask
       → told_calls.IsTrueOf g c k s (kind_of_ask m) loaded.call ask answer es call

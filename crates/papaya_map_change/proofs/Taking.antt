@@ -1,4 +1,5 @@
--- A call takes a number for a pair: it may whenever the count is what it loaded, and after the attempt it again relies on what holds.
+-- A call takes a number for a pair: it may whenever the count is the one that it loaded, and after
+-- the attempt it again relies on facts that hold.
 use Rattle.std.proofs.Common.{◌≡◌, ℕ, ◌==◌, Bool, true, false, MatchBool, Option, None, Some, List, [], ◌∷◌, ◌++◌, refl, sym, ap, ◌∙◌, subst}
 use Rattle.std.specs.Cmp.{IsEquivalence}
 use mathlib.Core.List.{IsPrefix}
@@ -101,7 +102,7 @@ module _ {K V S H : Type 0} (eq : K → K → Bool) (input : K → List (List �
           (barren eq input build write finish classes respects b matches query lawful k name begun v log since s.now m table last kept made taken put
           fresh r (Ask_exchange Made_word old new) asks tt Exchanged fresh)
 
-      -- another call was first, and the call was told how many are taken
+      -- another call was first, and the call received how many are taken
       pub number_lost : (found == old) ≡ false → Under log (after m (answers.Call (Found_instead found))) table last kept made taken put fresh
       number_lost is =
           let same = subst After is s.after in
@@ -120,6 +121,6 @@ module _ {K V S H : Type 0} (eq : K → K → Bool) (input : K → List (List �
                 taken put fresh r (Ask_exchange Made_word old new) asks tt (Found_instead found) fresh;
           }) (held_later v log pre r.number table r.holds_table) r.last_placed r.made_placed
 
-      -- so it is as many as the log says
+      -- so it is the count in the log
       pub number_found : (found == old) ≡ false → (state_of log).made ≡ found
       number_found is = let same = subst After is s.after in ap (λ (z : List (Event K V S)). (state_of z).made) same ∙ s.is

@@ -19,7 +19,7 @@ module _ {K V : Type 0} where
 
 module _ {K V : Type 0} (eq : K → K → Bool) (classes : IsEquivalence eq) (key : K) (value : V) (old new : List (Change K (Stored K V)))
     (q : Stored K V) (value_is : q.value.value ≡ value) where
-  -- it was put in where none was
+  -- it was put in although none was there
   put_none : (taken : Option (Stored K V)) → taken ≡ None → key_of q ≡ key → IsChangeOf (eq key) old new taken (Some q) → IsPut eq key value old new None
   put_none taken none key_is c = record {
     before = c.before;
@@ -35,7 +35,7 @@ module _ {K V : Type 0} (eq : K → K → Bool) (classes : IsEquivalence eq) (ke
       → IsPut eq key value old new None
   traded_none key_is taken same c = put_none taken (met_none taken same) key_is c
 
-  -- or in the place of a pair, the value of which is answered
+  -- or it replaced a pair, whose value is returned
   pub traded_some : (met : Stored K V) (answer : Bor V) → answer.now ≡ met.value.value → (taken : Option (Stored K V)) → AreSame (Some met) taken
       → IsChangeOf (eq key) old new taken (Some q) → IsPut eq key value old new (Some answer)
   traded_some met answer now None same c = let e = same in absurd (cc e)

@@ -64,7 +64,7 @@ use Rattle.papaya_map_change.proofs.Taking.{number_found, number_lost, number_ta
 use Rattle.papaya_map_lookup.proofs.Readings.{IsQuery}
 use Rattle.papaya_map_change.proofs.Written.{Writing, WritingOn, goes_on, own_query}
 
--- such a call that begins, with its key and its value as they are handed in
+-- such a call that begins, with the key and the value that were passed in
 pub begins : {K V S H : Type 0} (eq : K → K → Bool) (hash : S → K → ℕ) (b : Begun K V S) (name : Book) (key : K) (log : List (Event K V S))
     (w : Writer K V S H) → IsLawfulLog eq hash b log → (task : Task) (initial : ℕ) → w.call.machine ≡ started task (hash b.hasher key) b.mode initial 0 b.limit
     → (w.call.table ≡ None) × (w.call.copier.fresh ≡ None) → (w.call.copier.last ≡ None) × (w.call.copier.kept ≡ None) × (w.call.taken ≡ None) × (w.call.put ≡ None)
@@ -77,7 +77,7 @@ begins eq hash b name key log w l task initial machine table pairs own valued = 
   put_placed = rw pairs.3 tt;
 }
 
--- what holds of a pair that is put in for an empty slot, or for a pair, by the kind of the exchange
+-- a property of a pair that is put in for an empty slot, or for a pair, by the kind of the exchange
 module _ (X Y : Type 0) where
   claimed_as : (b : Bool) (kind : Option StepKind) → kind ≡ Some (cond b kinds.Claim kinds.Replace) → MatchBool b X Y → kind ≡ Some kinds.Claim → X
   claimed_as true kind is x claims = x
@@ -87,7 +87,7 @@ module _ (X Y : Type 0) where
   replaced_as true kind is x replaces = absurd (let f = sym is ∙ replaces in cc f)
   replaced_as false kind is y replaces = y
 
--- a load of how many numbers for pairs were taken tells that
+-- a load of how many numbers for pairs were taken returns that
 taken_at : {K V S : Type 0} (eq : K → K → Bool) (hash : S → K → ℕ) (b : Begun K V S) (name : Book) (log : List (Event K V S)) (at : At) (word : ℕ)
     (table table' : Option (Bor Sheet)) (last last' : Option (Stored K V)) → IsLoaded eq hash b name at word log table table' last last'
     → IsNumberAsk (Load at) → (state_of log).made ≡ word
@@ -115,7 +115,7 @@ module _ {K V S H : Type 0} (eq : K → K → Bool) (input : K → List (List �
     m = w.call.machine
 
     module _ (valid : IsValid m) where
-      -- what its call may ask
+      -- the asks that its call may make
       may_ask : (ask : Ask) → ask_of m ≡ Call ask → MayAsk m.call.task (calls.kind_of_ask m.call) ask
       may_ask ask asks = subst (λ (a : Ask). MayAsk m.call.task (calls.kind_of_ask m.call) a) (call_asks m ask asks).1 (asked_of_task m.call valid.call)
 
@@ -124,7 +124,7 @@ module _ {K V S H : Type 0} (eq : K → K → Bool) (input : K → List (List �
       load_held at asks = load_table eq input build write finish classes respects b (eq key) (input key) query (Some key) name begun log m
           w.call.table w.call.copier.last w.call.copier.kept made w.call.taken w.call.put w.call.copier.fresh r.calling at asks (may_ask (Load at) asks)
 
-      -- a root is opened where there is none
+      -- a root is opened if there is none
       module _ (old new : ℕ) (asks : ask_of m ≡ Call (Ask_exchange Root old new)) where
         abbrev kind_open : kind_of_ask m ≡ Some kinds.Open
         kind_open = own_kind m (call_asks m (Ask_exchange Root old new) asks).0 ∙ (may_ask (Ask_exchange Root old new) asks).1
@@ -136,7 +136,7 @@ module _ {K V S H : Type 0} (eq : K → K → Bool) (input : K → List (List �
         pub opening : IsFresh b name log new w.call.copier.fresh
         opening = r.calling.brings new (subst (λ (a : Chain_ask). IsBringing a new) (sym asks_zero) (refl, refl))
 
-        -- what is at hand is that table, with its seal
+        -- the table at hand is that table, with its seal
         pub opening_of : (t : Where Sheet) (seal : Pen) → w.call.copier.fresh ≡ Some (t, seal) → (number_of t ≡ new) × IsMade t.value log
             × IsPlaced b (Some name) (names.Table t) × (seal.book ≡ name) × (seal.nib ≡ nib may_write t.value.seal 0)
         opening_of t seal e =
@@ -176,7 +176,8 @@ module _ {K V S H : Type 0} (eq : K → K → Bool) (input : K → List (List �
         taking = take_can eq input build write finish classes respects b (eq key) (input key) query (Some key) name begun log m w.call.table
             w.call.copier.last w.call.copier.kept made w.call.taken w.call.put w.call.copier.fresh r.calling old new asks kind_take
 
-        -- after it was tried the call relies on what holds, and it was told how many are taken where another was first
+        -- after the attempt the call relies on facts that hold, and has received how many are taken
+        -- if another was first
         module _ (log' : List (Event K V S)) (found : ℕ) (state : Option (Named K V))
             (tried : IsTried eq hash b Made_word (kind_of_ask m) old new None names.Nothing log found log' state) where
           abbrev Tells : Bool → Answer → Type 0
@@ -219,7 +220,7 @@ module _ {K V S H : Type 0} (eq : K → K → Bool) (input : K → List (List �
         (goes_on eq input build write finish classes respects b name key made begun log w r made log'
         (record w { call = record w.call { table = c.table; copier = record w.call.copier { last = c.copier.last } } }) (Word_read word) r.keyed r.valued tt calling r.put_placed)
 
-    -- how many numbers for pairs were taken is told
+    -- the number of numbers for pairs that were taken was received
     pub loaded_tells : (log' : List (Event K V S)) (at : At) (word : ℕ) (c : Driver K V S H) → ask_of m ≡ Call (Load at)
         → IsLoaded eq hash b name at word log' w.call.table c.table w.call.copier.last c.copier.last → IsTakenCount log' (calls.ask_of m.call) (Word_read word)
     loaded_tells log' at word c asks is number count says =
@@ -260,7 +261,7 @@ module _ {K V S H : Type 0} (eq : K → K → Bool) (input : K → List (List �
         (size_table eq input build write finish classes respects b (eq key) (input key) query (Some key) name begun log m w.call.table w.call.copier.last
         w.call.copier.kept made w.call.taken w.call.put w.call.copier.fresh r.calling t asks)
 
-    -- its size was told
+    -- its size was received
     pub sized_on : (t : ℕ) (lent : Bor Sheet) → w.call.table ≡ Some lent → (slots limit : ℕ) → slots ≡ length lent.now.slots → limit ≡ lent.now.limit
         → IsSize slots limit → ask_of m ≡ Call (SizeOf t) → On log w (Size slots limit)
     sized_on t lent has slots limit slots_is limit_is size asks =
@@ -291,15 +292,15 @@ module _ {K V S H : Type 0} (eq : K → K → Bool) (input : K → List (List �
       relying = call_relies eq input build write finish classes respects b (eq key) (input key) query (Some key) name begun log m w.call.table
           w.call.copier.last w.call.copier.kept made w.call.taken w.call.put w.call.copier.fresh r.calling
 
-      -- where a pair is put in, it is claimed for an empty slot, and else takes the place of another
+      -- a pair that is put in is claimed for an empty slot, or replaces another
       kind_at : IsPutting (kind_of_ask m) → kind_of_ask m ≡ Some (cond (old == 0) kinds.Claim kinds.Replace)
       kind_at kind = let same = own_kind m its_own.0 in same ∙ asked_kind m.call t i old new its_own.1 (subst IsPutting same kind)
 
-      -- one that is claimed has the call's key, where it may stand there
+      -- a pair that is claimed has the call's key, if it may be put there
       pub claims_own : IsPutting (kind_of_ask m) → (q : Stored K V) → MayOverwrite log key t i old q → kind_of_ask m ≡ Some kinds.Claim → key_of q ≡ key
       claims_own kind q stands claims = claimed_as _ _ (old == 0) (kind_of_ask m) (kind_at kind) stands claims
 
-      -- a pair may be put in that may stand there, where one of its number was asked for
+      -- a pair that may be put there may be put in, if one of its number was asked for
       pub put_can : IsPutting (kind_of_ask m) → (q : Stored K V) → MayOverwrite log key t i old q → pair_of new ≡ q.index
           → CanExchange eq hash b (Slot t i) (kind_of_ask m) old new (Some q) (names.Pair q) log
       put_can kind q stands number =
@@ -322,12 +323,12 @@ module _ {K V S H : Type 0} (eq : K → K → Bool) (input : K → List (List �
           m.call (call_loaded eq input build write finish classes respects b (eq key) (input key) query (Some key) name begun w.call.copier.last made)
           relying t i old new its_own.1 (sym same ∙ kind))
 
-      -- what is put in is one of the pairs that were made, or none
+      -- a pair that is put in is one of the pairs that were made
       put_is_placed : (put : Option (Stored K V)) → ((q : Stored K V) → put ≡ Some q → IsOneOf made q) → IsPlaced b (Some name) (pair_named put)
       put_is_placed None own = tt
       put_is_placed (Some q) own = r.calling.made_placed q (own q refl)
 
-      -- An exchange was tried that puts in one of the pairs that were made, or none.
+      -- There was an attempt at an exchange that puts in one of the pairs that were made, or none.
       module _ (put : Option (Stored K V)) (own : (q : Stored K V) → put ≡ Some q → IsOneOf made q)
           (claims : kind_of_ask m ≡ Some kinds.Claim → (q : Stored K V) → put ≡ Some q → key_of q ≡ key) (log' : List (Event K V S)) (found : ℕ)
           (pair : Option (Stored K V)) (s : IsSlotTried eq hash b name t i (kind_of_ask m) old new put (pair_named put) log found log' pair) where
@@ -350,7 +351,7 @@ module _ {K V S H : Type 0} (eq : K → K → Bool) (input : K → List (List �
             w.call.copier.kept made w.call.taken w.call.put w.call.copier.fresh r.calling t i old new found put pair asks s is)
             r.put_placed
 
-        -- as the call holds it afterwards
+        -- the state of the call afterwards
         abbrev AfterTried : Bool → Driver K V S H → Answer → Type 0
         AfterTried z c answer = MatchBool z ((answer ≡ Exchanged) × (c ≡ record w.call { taken = pair; put = put }))
             ((answer ≡ Found_instead found) × (c ≡ record w.call { copier = record w.call.copier { last = or_last pair w.call.copier.last } }))

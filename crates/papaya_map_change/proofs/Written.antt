@@ -1,4 +1,5 @@
--- After each answer a call that inserts again relies on what holds, by its key and with the pairs that it has made.
+-- After each answer a call that inserts again relies on facts that hold, with its key and the pairs
+-- that it has made.
 use Rattle.std.proofs.Common.{◌≡◌, ◌⊎◌, inl, inr, ⊎_elim, ℕ, ◌<◌, ◌^◌, Bool, true, Option, Some, List, [], ◌∷◌, append-nil, refl, sym, ap, ◌∙◌, subst, arith}
 use Rattle.std.specs.Cmp.{IsEquivalence}
 use mathlib.Core.List.{IsPrefix}
@@ -38,14 +39,14 @@ use Rattle.papaya_map_change.proofs.Changing.{barren, compared, held_later, quie
 use Rattle.papaya_map_change.proofs.StepsOfOwn.{own_brings}
 use Rattle.papaya_map_lookup.proofs.Readings.{IsQuery}
 
--- what a call relies on doesn't depend on what it was given
+-- the facts that a call relies on don't depend on the failures so far
 module _ {K V S H : Type 0} (eq : K → K → Bool) (hash : S → K → ℕ) (b : Begun K V S) (name : Book) (key : K) (made : List (Stored K V))
     (begun log : List (Event K V S)) (w : Writer K V S H) (given : Rattle.papaya_map_book.specs.declared.rule.own.OwnSteps.OwnSteps CapacityCause) where
   pub with_given : (answer : Answer) → IsWritingOn eq hash b name key made begun log w answer
       → IsWritingOn eq hash b name key made begun log (record w { call = record w.call { copier = record w.call.copier { given = given } } }) answer
   with_given answer on = (record { calling = on.0.calling; keyed = on.0.keyed; valued = on.0.valued; put_placed = on.0.put_placed }, on.1)
 
--- an answer to an ask for something made
+-- an answer to an ask to make a part
 abbrev pub IsPlainAnswer : Answer → Type 0
 IsPlainAnswer (Made_number n) = n < 2 ^ 48
 IsPlainAnswer (Was_refused refused) = Unit {0}
@@ -63,7 +64,7 @@ plain_fit (Made_number n) p = p
 plain_fit Ok_done p = tt
 plain_fit (Was_refused refused) p = tt
 
--- such an answer says whether anything was made
+-- such an answer states whether anything was made
 abbrev pub IsMakeAnswer : Answer → Type 0
 IsMakeAnswer answer = (((refused : Refused) × (answer ≡ Was_refused refused)) ⊎ (answer ≡ Ok_done)) ⊎ ((n : ℕ) × (answer ≡ Made_number n))
 
@@ -102,7 +103,7 @@ module _ {K V S H : Type 0} (eq : K → K → Bool) (input : K → List (List �
       abbrev IsGoing : List (Event K V S) → List (Stored K V) → Writer K V S H → Type 0
       IsGoing log' made' w' = IsDriven eq hash b name (eq key) (hash b.hasher key) (Some key) begun log' made' w'.call
 
-      -- it goes on with the key and the value that it has
+      -- it continues with the key and the value that it has
       pub goes_on : (made' : List (Stored K V)) (log' : List (Event K V S)) (w' : Writer K V S H) (answer : Answer) → HasKey b name key w'.key
           → HasValue b name w'.value → IsFit answer
           → IsGoing log' made' (record w' { call = record w'.call { machine = after w'.call.machine (answers.Call answer) } })
@@ -142,7 +143,7 @@ module _ {K V S H : Type 0} (eq : K → K → Bool) (input : K → List (List �
           }) r.calling.holds_table r.calling.last_placed r.calling.made_placed)
           r.put_placed
 
-      -- the pair was not logged
+      -- the pair was not stored in the arena
       abbrev pub IsNotStored : Answer → Type 0
       IsNotStored answer = ((refused : Refused) × (answer ≡ Was_refused refused)) ⊎ (answer ≡ Ok_done)
 
@@ -181,7 +182,7 @@ module _ {K V S H : Type 0} (eq : K → K → Bool) (input : K → List (List �
             }) r.calling.holds_table r.calling.last_placed r.calling.made_placed)
             r.put_placed
 
-        -- the pair was logged
+        -- the pair was stored in the arena
         module _ (q : Stored K V) (low : q.index < 2 ^ 48) (placed : IsPlaced b (Some name) (names.Pair q)) where
           one_placed : (p : Stored K V) → IsOneOf (q ∷ made) p → IsPlaced b (Some name) (pair_named (Some p))
           one_placed p one = ⊎_elim (λ is. subst (λ (z : Stored K V). IsPlaced b (Some name) (names.Pair z)) (sym is) placed)
@@ -230,7 +231,7 @@ module _ {K V S H : Type 0} (eq : K → K → Bool) (input : K → List (List �
           w.call.copier.kept made w.call.taken w.call.put w.call.copier.fresh r.calling n same is asks)
           r.put_placed
 
-      -- what it was told of a table that was to be made
+      -- the answer to an ask to make a table
       table_told : (log' : List (Event K V S)) → IsPrefix log log' → IsLawfulLog eq hash b log'
           → (slots limit chunks : ℕ) (answer : Answer) (fresh : Option (Where Sheet × Pen)) → ask_of m ≡ Call (MakeTable slots limit chunks)
           → (((refused : Refused) × (answer ≡ Was_refused refused)) ⊎ (answer ≡ Ok_done)) ⊎ ((n : ℕ) × (0 < n) × (answer ≡ Made_number n))

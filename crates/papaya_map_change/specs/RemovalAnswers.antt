@@ -25,7 +25,7 @@ gives_value _ = false
 
 module _ {K V : Type 0} (eq : K → K → Bool) (matches : K → Bool)
     (old new : List (Change K (Stored K V))) where
-  -- The call's change gives_value out this entry, and put none in.
+  -- The call's change took out this entry, and put none in.
   abbrev pub IsTaken : Stored K V → Type 0
   IsTaken p = IsChangeOf matches old new (Some p) None
 

@@ -1,4 +1,5 @@
--- A compute whose closure has returned a value makes a pair of it next, whatever its machine receives meanwhile, or is over.
+-- A compute whose closure has returned a value makes a pair of it next, whatever its machine
+-- receives meanwhile, or is over.
 use Rattle.std.proofs.Common.{◌≡◌, ℕ, Some, refl, sym, subst}
 use Rattle.papaya_words.specs.declared.refused.Refused.{Refused}
 use Rattle.papaya_call.specs.declared.ask.Ask.{Ask}
@@ -50,11 +51,11 @@ silent_no_pair (AddToShard by) silent makes = makes
 silent_no_pair (Done reply) silent makes = makes
 
 module _ (m : Machine) where
-  -- the same in another stage
+  -- the same machine in another state
   abbrev at_stage : State → Machine
   at_stage stage = record m { state = stage }
 
-  -- something else than the pair was made
+  -- the machine received another answer than that the pair was made
   paired_answered : (purpose : Purpose) (n : ℕ) → IsAnswered (Pairing purpose) → IsSilent (pair_ask m.made (in_place_of purpose)) → (G : Grown)
       → grown m.made (in_place_of purpose) ≡ G → IsAnswered (paired G purpose n)
   paired_answered purpose n waits silent (On made) is = waits
@@ -74,7 +75,7 @@ module _ (m : Machine) where
   pub answered_on : (answer : Answer) → IsSilent (ask_of m) → IsAnswered m.state → IsAnswered (after m answer).state
   answered_on answer silent waits = answered_in m.state answer waits silent
 
-  -- where no pair was made
+  -- if no pair was made
   refused_in : (stage : State) (refused : Refused) → IsAnswered stage → IsAnswered (after (at_stage stage) (Was_refused refused)).state
   refused_in (Pairing purpose) refused waits = tt
   refused_in (Ended reply) refused waits = tt
@@ -100,7 +101,8 @@ module _ (m : Machine) where
   pub answered_stays : (t : ℕ) → IsAnswered m.state → ask_of m ≡ Load (Next t) → ⊥
   answered_stays t waits e = next_in m.state t waits e
 
-  -- The closure answers now. Where it is shown that there is none, it is answered in any case.
+  -- The closure has just returned. If it was called with None, the machine is in such a state in
+  -- any case.
   none_in : (stage : State) (kind : OpKind) → asks m.made m.hash stage ≡ ShowNone → IsAnswered (after (at_stage stage) (Op kind)).state
   none_in (Offering gap) ops.Insert e = tt
   none_in (Offering gap) ops.Remove e = tt
@@ -132,7 +134,7 @@ module _ (m : Machine) where
   pub answered_pair : (n : ℕ) (kind : OpKind) → m.task ≡ Compute → (kind ≡ ops.Remove → ⊥) → ask_of m ≡ ShowPair n → IsAnswered (after m (Op kind)).state
   answered_pair n kind is stays e = subst (λ (t : Task). IsAnswered (after (record m { task = t }) (Op kind)).state) (sym is) (pair_in m.state n kind stays e)
 
--- one that is set aside has no newer answer
+-- a call that is set aside has no newer result of its closure
 pub answered_aside : (stage : State) (t : ℕ) → left_by stage ≡ Some t → IsAnswered stage → ⊥
 answered_aside (Leaving u) t e waits = waits
 answered_aside (Growing need) t e waits = waits

@@ -1,4 +1,5 @@
--- A pair that was stored for a place that a search had found: what the call has done if it was put in, and where the machine starts if not.
+-- A pair that was stored in the arena for a place that a search had found: the call's own steps if
+-- it was put in, and the machine's first state if not.
 use Rattle.std.proofs.Common.{◌≡◌, ℕ, inl, Bool, true, false, Option, None, Some, Result, Ok, Err, List, [], ◌∷◌, append-nil, refl, sym, ap, ◌∙◌, subst}
 use Rattle.std.specs.Cmp.{IsEquivalence}
 use Rattle.papaya_words.specs.declared.refused.Refused.{Refused as Cause}
@@ -39,11 +40,11 @@ use Rattle.papaya_map_compute.specs.declared.fast_path.Attempt.TheVariants.{Over
 use Rattle.papaya_map_compute.specs.declared.fast_path.Start.TheVariants.{Filled, Replaced}
 use Rattle.papaya_map_compute.proofs.Found.{none_found, pair_found, pair_live, pair_placed}
 
--- nothing more was seen
+-- a window observes no less than itself
 pub unseen : {K V S H : Type 0} {d : keyed.Ghosts S K H} (w : Window K V S H d) → Sees w w
 unseen w = record { book = refl; log = ([], append-nil w.sight.log) }
 
--- what it has come to that has tried to put in such a pair
+-- the outcome of a call that has tried to put in such a pair
 module _ {K V S H A B C : Type 0} {d : keyed.Ghosts S K H} (changed : Result A Cause → Bool) (is_right : Result A Cause → Type 0) (may_start : C → Type 0)
     (w then : Window K V S H d) (key : K) (value : V) (x : Tried K V B) (tried : HasTried key value w then x) where
   -- the call is over, and has put it in or has not
@@ -59,7 +60,7 @@ module _ {K V S H A B C : Type 0} {d : keyed.Ghosts S K H} (changed : Result A C
     starts = tt;
   }
 
-  -- its machine goes on
+  -- its machine continues
   pub comes_lost : is_put x ≡ false → (start : C) → may_start start → ComesTo changed is_right may_start w then (On start)
   comes_lost put start may = record {
     sees = tried.sees;
@@ -85,7 +86,7 @@ comes_idle changed is_right may_start w lawful answer is right = record {
   starts = tt;
 }
 
--- what a map takes of its keys' type and its hasher's
+-- the operations that a map takes from its keys' type and its hasher's
 abbrev given : {K S H : Type 0} → (K → K → Bool) → (K → List (List ℕ)) → (S → H) → (H → List ℕ → H) → (H → ℕ) → keyed.Ghosts S K H
 given eq input build write finish = record { keys = record { eq = eq; hash = hash_of input build write finish } }
 
@@ -99,7 +100,7 @@ module _ {K V S H : Type 0} (eq : K → K → Bool) (input : K → List (List �
     held_since held was = held_wider eq (eq key) (history_of begun) (history_of begun) (past w) (past then) ([], append-nil (history_of begun))
         (history_since w.sight.log then.sight.log sees.log) held was
 
-    -- where the search found an empty place
+    -- if the search found an empty place
     module _ (at : Place) (found : IsFoundAt w key begun table (Empty at)) where
       pub none_since : Held None
       none_since = held_since None (none_found eq input build write finish classes respects (begun_of w.book.now.parts) w.book.now.begun.book key begun
@@ -130,7 +131,7 @@ module _ {K V S H : Type 0} (eq : K → K → Bool) (input : K → List (List �
             (none_since, tt),
           )
 
-    -- where it met a live pair
+    -- if it met a live pair
     module _ (met : Met K V) (found : IsFoundAt w key begun table (MetPair met)) where
       pub met_placed : IsIn w (names.Pair met.stored)
       met_placed = pair_placed eq input build write finish classes respects (begun_of w.book.now.parts) w.book.now.begun.book key begun w.sight.log table

@@ -1,4 +1,5 @@
--- A compute over a chain of tables: what it remembers of the pair that it made to replace another, and where it puts that pair.
+-- A compute over a chain of tables: the pair that it remembers to have made to replace another, and
+-- the place where it puts that pair.
 use Rattle.std.proofs.Common.{◌≡◌, ◌⊎◌, inl, inr, ⊎_elim, ℕ, Some, sym, ap, ◌∙◌, subst}
 use Rattle.papaya_call.specs.declared.call.Task.TheVariants.{Compute}
 use Rattle.papaya_call.specs.declared.compute.Choice.TheVariants.{Replace as To_replace}
@@ -15,7 +16,7 @@ use Rattle.papaya_map_compute.specs.Putting.{PutsChosen}
 use Rattle.papaya_map_compute.proofs.ChosenSlots.{machine_choice, machine_puts, puts_anew}
 
 module _ (m : Machine) (answer : Answer) (order : IsInOrder m answer m.phase) where
-  -- what it puts in the place of a pair was made for that slot
+  -- a pair that it puts in the place of another was made for that slot
   pub chain_puts : m.call.task ≡ Compute → calls.IsValid m.call → PutsChosen m.call → PutsChosen (after m answer).call
   chain_puts is valid puts = elim (machine_goes m answer order) [
     | inl waits ↦ subst PutsChosen (sym waits.call) puts
@@ -25,7 +26,7 @@ module _ (m : Machine) (answer : Answer) (order : IsInOrder m answer m.phase) wh
     | inr (inr (inr (inr ends))) ↦ subst PutsChosen (sym ends.call) tt
   ]
 
-  -- what it remembers it did before, or a pair was made now
+  -- it remembered this before, or a pair was made now
   pub chain_choice : (old : ℕ) (new : Of) → (after m answer).call.remembered.choice ≡ Some (To_replace old new)
       → (m.call.remembered.choice ≡ Some (To_replace old new)) ⊎ (IsOwnStep m answer × MakesPair (calls.ask_of m.call))
   chain_choice old new e = elim (machine_goes m answer order) [

@@ -55,7 +55,7 @@ use Rattle.papaya_call_law.proofs.NewWords.{pair_of-live_word}
 use Rattle.papaya_call_law.specs.Says.{MakesPair}
 use Rattle.papaya_map_compute.specs.Putting.{PutsChosen, PutsIn}
 
--- one that fills takes the place of none
+-- a pair that fills replaces none
 fills_puts : (choice : Option Choice) (gap : Gap) (n : ℕ) → PutsIn choice (fills gap n)
 fills_puts choice NoRoot n = tt
 fills_puts choice (At place) n = λ (some : 0 < 0). absurd (omega (arith, some))
@@ -65,7 +65,7 @@ absent_puts : (choice : Option Choice) (fill : Option ℕ) (gap : Gap) → PutsI
 absent_puts choice None gap = tt
 absent_puts choice (Some n) gap = fills_puts choice gap n
 
--- one that is remembered serves in its slot alone
+-- a pair that is remembered is used in its slot alone
 serves_of : (new : Of) (at : Place) (word : ℕ) → serves_at new at.table at.probe.i ≡ true → new ≡ made_of (record { place = at; old = word }) new.pair
 serves_of new at word serves =
     let parts = and_parts (new.table == at.table) (new.index == at.probe.i) serves in
@@ -90,7 +90,7 @@ recalls_puts (Some (To_remove old)) at word =
     cond_both (old == pair_of word) (Burying (record { place = at; word = word })) (Showing (record { place = at; word = word }))
     (PutsIn (Some (To_remove old))) (λ _. tt) (λ _. tt)
 
--- so it is where a pair is met
+-- it is so if a pair is met
 computes_puts : (kd : Kind) (held : Remembered) (at : Place) (word : ℕ) → PutsIn held.choice (computes kd held at word)
 computes_puts word_kinds.Empty held at word = tt
 computes_puts word_kinds.Live held at word = recalls_puts held.choice at word
@@ -106,7 +106,7 @@ goes_puts mode held (seen.Empty at) = absent_puts held.choice held.fill (At at)
 goes_puts (Incremental chunk) held (seen.Over t) = tt
 goes_puts Blocking held (seen.Over t) = absent_puts held.choice held.fill (After t)
 
--- and where a table has no pair of the key
+-- and if a table has no pair of the key
 root_puts : (choice : Option Choice) (fill : Option ℕ) (word : ℕ) → PutsIn choice (at_root Compute fill word)
 root_puts choice fill word = cond_both (word == 0) (absent Compute fill NoRoot) (Searching (Sizing word)) (PutsIn choice)
     (λ _. absent_puts choice fill NoRoot) (λ _. tt)
@@ -127,7 +127,7 @@ pairing_puts held (Replace write) n (Pair made) = λ some. refl
 pairing_puts held (Again write) n (Pair made) = λ some. refl
 
 module _ (m : Machine) where
-  -- the compute in another stage
+  -- the compute in another state
   abbrev on : Made → State → Machine
   on made stage = record m { task = Compute; made = made; state = stage }
 
@@ -173,17 +173,17 @@ module _ (m : Machine) where
   puts_in made (Ended reply) Exchanged is h = tt
   puts_in made (Ended reply) answer is h = tt
 
-  -- of a compute
+  -- for the whole machine of a compute
   pub machine_puts : (answer : Answer) → m.task ≡ Compute → IsValid m → PutsChosen m → PutsChosen (after m answer)
   machine_puts answer is valid h = subst (λ t. IsValidState t m.state → PutsChosen (after (record m { task = t }) answer)) (sym is)
       (λ s. puts_in m.made m.state answer s h) valid.state
 
--- so does one that is told of the root as one that begins
+-- so does a compute that receives the root and starts again
 pub puts_anew : (m : Machine) (root : ℕ) → m.task ≡ Compute → PutsChosen (after (record m { state = AtRoot }) (Word_read root))
 puts_anew m root is = subst (λ (t : Task). PutsIn m.remembered.choice (at_root t m.remembered.fill root)) (sym is)
     (root_puts m.remembered.choice m.remembered.fill root)
 
--- What is remembered is what was before, or a pair was made now.
+-- It remembered this before, or a pair was made now.
 made_choice : (made : Made) (held : Remembered) (purpose : Purpose) (n : ℕ) (G : Grown) → grown made (in_place_of purpose) ≡ G
     → (paired_held G held purpose n).choice ≡ held.choice ⊎ MakesPair (pair_ask made (in_place_of purpose))
 made_choice made held purpose n (On next) is = inl refl
@@ -219,7 +219,7 @@ module _ (m : Machine) (old : ℕ) (new : Of) where
   machine_choice Ok_done e = inl e
   machine_choice (Was_refused refused) e = inl e
 
--- Where it asks to put a pair in the place of another, it made that for this slot.
+-- A pair that it asks to put in the place of another was made for this slot.
 pub record IsForSlot (m : Machine) (t x old new : ℕ) : Type 0 where
   pub of : Of
   pub choice : m.remembered.choice ≡ Some (To_replace (pair_of old) of)
@@ -246,7 +246,7 @@ module _ (m : Machine) (t x old new : ℕ) where
         index = index;
       }
 
-  -- in each stage
+  -- in each state
   slot_in : (stage : State) → IsValidState Compute stage → PutsIn m.remembered.choice stage
       → asks m.made m.hash stage ≡ Ask_exchange (Slot t x) old new → kind_asked m.made stage ≡ Some kinds.Replace → 0 < old → ForSlot stage
   slot_in (Putting put) is puts e kind some = put_slot put puts e some

@@ -1,4 +1,4 @@
--- A compute goes on after an answer for which its closure is not called and no pair is made.
+-- A compute continues after an answer for which its closure is not called and no pair is made.
 use Rattle.std.proofs.Common.{◌≡◌, ◌⊎◌, inl, inr, ⊎_elim, ℕ, ℤ, Bool, true, Option, None, Some, List, [], append-nil, refl, sym, ap, ◌∙◌, subst}
 use Rattle.std.specs.Cmp.{IsEquivalence}
 use mathlib.Core.List.{IsPrefix}
@@ -60,7 +60,7 @@ use Rattle.papaya_map_compute.proofs.AnsweredValues.{answered_on, answered_stays
 use Rattle.papaya_map_compute.proofs.ChosenChains.{chain_choice, chain_puts}
 use Rattle.papaya_map_compute.proofs.ComputeOwn.{own_aborted, own_step}
 
--- what any call asks that inserts is silent
+-- each ask of a call that inserts is silent
 pub writers_silent : (ask : Ask) → IsWriters ask → IsSilent ask
 writers_silent (Load at) h = tt
 writers_silent (Exchange Root old new) h = tt
@@ -83,7 +83,7 @@ writers_silent (MakeTable slots limit chunks) h = tt
 writers_silent (AddToShard by) h = absurd h
 writers_silent (Done reply) h = absurd h
 
--- what it asks that is none of these
+-- the remaining asks of a compute
 pub record IsOther (ask : Ask) : Type 0 where
   pub hint : (t x hint : ℕ) → ask ≡ WriteHint t x hint → ⊥
   pub none : ask ≡ ShowNone → ⊥
@@ -116,13 +116,13 @@ left_by_task task kind (MakeTable slots limit chunks) may other = tt
 left_by_task task kind (AddToShard by) may other = absurd (other.adds by refl)
 left_by_task task kind (Done reply) may other = absurd (other.done reply refl)
 
--- is what any call asks that inserts
+-- are asks of any call that inserts
 pub left_to_write : (m : Machine) → IsValid m → (ask : Ask) → ask_of m ≡ Call ask → IsOther ask → IsWriters ask
 left_to_write m valid ask asks other = left_by_task m.call.task (calls.kind_of_ask m.call) ask
     (subst (λ (a : Ask). MayAsk m.call.task (calls.kind_of_ask m.call) a) (call_asks m ask asks).1 (asked_of_task m.call valid.call)) other
 
 module _ {K V S H T : Type 0} (key : K) (made : List (Stored K V)) (said : List (Option (Stored K V) × Operation V T)) (x : Computing K V S T H) where
-  -- what is at hand stays so, whatever else the writer does, while it keeps the value
+  -- the pairs at hand stay, whatever else the writer does, while it keeps the value
   pub holds_still : (w : Writer K V S H) → w.value ≡ x.writer.value → (stands : ClosureResult) → Holds key made said x stands
       → Holds key made said (record x { writer = w }) stands
   holds_still w same (Agrees n agrees) h = h
@@ -133,7 +133,7 @@ module _ {K V S H T : Type 0} (key : K) (made : List (Stored K V)) (said : List 
   holds_still w same (Removes n) h = h
 
 module _ {K V S H T : Type 0} (x : Computing K V S T H) where
-  -- and so does the newest of what it made
+  -- and so does the newest pair that it made
   pub newest_still : (w : Writer K V S H) → held_value w.value ≡ held_value x.writer.value → IsNewest x → IsNewest (record x { writer = w })
   newest_still w same h = record { shown = h.shown; made = (h.made.0, h.made.1, same ∙ h.made.2) }
 
@@ -154,7 +154,7 @@ module _ {K V S H : Type 0} (eq : K → K → Bool) (input : K → List (List �
     abbrev pub m : Machine
     m = x.writer.call.machine
 
-    -- what the closure was shown was held, over a longer log
+    -- the closure's argument was held, over a longer log
     abbrev pub HeldOn : List (Event K V S) → Option (Stored K V) → Type 0
     HeldOn log' held = WasHeld eq (eq key) (history_of begun) (history_of log') held
 
@@ -178,28 +178,28 @@ module _ {K V S H : Type 0} (eq : K → K → Bool) (input : K → List (List �
       never : ask_of m ≡ Call ShowNone → ⊥
       never e = not_show m.call answer silent None (call_asks m ShowNone e).1
 
-      -- whether it was shown that there is none
+      -- whether the closure was called with None
       none_later : HasNoNone heard ⊎ HasCalledNone m.call.remembered.fill m.call.state → HasNoNone heard
           ⊎ HasCalledNone (after m (answers.Call answer)).call.remembered.fill (after m (answers.Call answer)).call.state
       none_later h = ⊎_elim (λ none. inl none) (λ shown. inr (chain_once m (answers.Call answer) order shown).1) h
 
-      -- why it is refused: by what the answer says, or since no number is left for a pair
+      -- the cause of a failure: it is in the answer, or no number is left for a pair
       refused : (holds : Cause → Type 0) → ((cause : Cause) → answer ≡ Was_refused cause → holds cause) → (IsAtLimit m.call answer → holds Limit)
           → (cause : Cause) → ask_of (after m (answers.Call answer)) ≡ Call (Done (Refused cause)) → holds cause
       refused holds told spent = refused_for m own.0 answer holds never open_still told spent
 
-      -- a newer answer of its closure waits on
+      -- a newer result of its closure still waits
       waits_on : IsAnswered m.call.state → IsAnswered (after m (answers.Call answer)).call.state
       waits_on waits = subst (λ (z : Call_machine). IsAnswered z.state) (sym (own_step m own.0 answer (λ t e. answered_stays m.call t waits e)))
           (answered_on m.call answer silent waits)
 
-      -- the pair that it remembers is the one of before
+      -- the remembered pair is the previous one
       chosen_before : (old : ℕ) (new : Of) → (after m (answers.Call answer)).call.remembered.choice ≡ Some (To_replace old new)
           → m.call.remembered.choice ≡ Some (To_replace old new)
       chosen_before old new e = ⊎_elim (λ same. same) (λ makes. absurd (silent_no_pair (calls.ask_of m.call) silent makes.1))
           (chain_choice m (answers.Call answer) order old new e)
 
-      -- it goes on after an answer to a silent ask
+      -- it continues after an answer to a silent ask
       pub goes_on : (log' : List (Event K V S)) → IsPrefix log log' → (w : Writer K V S H) → w.call.machine ≡ m → w.value ≡ x.writer.value
           → IsWithoutResult w.call.copier.given.done answer → IsTakenCount log' (calls.ask_of m.call) answer → IsWritingOn eq hash b name key r.made begun log' w answer
           → ComputingOn log' (record x { writer = w }) heard (Some answer)
@@ -243,7 +243,7 @@ module _ {K V S H : Type 0} (eq : K → K → Bool) (input : K → List (List �
             on.1,
           )
 
-      -- so it does where it was not asked how many numbers for pairs were taken
+      -- so it does if it was not asked how many numbers for pairs were taken
       pub goes_untold : (IsNumberAsk ask → ⊥) → (log' : List (Event K V S)) → IsPrefix log log' → (w : Writer K V S H) → w.call.machine ≡ m
           → w.value ≡ x.writer.value → IsWithoutResult w.call.copier.given.done answer → IsWritingOn eq hash b name key r.made begun log' w answer
           → ComputingOn log' (record x { writer = w }) heard (Some answer)

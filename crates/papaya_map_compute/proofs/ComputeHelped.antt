@@ -1,4 +1,5 @@
--- A compute that was set aside is the same after the copy: the calls of its closure stay, and so does what was made of their results.
+-- A compute that was set aside is the same after the copy: the calls of its closure stay, and so do
+-- the pairs that were made from their results.
 use Rattle.std.proofs.Common.{◌≡◌, inl, inr, ⊎_elim, ℕ, Bool, true, Option, Some, List, [], append-nil, refl, sym, ap, ◌∙◌, subst}
 use Rattle.std.specs.Cmp.{IsEquivalence}
 use mathlib.Core.List.{IsPrefix}
@@ -47,7 +48,7 @@ use Rattle.papaya_map_compute.proofs.ChosenSlots.{puts_anew}
 use Rattle.papaya_map_compute.proofs.ComputeGoes.{holds_still, newest_still}
 
 module _ (m m' : Machine) (tables : List ℕ) (given : List CapacityCause) (helped : HasHelped m m' tables given) where
-  -- a closure that was shown that there is none has been shown it
+  -- if the closure was called with None, the machine still records that
   shown_kept : HasCalledNone m.call.remembered.fill m.call.state → HasCalledNone m'.call.remembered.fill m'.call.state
   shown_kept shown = elim helped [
     | inl same ↦ subst (λ (z : Machine). HasCalledNone z.call.remembered.fill z.call.state) (sym same) shown
@@ -59,7 +60,7 @@ module _ (m m' : Machine) (tables : List ℕ) (given : List CapacityCause) (help
     | inr (inr (inr h)) ↦ subst (λ (z : Call_machine). HasCalledNone z.remembered.fill z.state) (sym h.call) tt
   ]
 
-  -- what it is to put in was made for its slot
+  -- the pair that it is to put in was made for its slot
   puts_kept : m.call.task ≡ Compute → PutsChosen m.call → PutsChosen m'.call
   puts_kept is puts = elim helped [
     | inl same ↦ subst (λ (z : Machine). PutsChosen z.call) (sym same) puts
@@ -68,7 +69,7 @@ module _ (m m' : Machine) (tables : List ℕ) (given : List CapacityCause) (help
     | inr (inr (inr h)) ↦ subst PutsChosen (sym h.call) tt
   ]
 
-  -- what it remembers stays
+  -- it remembers the same pairs
   remembers : m'.call.remembered ≡ m.call.remembered
   remembers = elim helped [
     | inl same ↦ ap (λ (z : Machine). z.call.remembered) same
@@ -77,7 +78,7 @@ module _ (m m' : Machine) (tables : List ℕ) (given : List CapacityCause) (help
     | inr (inr (inr h)) ↦ ap (λ (z : Call_machine). z.remembered) h.call
   ]
 
-  -- one whose closure has answered is not set aside
+  -- a newer result of its closure still waits: a call with one is not set aside
   waits_kept : IsAnswered m.call.state → IsAnswered m'.call.state
   waits_kept waits = elim helped [
     | inl same ↦ subst (λ (z : Machine). IsAnswered z.call.state) (sym same) waits

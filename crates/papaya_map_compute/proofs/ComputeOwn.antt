@@ -1,4 +1,5 @@
--- A call over a chain that asks for itself: the step that an answer makes its call take, and why it aborts.
+-- A call over a chain in phase `Calling`: the step that an answer makes its call take, and the
+-- reason why it aborts.
 use Rattle.std.proofs.Common.{◌≡◌, inl, inr, ℕ, Option, sym, ap, ◌∙◌}
 use Rattle.papaya_call.specs.declared.ask.Answer.{Answer}
 use Rattle.papaya_call.specs.declared.ask.Answer.TheVariants.{Op}
@@ -24,7 +25,7 @@ module _ (m : Machine) (calling : m.phase ≡ Calling) (answer : Answer) where
   abbrev m' : Machine
   m' = after m (answers.Call answer)
 
-  -- its call goes a step of its own, where it doesn't load the number of a next table
+  -- its call takes a step of its own, unless it loads the number of a next table
   pub own_step : ((t : ℕ) → calls.ask_of m.call ≡ Load (Next t) → ⊥) → m'.call ≡ calls.after m.call answer
   own_step never = elim (own_went m calling answer) [
     | inl h ↦ h.0
@@ -32,7 +33,7 @@ module _ (m : Machine) (calling : m.phase ≡ Calling) (answer : Answer) where
     | inr (inr h) ↦ absurd (never h.0 (aside_asks m.call.made m.call.hash m.call.state h.0 h.2))
   ]
 
-  -- it aborts where its closure answered so that it was shown something
+  -- it aborts only after its closure was called and returned `Abort`
   pub own_aborted : (with : ℕ) → ((reply : Reply) → ask_of m ≡ Call (Done reply) → ⊥) → ask_of m' ≡ Call (Done (Aborted with)) → (shown : Option ℕ)
       × (calls.ask_of m.call ≡ show shown) × (answer ≡ Op (ops.Abort with))
   own_aborted with open_still e =

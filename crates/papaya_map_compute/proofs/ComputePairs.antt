@@ -1,4 +1,4 @@
--- A compute after a pair was made of what its closure returned, or was not.
+-- A compute after an attempt to make a pair from its closure's result.
 use Rattle.std.proofs.Common.{◌≡◌, ◌⊎◌, inl, inr, ⊎_elim, ℕ, Bool, true, Option, None, Some, List, ◌∷◌, refl, sym, ap, ◌∙◌, subst}
 use Rattle.std.specs.Cmp.{IsEquivalence}
 use Rattle.logbook.specs.Pages.{Book}
@@ -73,13 +73,13 @@ made_still : {K V T : Type 0} (key : K) (made : List (Stored K V)) (said : List 
     (held : Option (Stored K V)) (n : ℕ) (p : Stored K V) → IsMadeOf key made said held n p → IsMadeOf key (q ∷ made) said held n p
 made_still key made said q held n p h = record { number = h.number; made_is = inr h.made_is; key_is = h.key_is; said_is = h.said_is }
 
--- where a pair is asked for it is not asked how many numbers were taken
+-- an ask to make a pair does not ask how many numbers were taken
 pair_no_number : (ask : Ask) → MakesPair ask → IsNumberAsk ask → ⊥
 pair_no_number MakePair makes number = number
 pair_no_number (MakePairOf n) makes number = number
 pair_no_number ask makes number = absurd makes
 
--- an answer that logged no pair is no number
+-- an answer with which no pair was stored in the arena is no number
 unlogged_no_number : (answer : Answer) → IsNotStored answer → (n : ℕ) → answer ≡ Made_number n → ⊥
 unlogged_no_number answer unlogged n e =
     ⊎_elim (λ k. ⊎_elim (λ i. let g = sym i ∙ e in cc g) (λ i. let g = sym i ∙ e in cc g) k) (λ i. let g = sym i ∙ e in cc g) unlogged
@@ -94,7 +94,7 @@ module _ (m : Machine) (answer : Answer) (ask : Ask) (asks : ask_of m ≡ Call a
   pub order : IsInOrder m (answers.Call answer) m.phase
   order = own_order m own.0 answer
 
-  -- its call goes a step of its own
+  -- its call takes a step of its own
   pub steps : (after m (answers.Call answer)).call ≡ calls.after m.call answer
   steps = own_step m own.0 answer (λ t e. subst MakesPair e makes_own)
 
@@ -112,7 +112,7 @@ module _ (m : Machine) (answer : Answer) (ask : Ask) (asks : ask_of m ≡ Call a
   pub no_abort : (with : ℕ) → ask_of (after m (answers.Call answer)) ≡ Call (Done (Aborted with)) → ⊥
   no_abort with e = let s = own_aborted m own.0 answer with not_done e in not_show s.0 s.1
 
-  -- and each is refused by what the answer says
+  -- and each fails with the cause in the answer
   pub refused : (holds : Cause → Type 0) → ((cause : Cause) → answer ≡ Was_refused cause → holds cause) → (cause : Cause)
       → ask_of (after m (answers.Call answer)) ≡ Call (Done (Reply_refused cause)) → holds cause
   refused holds told = refused_for m own.0 answer holds never not_done told
@@ -130,7 +130,7 @@ module _ {K V S T H : Type 0} (eq : K → K → Bool) (hash : S → K → ℕ) (
   abbrev On : Computing K V S T H → Answer → Type 0
   On y answer = IsComputingOn eq hash b name key begun log y heard (Some answer)
 
-  -- the compute with these tokens, after its machine was answered
+  -- the compute with these tokens, after its machine received an answer
   abbrev with_pairs : Writer K V S H → (chosen fill made : Option (Stored K V)) → Computing K V S T H
   with_pairs w chosen fill made = record x { writer = w; chosen = chosen; fill = fill; made = made }
 
@@ -183,7 +183,7 @@ module _ {K V S T H : Type 0} (eq : K → K → Bool) (hash : S → K → ℕ) (
           on.1,
         )
 
-    -- what is at hand stays so, where the value does
+    -- the pairs at hand stay, if the value does
     still : (w : Writer K V S H) → held_value w.value ≡ held_value x.writer.value → (stands : ClosureResult) → Holds key r.made heard x stands
         → Holds key r.made heard (with_pairs w x.chosen x.fill x.made) stands
     still w same (Agrees n agrees) h = h
@@ -229,7 +229,7 @@ module _ {K V S T H : Type 0} (eq : K → K → Bool) (hash : S → K → ℕ) (
         of_slot old new e = ⊎_elim (λ choice. r.of_slot old new choice) (λ now. absurd (unlogged_no_number answer unlogged now.1.0 now.1.1))
             (machine_choice m old new answer e)
 
-  -- a pair that has the key that its writer held has the call's
+  -- a pair that has the key which its writer held has the call's
   pub own_key : (q : Stored K V) → ((part : KeyPart K V) → x.writer.key ≡ Some part → key_of q ≡ key_in part) → key_of q ≡ key
   own_key q key_is = by_key x.writer.key refl r.writing.keyed
     where
@@ -239,7 +239,7 @@ module _ {K V S T H : Type 0} (eq : K → K → Bool) (hash : S → K → ℕ) (
 
   module _ (w : Writer K V S H) (same : w.call.machine ≡ chain) (q : Stored K V) (had : held_value x.writer.value ≡ Some q.value.value)
       (left : held_value w.value ≡ held_value x.writer.value) (on : IsWritingOn eq hash b name key (q ∷ r.made) begun log w (Made_number q.index)) where
-    -- what the closure answered is the pair's value
+    -- the closure's result is the pair's value
     value_is : (v : V) (held : Option (Stored K V)) → held_value x.writer.value ≡ Some v → Member (held, operation.Insert v) heard
         → Member (held, operation.Insert q.value.value) heard
     value_is v held e member = let is : v ≡ q.value.value = cc (e, had) in subst (λ (z : V). Member (held, operation.Insert z) heard) is member
@@ -279,7 +279,7 @@ module _ {K V S T H : Type 0} (eq : K → K → Bool) (hash : S → K → ℕ) (
     pub replaces : (n : ℕ) → IsReplacing m i n
     replaces n = machine_replacing m n i r.task_is valid.call r.words (call_asks chain (MakePairOf i) asks).1
 
-    -- it met the pair whose place the new one is to take
+    -- it met the pair that the new one is to replace
     abbrev Meets : Write → Type 0
     Meets write = MayRemove g c (exchanges_of begun) r.writing.calling.since (Some key) loaded (record { place = write.place; word = write.old })
 
@@ -295,7 +295,8 @@ module _ {K V S T H : Type 0} (eq : K → K → Bool) (hash : S → K → ℕ) (
     pub met : (n : ℕ) → Meets (replaces n).write
     met n = ⊎_elim (λ e. met_new (replaces n).write e) (λ e. met_again (replaces n).write e) (replaces n).purpose
 
-    -- the pair of which its closure answered what is logged: the one that it was shown last
+    -- the pair for which its closure returned the value that is stored in the arena: the one that
+    -- it was called with last
     pub was_shown : (n : ℕ) → (p : Stored K V) × (x.shown ≡ Some p) × (p.index ≡ i)
         × ((v : V) × (held_value x.writer.value ≡ Some v) × Member (Some p, operation.Insert v) heard)
     was_shown n = elim (replaces n).said [
@@ -331,7 +332,7 @@ module _ {K V S T H : Type 0} (eq : K → K → Bool) (hash : S → K → ℕ) (
           by : IsReplacing m i q.index
           by = replaces q.index
 
-          -- of its key, and of the value that was answered of it
+          -- a pair of its key, and of the value that was returned for it
           made_now : IsMadeOf key (q ∷ r.made) heard (Some p) q.index q
           made_now =
               let s = was_shown q.index in
@@ -362,7 +363,7 @@ module _ {K V S T H : Type 0} (eq : K → K → Bool) (hash : S → K → ℕ) (
               → IsAnswered (calls.after m (Made_number q.index)).state ⊎ IsNewest (now_with p)
           newest j n h = inr (record { shown = shown; made = (q, refl, left ∙ had) })
 
-          -- the key that is in the slot for which it was made
+          -- the slot for which it was made has this key
           kept_there : HasKeyAt log by.write.place.table by.write.place.probe.i (key_of q)
           kept_there =
               let there = met q.index in
@@ -382,7 +383,7 @@ module _ {K V S T H : Type 0} (eq : K → K → Bool) (input : K → List (List 
     (b : Begun K V S) (name : Book) (key : K) (begun log : List (Event K V S)) (x : Computing K V S T H)
     (heard : List (Option (Stored K V) × Operation V T)) (r : IsComputing eq (hash_of input build write finish) b name key begun log x heard)
     (valid : IsValid x.writer.call.machine) where
-  -- the pair that was shown last and the one that was loaded last have one number
+  -- the pair that the closure was called with last and the one that was loaded last have one number
   pub one_number : (i : ℕ) → ask_of x.writer.call.machine ≡ Call (MakePairOf i) → (p last : Stored K V) → x.shown ≡ Some p
       → x.writer.call.copier.last ≡ Some last → p.index ≡ last.index
   one_number i asks p last shown last_is =

@@ -52,15 +52,15 @@ module _ {K V S T H : Type 0} (eq : K → K → Bool) (input : K → List (List 
       ((hashed_with eq input build write finish classes respects b (eq key) (input key)
       (own_query eq input build write finish classes respects b name key) log r.writing.calling.lawful).coding.hash_fits (Some key))
 
-  -- the exchange is what its closure said
+  -- the exchange is the one that its closure's result requires
   is_said : IsResultExchange m.call (pair_of old) (pair_of new)
   is_said = machine_exchanges m.call t i old new r.task_is fits valid.call own.1
 
-  -- a pair that the call made, of the number that the new word names, which may stand there
+  -- a pair that the call made, with the number that the new word names, which may be put there
   abbrev IsAtHand : Option (Stored K V) → Type 0
   IsAtHand o = (q : Stored K V) × (o ≡ Some q) × (q.index ≡ pair_of new) × IsOneOf r.made q × MayOverwrite log key t i old q
 
-  -- of the call's kind
+  -- the exchange has the call's kind
   kind_is : (kind : StepKind) → kind_of_ask m ≡ Some kind → calls.kind_of_ask m.call ≡ Some kind
   kind_is kind e = sym (own_kind m own.0) ∙ e
 
@@ -89,7 +89,7 @@ module _ {K V S T H : Type 0} (eq : K → K → Bool) (input : K → List (List 
       (λ o. ⊎_elim (λ h. let g = sym kind ∙ h.0 in absurd (cc g)) (λ h. let g = sym kind ∙ h.0 in absurd (cc g)) o)
       is_said
 
-  -- the key that is in the slot for which the pair was made
+  -- the slot for which the pair was made has this key
   kept_there : calls.kind_of_ask m.call ≡ Some kinds.Replace → (q : Stored K V) → x.made ≡ Some q → HasKeyAt log t i (key_of q)
   kept_there kind q has =
       let some : 0 < old = ⊎_elim (λ (some : 0 < old). some)
@@ -118,7 +118,7 @@ module _ {K V S T H : Type 0} (eq : K → K → Bool) (input : K → List (List 
       (λ h. let g = sym kind ∙ h.0 in absurd (cc g)) o)
       is_said
 
-  -- it is the one that the kind of the exchange names
+  -- it is the pair that the kind of the exchange requires
   pub at_hand : IsPutting (kind_of_ask m) → IsAtHand (pair_for (kind_of_ask m) x.fill x.made)
   at_hand kind = ⊎_elim
       (λ h. subst (λ (k : Option StepKind). IsAtHand (pair_for k x.fill x.made)) (sym h) (claimed h))

@@ -43,7 +43,7 @@ use Rattle.papaya_map_change.proofs.ClosureCalls.{all_shown, held_wider, shown_e
 use Rattle.papaya_map_change.proofs.Written.{own_query}
 use Rattle.papaya_map_change.proofs.WritingSteps.{begins as begins_writing}
 
--- no compute replies this
+-- replies that no compute gives
 abbrev pub IsNoCompute : Reply → Type 0
 IsNoCompute Absent = Unit {0}
 IsNoCompute (Found n) = Unit {0}
@@ -56,7 +56,7 @@ IsNoCompute (Aborted t) = ⊥
 IsNoCompute Reply_done = Unit {0}
 IsNoCompute (Refused cause) = ⊥
 
--- what is none of the replies of a compute is one of these
+-- a reply other than those of a compute is one of these
 pub other_reply : (reply : Reply) → ((n : ℕ) → reply ≡ Inserted n → ⊥) → ((old n : ℕ) → reply ≡ Replaced old n → ⊥)
     → ((n : ℕ) → reply ≡ Removed n → ⊥) → ((with : ℕ) → reply ≡ Aborted with → ⊥) → ((cause : Cause) → reply ≡ Refused cause → ⊥) → IsNoCompute reply
 other_reply Absent inserted replaced removed aborted refused = tt
@@ -70,7 +70,7 @@ other_reply (Aborted with) inserted replaced removed aborted refused = aborted w
 other_reply Reply_done inserted replaced removed aborted refused = tt
 other_reply (Refused cause) inserted replaced removed aborted refused = refused cause refl
 
--- what is there is this
+-- an option that is this value has its property
 of_some : {P : Type 0} (holds : P → Type 0) (none : Type 0) (o : Option P) (p : P) → o ≡ Some p → MatchOption o none holds → holds p
 of_some holds none o p is m = subst (λ z. MatchOption z none holds) is m
 
@@ -85,7 +85,7 @@ module _ {K V S T H : Type 0} (eq : K → K → Bool) (input : K → List (List 
   abbrev m : Machine
   m = x.writer.call.machine
 
-  -- the pairs that its call was told of
+  -- the pairs that its call has loaded
   abbrev loaded : LoadedPairs (Stored K V)
   loaded = record { last = x.writer.call.copier.last; made = r.made }
 
@@ -98,7 +98,7 @@ module _ {K V S T H : Type 0} (eq : K → K → Bool) (input : K → List (List 
   answers : (answer : Result (Computed K V T) Cause) → IsOperated eq key (history_of begun) (history_of log) heard answer → Answers answer
   answers answer done = record { held = r.held; none_once = r.none_once; operated = done }
 
-  -- what its reply stands on is at hand
+  -- the pairs on which its reply relies are at hand
   at_hand : (reply : Reply) (said : ClosureResult) → ask_of m ≡ Call (Done reply) → result_of_compute reply ≡ Some said → Holds key r.made heard x said
   at_hand reply said e is = r.stood said (inl
       (ap (λ t. result_in t m.call.state) r.task_is
@@ -113,7 +113,7 @@ module _ {K V S T H : Type 0} (eq : K → K → Bool) (input : K → List (List 
         r.writing.calling.changed (old, new) ((machine_replies g c (exchanges_of begun) r.writing.calling.since (Some key) loaded m.call
         r.writing.calling.relies.call reply (call_asks m (Done reply) e).1).1 ∙ change)
 
-    -- the numbers of what went and of what came
+    -- the numbers of the pairs that were taken out and put in
     taken_number : (taken : Stored K V) → x.writer.call.taken ≡ Some taken → (old ≡ Some taken.index) × (changed.class ≡ key_of taken)
     taken_number taken is = of_some (λ p. (old ≡ Some p.index) × (changed.class ≡ key_of p)) (old ≡ None) x.writer.call.taken taken is changed.taken_is
 
@@ -123,7 +123,7 @@ module _ {K V S T H : Type 0} (eq : K → K → Bool) (input : K → List (List 
     put_number : (put : Stored K V) → x.writer.call.put ≡ Some put → IsPutIn put
     put_number put is = of_some IsPutIn (new ≡ None) x.writer.call.put put is changed.put_is
 
-    -- where it took the place of another it has the key that was stored
+    -- if it replaced another it has the key that was stored
     kept : (p q : Stored K V) → x.writer.call.taken ≡ Some p → x.writer.call.put ≡ Some q → key_of q ≡ key_of p
     kept p q took puts = subst (λ o. MatchOption o (Some (key_of q) ≡ Some key) (λ old. key_of q ≡ key_of old)) took (put_number q puts).2.is
 
@@ -148,7 +148,7 @@ module _ {K V S T H : Type 0} (eq : K → K → Bool) (input : K → List (List 
     some_put : (n : ℕ) → new ≡ Some n → x.writer.call.put ≡ None → ⊥
     some_put n some is = let h = subst (λ o. MatchOption o (new ≡ None) IsPutIn) is changed.put_is in let g = sym some ∙ h in cc g
 
-    -- its change, of a class of the call's key
+    -- its change, of a key equal to the call's
     change_is : (taken put : Option (Stored K V)) → x.writer.call.taken ≡ taken → x.writer.call.put ≡ put → eq key changed.class ≡ true → Changes taken put
     change_is taken put took puts class = record {
       before = history_of changed.before;
@@ -181,7 +181,7 @@ module _ {K V S T H : Type 0} (eq : K → K → Bool) (input : K → List (List 
         let number : n ≡ put.index = cc p in
         ap (λ (z : Stored K V). z.index) (sym one) ∙ (filled.2.number ∙ number)
 
-    -- it lies in the logs
+    -- it is stored in the book's arenas
     pub fill_placed : (fill : Stored K V) → x.fill ≡ Some fill → IsPlaced b (Some name) (pair_named (Some fill))
     fill_placed fill has = let one : filled.0 ≡ fill = cc (filled.1, has) in
         subst (λ (z : Stored K V). IsPlaced b (Some name) (pair_named (Some z))) one (r.writing.calling.made_placed filled.0 filled.2.made_is)
@@ -205,17 +205,17 @@ module _ {K V S T H : Type 0} (eq : K → K → Bool) (input : K → List (List 
           are,
         )
 
-  -- the pair that was shown had the call's key
+  -- the pair that the closure was called with had a key equal to the call's
   shown_key : (p : Stored K V) (done : Operation V T) → Member (Some p, done) heard → eq key (key_of p) ≡ true
   shown_key p done member = (shown_each (WasHeld eq (eq key) (history_of begun) (history_of log)) heard r.held (Some p) done member).is.0
 
   module _ (reply : Reply) (e : ask_of m ≡ Call (Done reply)) (n : ℕ) (new : Option ℕ) (change : change_of_reply reply ≡ Some (Some n, new))
       (p : Stored K V) (number : p.index ≡ n) (taken : Stored K V) (took : x.writer.call.taken ≡ Some taken) where
-    -- the pair that went has the number of the one that was shown
+    -- the pair that was taken out has the number of the one that the closure was called with
     went_number : p.index ≡ taken.index
     went_number = let t = (taken_number reply e (Some n) new change taken took).0 in let same : n ≡ taken.index = cc t in number ∙ same
 
-    -- and is of the call's key
+    -- and has a key equal to the call's
     went_class : AreOne p taken → eq key (key_of p) ≡ true → eq key (changed reply e (Some n) new change).class ≡ true
     went_class same own = ap (λ (z : K). eq key z) ((taken_number reply e (Some n) new change taken took).1 ∙ ap (λ z. z.key.value) (sym same)) ∙ own
 
@@ -248,7 +248,7 @@ module _ {K V S T H : Type 0} (eq : K → K → Bool) (input : K → List (List 
           are,
         )
 
-  -- a pair took the place of another
+  -- a pair replaced another
   module _ (i n : ℕ) (e : ask_of m ≡ Call (Done (Replaced i n))) where
     abbrev replaced : Holds key r.made heard x (Makes (Some i) n)
     replaced = at_hand (Replaced i n) (Makes (Some i) n) e refl
@@ -305,7 +305,7 @@ module _ {K V S T H : Type 0} (eq : K → K → Bool) (input : K → List (List 
           new_are,
         )
 
-  -- its closure ended it
+  -- its closure aborted it
   pub aborted : (with : ℕ) → ask_of m ≡ Call (Done (Aborted with)) → (t : T) → x.aborted ≡ Some t → Answers (Ok (computed.Aborted t))
   aborted with e t is =
       let a = r.aborts with e in
@@ -315,7 +315,7 @@ module _ {K V S T H : Type 0} (eq : K → K → Bool) (input : K → List (List 
   pub aborted_kept : (with : ℕ) → ask_of m ≡ Call (Done (Aborted with)) → x.aborted ≡ None → ⊥
   aborted_kept with e none = let a = r.aborts with e in let g = sym a.1 ∙ none in cc g
 
-  -- it was refused
+  -- it failed
   pub refused : (cause : Cause) → ask_of m ≡ Call (Done (Refused cause)) → Answers (Err cause)
   refused cause e = answers (Err cause) (r.refuses cause e)
 
@@ -345,7 +345,7 @@ module _ {K V S T H : Type 0} (eq : K → K → Bool) (input : K → List (List 
       (machine_replies g c (exchanges_of begun) r.writing.calling.since (Some key) loaded m.call r.writing.calling.relies.call reply
       (call_asks m (Done reply) e).1).0)
 
--- what was seen before a compute began was seen before its change, and before what its closure was shown
+-- a history before the compute began comes before its change, and before the closure's arguments
 module _ {K V : Type 0} (eq : K → K → Bool) (key : K) (older old new : List (Change K (Stored K V))) (pre : IsPrefix older old) where
   pub change_since : (taken put : Option (Stored K V)) → IsChangeOf (eq key) old new taken put → IsChangeOf (eq key) older new taken put
   change_since taken put t = record {
@@ -377,7 +377,7 @@ module _ {K V T : Type 0} (eq : K → K → Bool) (key : K) (older old new : Lis
     operated = operated_since heard answer r.operated;
   }
 
-  -- so it answers by a closure that was shown and answered these
+  -- so its result is that of a closure which was called with these and returned these
   pub computed_by : {F : Type 0} (operates : F → Option (Stored K V) → Operation V T → F → Type 0) (first left : F)
       (heard : List (Option (Stored K V) × Operation V T)) → HasReturned operates first heard left → (answer : Result (Computed K V T) Cause)
       → IsReplied eq key old new heard answer → IsComputeBy eq key older new operates first answer

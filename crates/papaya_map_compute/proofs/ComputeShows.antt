@@ -71,7 +71,7 @@ use Rattle.papaya_map_lookup.proofs.Readings.{IsQuery, hashed_with}
 use Rattle.papaya_map_change.proofs.ClosureCalls.{own_held_then}
 use Rattle.papaya_map_change.proofs.Written.{own_query}
 
--- what the machine is told tells what the closure answered
+-- the kind that the machine receives determines the closure's result
 module _ {V T : Type 0} where
   inserts : {K : Type 0} (done : Operation V T) → kind_of done ≡ kinds.Insert → (v : V) × (done ≡ operation.Insert v)
       × ((before : Option (ValuePart K V)) → held_value (value_after done before) ≡ Some v)
@@ -94,14 +94,14 @@ op_is : {V T : Type 0} (done : Operation V T) (kind : OpKind) → Op (kind_of do
 op_is done kind e = cc e
 
 module _ {K V T : Type 0} where
-  -- what was never shown was never answered
+  -- there is no result for None if the closure was never called with it
   pub none_unsaid : (heard : List (Option (Stored K V) × Operation V T)) → HasNoNone heard → (o : Operation V T) → Member (None, o) heard → ⊥
   none_unsaid [] none o member = member
   none_unsaid ((None, done) ∷ before) none o member = none
   none_unsaid ((Some p, done) ∷ before) none o (inl e) = let f : None ≡ Some p = ap (λ z. z.0) e in cc f
   none_unsaid ((Some p, done) ∷ before) none o (inr member) = none_unsaid before none o member
 
-  -- what was shown once was answered in one way
+  -- the result of a call that was made once is unique
   pub inserted_once : (heard : List (Option (Stored K V) × Operation V T)) → IsNoneOnce heard → (v w : V) → Member (None, operation.Insert v) heard
       → Member (None, operation.Insert w) heard → v ≡ w
   inserted_once [] once v w one other = absurd one
@@ -112,7 +112,8 @@ module _ {K V T : Type 0} where
   inserted_once ((Some p, done) ∷ before) once v w one (inl e) = let f : None ≡ Some p = ap (λ z. z.0) e in absurd (cc f)
   inserted_once ((Some p, done) ∷ before) once v w (inr one) (inr other) = inserted_once before once v w one other
 
--- a call that shows a pair, and has shown that there is none, remembers the pair that would fill
+-- a call that calls its closure with a pair, and has called it with None, remembers the pair that
+-- would fill
 filled_in : (made : Made) (hash : ℕ) (fill : Option ℕ) (stage : Stage) (n : ℕ) → calls.asks made hash stage ≡ ShowPair n → HasCalledNone fill stage
     → IsFilled fill
 filled_in made hash fill (Offering gap) n e h = absurd h
@@ -128,7 +129,7 @@ machine_filled : (m : Call_machine) (n : ℕ) → calls.ask_of m ≡ ShowPair n 
 machine_filled m n e shown = let fill = filled_by m.remembered.fill (filled_in m.made m.hash m.remembered.fill m.state n e shown) in
     (fill.0, inr (inl (ap result_to_fill fill.1)))
 
--- what is shown has the number that was asked for
+-- the argument has the number that was asked for
 module _ {K V : Type 0} (m : Call_machine) (held : Option (Stored K V)) (asks : calls.ask_of m ≡ show (number_of held)) where
   none_asked : calls.ask_of m ≡ ShowNone → held ≡ None
   none_asked e = by_held held (sym e ∙ asks)
@@ -146,7 +147,7 @@ module _ {K V : Type 0} (m : Call_machine) (held : Option (Stored K V)) (asks : 
 
 module _ {K V S T H : Type 0} (key : K) (made : List (Stored K V)) (said : List (Option (Stored K V) × Operation V T)) (x : Computing K V S T H)
     (held : Option (Stored K V)) (done : Operation V T) where
-  -- the compute that was shown this and was answered so
+  -- the compute after its closure was called with this and returned that
   abbrev pub shown_to : Computing K V S T H
   shown_to = keeping done (record x { shown = held; chosen = chosen_after held done x.chosen })
 
@@ -160,7 +161,7 @@ module _ {K V S T H : Type 0} (key : K) (made : List (Stored K V)) (said : List 
   made_still : (shown : Option (Stored K V)) (n : ℕ) (q : Stored K V) → IsMadeOf key made said shown n q → IsMadeOf key made now_said shown n q
   made_still shown n q h = record { number = h.number; made_is = h.made_is; key_is = h.key_is; said_is = inr h.said_is }
 
-  -- what fills stays at hand, and where the choice stays what was chosen does
+  -- the pair that fills stays at hand, and if the choice stays, so does the pair that was chosen
   fill_still : (n : ℕ) → Holds key made said x (Makes None n) → Now (Makes None n)
   fill_still n h = (h.0, h.1, made_still None n h.0 h.2)
 
@@ -172,7 +173,7 @@ module _ {K V S T H : Type 0} (key : K) (made : List (Stored K V)) (said : List 
   still same (Makes (Some m) n) never h = (h.0, h.1, same ∙ h.2, h.3, h.4, made_still (Some h.0) n h.1 h.5)
   still same (Removes n) never h = (h.0, same ∙ h.1, h.2, inr h.3)
 
-  -- what the closure said just now is at hand
+  -- the result of the closure that was just returned is at hand
   now : (m : Call_machine) → calls.ask_of m ≡ show (number_of held) → (stands : ClosureResult) → IsResultBy m (Op (kind_of done)) stands → Now stands
   now m asks (Agrees n agrees) h = let e = h.1 in absurd (cc e)
   now m asks (Inserts None) h =
@@ -247,7 +248,7 @@ module _ {K V S H : Type 0} (eq : K → K → Bool) (input : K → List (List �
         })
         r.calling.holds_table r.calling.last_placed r.calling.made_placed
 
-    -- a writer whose closure was asked relies on what holds again, whatever value it keeps
+    -- a writer whose closure was called relies again on facts that hold, whatever value it keeps
     asked : (shown : Option ℕ) (value : Option (ValuePart K V)) → HasValue b name value → ask_of w.call.machine ≡ Call (show shown)
         → IsWriting eq hash b name key made begun log (record w { call = record w.call { machine = w' }; value = value })
     asked shown value valued asks = record { calling = called shown asks; keyed = r.keyed; valued = valued; put_placed = r.put_placed }
@@ -275,7 +276,7 @@ module _ {K V S H : Type 0} (eq : K → K → Bool) (input : K → List (List �
     not_load None e t h = let g = sym e ∙ h in cc g
     not_load (Some n) e t h = let g = sym e ∙ h in cc g
 
-    -- its call goes a step of its own
+    -- its call takes a step of its own
     steps : chain'.call ≡ m'
     steps = own_step chain own_asks.0 (Op (kind_of done)) (not_load (number_of held) own_asks.1)
 
@@ -288,14 +289,14 @@ module _ {K V S H : Type 0} (eq : K → K → Bool) (input : K → List (List �
     unpaired : (stands : ClosureResult) → ActsOn m stands → (shown : Option ℕ) → stands ≡ Inserts shown → ⊥
     unpaired stands before shown e = machine_unpaired m shown (number_of held) own_asks.1 (subst (λ (s : ClosureResult). ActsOn m s) e before)
 
-    -- where the choice stays
+    -- if the choice stays
     stood_same : chosen_after held done x.chosen ≡ x.chosen → (stands : ClosureResult) → ActsOn m' stands → HoldsNow stands
     stood_same same stands h =
         ⊎_elim (λ before. still key r.made heard x held done same stands (unpaired stands before) (r.stood stands before))
         (now key r.made heard x held done m own_asks.1 stands)
         (machine_said m (Op (kind_of done)) stands valid.call r.words h)
 
-    -- where the pair that was shown is to go
+    -- if the pair that the closure was called with is to be removed
     stood_removed : (p : Stored K V) → held ≡ Some p → kind_of done ≡ kinds.Remove → (stands : ClosureResult) → ActsOn m' stands → HoldsNow stands
     stood_removed p e removes_it stands h =
         let shows : calls.ask_of m ≡ ShowPair p.index = own_asks.1 ∙ ap (λ (o : Option (Stored K V)). show (number_of o)) e in
@@ -306,7 +307,7 @@ module _ {K V S H : Type 0} (eq : K → K → Bool) (input : K → List (List �
         (λ k. subst HoldsNow (sym k.1) (fill_still key r.made heard x held done k.0 (r.stood (Makes None k.0) (subst (λ (s : ClosureResult). ActsOn m s) k.1 k.2))))
         (machine_chosen m p.index stands r.task_is shows removed)
 
-    -- what its machine stands on now is at hand
+    -- the pairs that its machine now relies on are at hand
     stood_by : (o : Option (Stored K V)) → held ≡ o → kind_of done ≡ kinds.Remove → (stands : ClosureResult) → ActsOn m' stands → HoldsNow stands
     stood_by None e removes_it = stood_same (λ j. chosen_after (e j) done x.chosen)
     stood_by (Some p) e removes_it = stood_removed p e removes_it
@@ -315,7 +316,7 @@ module _ {K V S H : Type 0} (eq : K → K → Bool) (input : K → List (List �
     stood_now stands h = ⊎_elim (stood_by held refl) stood_same (chosen_same key r.made heard x held done) stands
         (subst (λ (z : Call_machine). ActsOn z stands) steps h)
 
-    -- whether it was shown that there is none, and how often
+    -- whether the closure was called with None, and how often
     none_by : (o : Option (Stored K V)) → held ≡ o → (HasNoNone ((o, done) ∷ heard) ⊎ HasCalledNone chain'.call.remembered.fill chain'.call.state)
         × IsNoneOnce ((o, done) ∷ heard)
     none_by None e =
@@ -332,15 +333,15 @@ module _ {K V S H : Type 0} (eq : K → K → Bool) (input : K → List (List �
     not_done None e reply h = let g = sym e ∙ h in cc g
     not_done (Some n) e reply h = let g = sym e ∙ h in cc g
 
-    -- it is refused where the closure would remove nothing
+    -- it fails if the closure's result would remove nothing
     refused_by : (cause : Cause) → ask_of chain' ≡ Call (Done (Refused cause)) → IsOwnEnd chain own_asks.0 (Op (kind_of done)) cause
     refused_by cause e = own_refused chain own_asks.0 (Op (kind_of done)) (not_done (number_of held) asks) cause e
 
-    -- it is told of no count of numbers
+    -- it receives no count of numbers
     unlimited : IsAtLimit m (Op (kind_of done)) → ⊥
     unlimited over = ⊎_elim (λ e. cc e) (λ e. cc e) over.5
 
-    -- a value that it answers lies at no pair yet
+    -- a value that the closure returns is stored in no pair yet
     valued_in : (o : Operation V T) → HasValue b name (value_after o x.writer.value)
     valued_in (operation.Insert v) = tt
     valued_in operation.Remove = r.writing.valued
@@ -353,7 +354,7 @@ module _ {K V S H : Type 0} (eq : K → K → Bool) (input : K → List (List �
     chosen_in operation.Remove (Some q) p = p
     chosen_in (operation.Abort t) (Some q) p = r.chosen_placed
 
-    -- where it remembers one in the place of a pair, this is a newer answer, or the call is over
+    -- if it remembers one in the place of a pair, this is a newer result, or the call is over
     answered_now : IsAnswered m'.state → IsAnswered chain'.call.state
     answered_now waits = subst (λ (z : Call_machine). IsAnswered z.state) (sym steps) waits
 
@@ -381,7 +382,8 @@ module _ {K V S H : Type 0} (eq : K → K → Bool) (input : K → List (List �
     slot_now old new e = ⊎_elim (λ same. r.of_slot old new same) (λ now. let f = now.1.1 in absurd (cc f))
         (machine_choice m old new (Op (kind_of done)) (ap (λ (z : Call_machine). z.remembered.choice) (sym steps) ∙ e))
 
-    -- where it ends the call, the pair that would fill has the value of what it answered before to None
+    -- if it ends the call, the pair that would fill has the value that the closure returned earlier
+    -- for None
     spared_now : (o : Option (Stored K V)) → held ≡ o → IsSpared x.fill heard
     spared_now None e = λ v member. ⊎_elim (λ none. absurd (none_unsaid heard none (operation.Insert v) member))
         (λ shown. absurd ((chain_once chain (answers.Call (Op (kind_of done))) order shown).0
@@ -397,7 +399,7 @@ module _ {K V S H : Type 0} (eq : K → K → Bool) (input : K → List (List �
     spared_by t is v (inl e) = let f : operation.Insert v ≡ operation.Abort t = ap (λ z. z.1) e ∙ is in absurd (cc f)
     spared_by t is v (inr member) = spared_now held refl v member
 
-    -- it goes on, with what was said now
+    -- it continues, with the result that was returned now
     pub shows_on : WasHeld eq (eq key) (history_of begun) (history_of log) held → IsPlaced b (Some name) (pair_named held)
         → On log (shown_to key r.made heard x held done) ((held, done) ∷ heard) (Some (Op (kind_of done)))
     shows_on was placed = (
@@ -447,12 +449,12 @@ module _ {K V S H : Type 0} (eq : K → K → Bool) (input : K → List (List �
     was_held value was = own_held_then eq input build write finish classes respects b (eq key) (input key) own begun log r.writing.calling.lawful
         r.writing.calling.since r.writing.calling.is key value was
 
-    -- where it shows that its key is absent, it was
+    -- if it calls its closure with None, the key was absent
     pub none_held : ask_of x.writer.call.machine ≡ Call ShowNone → WasHeld eq (eq key) (history_of begun) (history_of log) None
     none_held e = was_held None (machine_offers G C (exchanges_of begun) r.writing.calling.since (Some key) loaded x.writer.call.machine.call
         r.writing.calling.relies.call (call_asks x.writer.call.machine ShowNone e).1)
 
-    -- where it shows the pair last told of, the key had it
+    -- if it calls its closure with the pair last loaded, the key had it
     pub pair_held : (n : ℕ) → ask_of x.writer.call.machine ≡ Call (ShowPair n) → (p : Stored K V) → x.writer.call.copier.last ≡ Some p
         → WasHeld eq (eq key) (history_of begun) (history_of log) (Some p) × (p.index ≡ n)
     pair_held n e p last =
@@ -464,7 +466,7 @@ module _ {K V S H : Type 0} (eq : K → K → Bool) (input : K → List (List �
           ap (λ (z : Stored K V). z.index) (sym one) ∙ shown.2,
         )
 
-    -- what it is to show was the map's, and lies in the logs
+    -- the argument of its next call was the map's, and is stored in the book's arenas
     pub shown_held : (held : Option (Stored K V)) → IsToCall x held → WasHeld eq (eq key) (history_of begun) (history_of log) held
         × IsPlaced b (Some name) (pair_named held)
     shown_held None h = (none_held h.0, tt)
@@ -474,7 +476,7 @@ module _ {K V S H : Type 0} (eq : K → K → Bool) (input : K → List (List �
           r.writing.calling.last_placed,
     )
 
--- showing something exchanges no slot
+-- a call of the closure exchanges no slot
 pub show_idle : {K V S H : Type 0} {d : keyed.Ghosts S K H} (m : Machine) (held : Option (Stored K V)) → ask_of m ≡ Call (show (number_of held))
     → (answer : Answer) (w : Window K V S H d) → Answers (calls.ask_of m.call) (Some answer) w w
 show_idle m None e answer w = idle ShowNone _ (sym (call_asks m ShowNone e).1) tt (Some answer) w w refl

@@ -22,7 +22,7 @@ use Rattle.papaya_map_compute.proofs.ComputeReplies.{change_since}
 use Rattle.papaya_map_compute.proofs.FastPath.{once}
 
 module _ {K V F : Type 0} (decides : F → Option V → Option V → F → Type 0) where
-  -- behind the references to a pair there is its value
+  -- the value behind the references to a pair
   shown_value : (shown : Option (Bor K × Bor V)) (held : Option (Stored K V)) → AreRefsTo shown held → option_map (λ e. e.1.now) shown ≡ value_in held
   shown_value None None are = refl
   shown_value (Some entry) (Some p) are = ap (λ v. Some v) are.1
@@ -49,7 +49,7 @@ module _ {K V F : Type 0} (decides : F → Option V → Option V → F → Type 
       stays f x operation.Remove g h e = h
       stays f x (operation.Abort t) g h e = cc e
 
--- what it was refused for its compute was
+-- its compute failed with the same cause
 pub refused_as : {K V : Type 0} (answer : Result (Computed K V (Unit {0})) Cause) (current spare : Option (Bor V)) (cause : Cause)
     → answer_of answer current spare ≡ Err cause → answer ≡ Err cause
 refused_as (Ok (Inserted k v)) current spare cause e = absurd (cc e)
@@ -91,7 +91,7 @@ module _ {K V F : Type 0} (eq : K → K → Bool) (key : K) (old new : List (Cha
     done = record { held = h.replied.held; none_once = h.replied.none_once; decided = decided_of ended.answer refl };
   }
 
-  -- it has stored a value where its compute has changed the map
+  -- it has stored a value if its compute has changed the map
   puts_of : (a : Result (Computed K V (Unit {0})) Cause) → ended.answer ≡ a → changes a ≡ puts (answer_of a ended.current ended.spare)
   puts_of (Ok (Inserted k v)) is = refl
   puts_of (Ok (Updated before after)) is = refl
@@ -102,7 +102,7 @@ module _ {K V F : Type 0} (eq : K → K → Bool) (key : K) (old new : List (Cha
   pub puts_by : changes ended.answer ≡ puts (answer_of ended.answer ended.current ended.spare)
   puts_by = puts_of ended.answer refl
 
--- what was seen before such a call began was seen before it ended
+-- a history before such a call began comes before its end
 module _ {K V : Type 0} (eq : K → K → Bool) (key : K) (older old new : List (Change K (Stored K V))) (pre : IsPrefix older old) where
   since_of : (heard : List (Option (Stored K V) × Operation V (Unit {0}))) (answer : Result (Decided V) Cause) → IsDecidedOf eq key old new heard answer
       → IsDecidedOf eq key older new heard answer
@@ -124,7 +124,7 @@ module _ {K V : Type 0} (eq : K → K → Bool) (key : K) (older old new : List 
     };
   }
 
--- one whose rule was shown once what a search had found
+-- a call whose rule was called once with the entry that a search had found
 module _ {K V F : Type 0} (eq : K → K → Bool) (key : K) (old new : List (Change K (Stored K V))) (decides : F → Option V → Option V → F → Type 0)
     (first left : F) (held : Option (Stored K V)) (was : WasHeld eq (eq key) old new held) where
   pub decided_once : (done : Operation V (Unit {0})) → Wishes decides first held done left → (answer : Result (Decided V) Cause)
@@ -135,7 +135,7 @@ module _ {K V F : Type 0} (eq : K → K → Bool) (key : K) (old new : List (Cha
     done = record { held = (was, tt); none_once = once held done; decided = decided };
   }
 
-  -- and left all as it was
+  -- and left the map unchanged
   pub left_once : Wishes decides first held (operation.Abort tt) left → (current : Option (Bor V)) → option_map (λ v. v.now) current ≡ value_in held
       → IsDecided eq key old new decides first left (Ok (Left current None))
   left_once said current is = decided_once (operation.Abort tt) said (Ok (Left current None)) (

@@ -16,14 +16,14 @@ use Rattle.papaya_map_compute.specs.Operating.{HasEnded, IsLeft, at_once}
 use Rattle.papaya_map_compute.specs.declared.operating.Ended.{Ended}
 use Rattle.papaya_map_compute.proofs.ComputeReplies.{replied_since}
 
--- one answer was the last
+-- one result was the last
 last_answer : {X A : Type 0} (x y : X) (a b : A) (heard : List (X × A)) → WasLast x a heard → WasLast y b heard → a ≡ b
 last_answer x y a b [] one other = absurd one
 last_answer x y a b (last ∷ before) one other = ap (λ z. z.1) (sym one ∙ other)
 
 module _ {K V T O : Type 0} (eq : K → K → Bool) (key : K) (old new : List (Change K (Stored K V)))
     (says : O → Option (Stored K V) → Operation V T → O → Type 0) (first left : O) where
-  -- what was found was shown once
+  -- the closure was called once with the entry that was found
   module _ (held : Option (Stored K V)) (done : Operation V T) (said : says first held done left) (current : Option (Bor V))
       (is : option_map (λ v. v.now) current ≡ value_in held) where
     left_once : (answer : Result (Computed K V T) Cause) (with : T) → answer ≡ Ok (Aborted with) → IsOperated eq key old new ((held, done) ∷ []) answer
@@ -46,7 +46,8 @@ module _ {K V T O : Type 0} (eq : K → K → Bool) (key : K) (old new : List (C
       is_left = λ with e. left_once answer with e r.operated;
     }
 
-  -- the machine has replied, which holds the pair that was shown last, and the one that would fill
+  -- the machine has replied; it holds the pair that the closure was called with last, and the one
+  -- that would fill
   module _ (heard : List (Option (Stored K V) × Operation V T)) (shown fill : Option (Stored K V)) (t : T)
       (last : WasLast shown (operation.Abort t) heard) (spared : IsSpared fill heard) (ended : Ended K V T)
       (current_is : option_map (λ v. v.now) ended.current ≡ value_in shown) (spare_is : option_map (λ v. v.now) ended.spare ≡ value_in fill) where
@@ -65,7 +66,7 @@ module _ {K V T O : Type 0} (eq : K → K → Bool) (key : K) (old new : List (C
           λ v member. let q = spared v member in let r = spare_for q.0 q.1 ended.spare spare_is in (r.0, r.1, r.2 ∙ q.2),
         )
 
--- what was seen before a compute began was seen before it ended
+-- a history before a compute began comes before its end
 pub ended_since : {K V T O : Type 0} (eq : K → K → Bool) (key : K) (older old new : List (Change K (Stored K V)))
     (says : O → Option (Stored K V) → Operation V T → O → Type 0) (first left : O) (ended : Ended K V T) → IsPrefix older old
     → HasEnded eq key old new says first left ended → HasEnded eq key older new says first left ended

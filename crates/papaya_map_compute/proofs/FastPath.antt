@@ -1,4 +1,5 @@
--- The result of a compute that ended on its fast path: its closure was called once, with what the key had.
+-- The result of a compute that ended on its fast path: its closure was called once, with the entry
+-- of the key or with None.
 use Rattle.std.proofs.Common.{◌≡◌, ℕ, inl, inr, ⊎_elim, Bool, false, Option, None, Some, Result, Ok}
 use Rattle.std.proofs.Common.{Err, List, [], ◌∷◌, ◌++◌, refl, sym, ap, ◌∙◌, subst}
 use denote.Bor.{Bor}
@@ -34,7 +35,8 @@ use Rattle.papaya_map_compute.specs.Computing.{IsReplied}
 use Rattle.papaya_map_compute.specs.declared.fast_path.Attempt.{Attempt}
 use Rattle.papaya_map_compute.specs.declared.fast_path.Attempt.TheVariants.{Over, On}
 
--- nothing was done since before what was seen with nothing done
+-- a call that has done nothing since a window has done nothing since an earlier one with the same
+-- own steps
 pub does_since : {K V S H : Type 0} {d : keyed.Ghosts S K H} (a w w' : Window K V S H d) → w.own ≡ a.own → Does false w w' → Does false a w'
 does_since a w w' same does = subst (λ (o : _). w'.own.done ≡ o.done ++ last_if false (steps_of w'.sight.log)) same does
 
@@ -42,14 +44,14 @@ pub once : {P A : Type 0} (held : Option P) (answer : A) → IsNoneOnce ((held, 
 once None answer = tt
 once (Some p) answer = tt
 
--- a first look is refused for no want of room, and for no limit
+-- a first probe fails neither for lack of room nor at a limit
 pub no_room : {P : Type 0} → IsAtOnce Capacity → P
 no_room at = ⊎_elim (λ e. absurd (cc e)) (λ e. absurd (cc e)) at
 
 pub no_limit : {P : Type 0} → IsAtOnce Limit → P
 no_limit at = ⊎_elim (λ e. absurd (cc e)) (λ e. absurd (cc e)) at
 
--- what holds of what it has come to, where one follows from the other
+-- a property of the outcome, derived from another one
 module _ {C A : Type 0} where
   pub if_over : (P Q : A → Type 0) (x : Attempt C A) → ((a : A) → P a → Q a) → IfOver x P → IfOver x Q
   if_over P Q (Over a) f h = f a h
@@ -107,7 +109,7 @@ module _ {K V T : Type 0} (eq : K → K → Bool) (key : K) (old new : List (Cha
   pub refuses : (cause : Cause) → IsMemoryOrCapacity cause → Replies (Err cause)
   refuses cause is = replies (Err cause) (inl (inl is))
 
--- a call of which nothing was asked yet
+-- a call that has made no request yet
 module _ {K V S H A C : Type 0} {d : keyed.Ghosts S K H} (changed : Result A Cause → Bool) (w : Window K V S H d) where
   pub comes_asked_nothing : (is_right : Result A Cause → Type 0) (may_start : C → Type 0) (w' : Window K V S H d) (x : C) → Observes w w' → may_start x
       → ComesTo changed is_right may_start w w' (On x)
@@ -121,7 +123,7 @@ module _ {K V S H A C : Type 0} {d : keyed.Ghosts S K H} (changed : Result A Cau
     starts = h;
   }
 
-  -- and one that has looked before
+  -- and one that has probed before
   pub comes_since : (is_right is_right' : Result A Cause → Type 0) (may_start may_start' : C → Type 0) (mid w' : Window K V S H d)
       (x : Attempt C (Result A Cause)) → Observes w mid → ((a : Result A Cause) → is_right a → is_right' a) → ((y : C) → may_start y → may_start' y)
       → ComesTo changed is_right may_start mid w' x → ComesTo changed is_right' may_start' w w' x
@@ -135,7 +137,7 @@ module _ {K V S H A C : Type 0} {d : keyed.Ghosts S K H} (changed : Result A Cau
     starts = if_on may_start may_start' x h c.starts;
   }
 
--- a call that has learned what there is, and then looked for its key
+-- a call that has observed the current log, and then looked for its key
 module _ {K V S H A C : Type 0} {d : keyed.Ghosts S K H} (changed : Result A Cause → Bool) (before first w : Window K V S H d) (learned : Observes before first)
     (is_right : Result A Cause → Type 0) (may_start : C → Type 0) (x : Attempt C (Result A Cause))
     (c : ComesTo changed is_right may_start first w x) where
@@ -158,7 +160,7 @@ module _ {K V S H A C : Type 0} {d : keyed.Ghosts S K H} (changed : Result A Cau
       spent = λ e. no_limit (c.refused Limit (is ∙ ap (λ z. Over z) e));
     }
 
-  -- its machine goes on
+  -- its machine continues
   module _ (start : C) (is : x ≡ On start) where
     pub on_starts : may_start start
     on_starts = subst (λ (z : Attempt C (Result A Cause)). IfOn z may_start) is c.starts
@@ -170,7 +172,8 @@ module _ {K V S H A C : Type 0} {d : keyed.Ghosts S K H} (changed : Result A Cau
       made = makes_since b before w w' (does_since before first w learned.own (subst (λ (z : Attempt C (Result A Cause)). IfOn z (λ s. Does false first w)) is c.idle)) e.made;
     }
 
--- A call that was shown once what the search found, and has answered: it is right where that follows of what it replies.
+-- A call whose closure was called once with the entry that the search found, and has returned: it
+-- is right if that follows from its reply.
 module _ {K V S T H O : Type 0} {d : keyed.Ghosts S K H} (w mid then : Window K V S H d) (looked : Observes w mid) (key : K) (hash : ℕ) (table : Sheet)
     (turn : ProbeHit (Met K V)) (led : IsSearchEnd mid key hash w.sight.log table turn) (says : O → Option (Stored K V) → Operation V T → O → Type 0)
     (first left : O) (done : Operation V T) (said : says first (met_by turn) done left) where

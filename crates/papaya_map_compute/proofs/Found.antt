@@ -46,14 +46,14 @@ module _ {K V S H : Type 0} (eq : K → K → Bool) (input : K → List (List �
   abbrev C : Coding (Option K) (Stored K V)
   C = Coded eq input build write finish classes respects b (eq key) (input key) own (Some key) name begun
 
-  -- where it found an empty place
+  -- if it found an empty place
   pub none_found : (at : Place) → At_state (Offering (At at)) None → WasHeld eq (eq key) (history_of begun) (history_of log) None
   none_found at r =
       own_held_then eq input build write finish classes respects b (eq key) (input key) own begun log r.4.lawful r.4.since r.4.is key None
       (machine_offers G C (exchanges_of begun) r.4.since (Some key) (record { last = r.2; made = [] })
       (seeker_at Computes (hash b.hasher key) b.mode 1 (nothing_made b.limit) (Offering (At at))).call r.4.relies.call refl)
 
-  -- where it met a live pair
+  -- if it met a live pair
   module _ (at : Place) (word : ℕ) (p : Stored K V) (r : At_state (Showing (record { place = at; word = word })) (Some p)) where
     pub pair_placed : IsPlaced b (Some name) (names.Pair p)
     pair_placed = subst (λ (o : Option (Stored K V)). IsPlaced b (Some name) (pair_named o)) (r.3 p refl) r.4.last_placed

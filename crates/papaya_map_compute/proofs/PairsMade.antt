@@ -1,4 +1,5 @@
--- The pair that a compute makes, for an absent key or to replace a pair with which its closure was called; and on what the compute relies then.
+-- The pair that a compute makes, for an absent key or to replace a pair with which its closure was
+-- called; and the results on which the compute then relies.
 use Rattle.std.proofs.Common.{◌≡◌, ◌⊎◌, inl, inr, ℕ, ◌<◌, ◌==◌, eqb-true, Bool, true, false, cond, Option, None, Some, refl, sym, ap, ◌∙◌, subst, arith}
 use Rattle.papaya_words.specs.Word.{pair_of}
 use Rattle.papaya_call.specs.declared.ask.Ask.TheVariants.{MakePair, MakePairOf}
@@ -63,13 +64,15 @@ replaced_old Taken made old i e = by_old (old == 0) refl e
     by_old true is f = absurd (own_pair made.keyed made.valued i f)
     by_old false is f = (of_number made.valued old i f, λ zero. let same : false ≡ true = sym is ∙ ap (λ (n : ℕ). n == 0) zero in cc same)
 
--- It makes a pair for an absent key: no pair that its closure was shown before comes again.
+-- It makes a pair for an absent key: no pair that its closure was called with before is in the map
+-- again.
 pub record IsFilling (m : Machine) (n : ℕ) : Type 0 where
   pub said : ActsOn m (Inserts None)
   pub then : (stands : ClosureResult) → ActsOn (after m (Made_number n)) stands → stands ≡ Makes None n
   pub choice : (after m (Made_number n)).remembered.choice ≡ None
 
--- It makes one in the place of the pair of this number, of what its closure answered just now or before.
+-- It makes one in the place of the pair of this number, from its closure's result of just now or
+-- before.
 pub record IsReplacing (m : Machine) (i n : ℕ) : Type 0 where
   pub write : Write
   pub number : pair_of write.old ≡ i
@@ -79,11 +82,11 @@ pub record IsReplacing (m : Machine) (i n : ℕ) : Type 0 where
   pub choice : (after m (Made_number n)).remembered.choice ≡ Some (To_replace i (made_of write n))
 
 module _ (m : Machine) (n : ℕ) where
-  -- the compute in another stage
+  -- the compute in another state
   abbrev on : State → Machine
   on stage = record m { task = Compute; state = stage }
 
-  -- the parts of what it stands on
+  -- the parts of the state that it relies on
   abbrev IsOf : State → Option ℕ → Option Choice → ClosureResult → Type 0
   IsOf stage fill choice said = (result_in Compute stage ≡ Some said) ⊎ (result_to_fill fill ≡ Some said) ⊎ (result_to_choose choice ≡ Some said)
 
@@ -106,7 +109,7 @@ module _ (m : Machine) (n : ℕ) where
   replace_over stage write said some (inr (inl e)) = inr (keeps_fill stage m.remembered.fill refl said e)
   replace_over stage write said some (inr (inr e)) = let is : Makes (Some (pair_of write.old)) n ≡ said = cc e in inl (sym is)
 
-  -- what was made was the pair
+  -- the pair was made
   module _ (stage : State) (purpose : Purpose) where
     abbrev Then : Grown → Machine
     Then G = record m { task = Compute; made = made_to_pair G; remembered = paired_held G m.remembered purpose n; state = paired G purpose n }
@@ -131,7 +134,7 @@ module _ (m : Machine) (n : ℕ) where
   replacing_again write some (On made) is = absurd (cc is)
   replacing_again write some (Pair made) is = ((λ stands. replace_over (Pairing (Again write)) write stands some), refl)
 
-  -- it was one for this purpose
+  -- it was made for this purpose
   made_for : (purpose : Purpose) → MakesPair (pair_ask m.made (in_place_of purpose)) → grown m.made (in_place_of purpose) ≡ Pair (pair_done m.made)
   made_for purpose makes = pair_made m.made (in_place_of purpose) makes
 

@@ -99,7 +99,7 @@ module _ {K V S : Type 0} (eq : K → K → Bool) (hash : S → K → ℕ) (b : 
     abbrev IsAt : Remembered → Type 0
     IsAt held = x.writer.call.machine ≡ resumed_at h b.mode initial b.limit held
 
-    -- its closure answered the value of a pair that was made
+    -- its closure returned the value of a pair that was made
     module _ (q : Stored K V) (placed : IsPlaced b (Some name) (names.Pair q)) (class : eq key (key_of q) ≡ true) where
       pair_is : (p : Stored K V) → IsOneOf (q ∷ []) p → (eq key (key_of p) ≡ true) × IsPlaced b (Some name) (names.Pair p)
       pair_is p one = ⊎_elim (λ is. subst (λ (z : Stored K V). (eq key (key_of z) ≡ true) × IsPlaced b (Some name) (names.Pair z)) (sym is)
@@ -108,7 +108,7 @@ module _ {K V S : Type 0} (eq : K → K → Bool) (hash : S → K → ℕ) (b : 
       abbrev Heard : Option (Stored K V) → List (Option (Stored K V) × Operation V T)
       Heard held = (held, operation.Insert q.value.value) ∷ []
 
-      -- where it was shown that there is none
+      -- if it was called with None
       module _ (key_is : key_of q ≡ key) (was : WasHeld eq (eq key) (history_of begun) (history_of log) None) (shown : x.shown ≡ None)
           (fill : x.fill ≡ Some q) (chosen : x.chosen ≡ None) where
         abbrev with_fill : Remembered
@@ -150,7 +150,7 @@ module _ {K V S : Type 0} (eq : K → K → Bool) (hash : S → K → ℕ) (b : 
           spent = λ e. let f = sym (ap ask_of machine) ∙ e in absurd (cc f);
         }
 
-      -- it was shown a pair, which was met in this slot
+      -- it was called with a pair, which was met in this slot
       module _ (p : Stored K V) (key_is : key_of q ≡ key_of p) (shown_placed : IsPlaced b (Some name) (names.Pair p))
           (was : WasHeld eq (eq key) (history_of begun) (history_of log) (Some p)) (shown : x.shown ≡ Some p) (fill : x.fill ≡ None)
           (chosen : x.chosen ≡ Some p) (made : x.made ≡ Some q) (value_is : held_value x.writer.value ≡ Some q.value.value) (t i : ℕ)
@@ -203,7 +203,7 @@ module _ {K V S : Type 0} (eq : K → K → Bool) (hash : S → K → ℕ) (b : 
           spent = λ e. let f = sym (ap ask_of machine) ∙ e in absurd (cc f);
         }
 
-    -- it would have a pair removed
+    -- its result removes a pair
     module _ (p : Stored K V) (shown_placed : IsPlaced b (Some name) (names.Pair p))
         (was : WasHeld eq (eq key) (history_of begun) (history_of log) (Some p)) (shown : x.shown ≡ Some p) (fill : x.fill ≡ None)
         (chosen : x.chosen ≡ Some p) where

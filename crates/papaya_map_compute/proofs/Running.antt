@@ -1,4 +1,5 @@
--- A compute whose machine is answered until it has replied: what holds of it, whichever operator decides on a pair.
+-- A compute whose machine receives answers until it has replied: the facts that hold of it,
+-- whichever operator decides on a pair.
 use Rattle.std.proofs.Common.{◌≡◌, ℕ, Bool, Option, Some, Result, Err, List, ◌∷◌, sym, ap, ◌∙◌, subst}
 use Rattle.std.specs.Prelude.{IfErr}
 use mathlib.Core.List.{IsPrefix}
@@ -41,7 +42,7 @@ use Rattle.papaya_map_compute.specs.Computing.{IsReplied}
 use Rattle.papaya_map_compute.specs.FastPath.{IsOnItsWay, StartsAt}
 use Rattle.papaya_map_compute.proofs.ComputeReplies.{replied_since}
 
--- no step is made where the closure or the rule is shown what there is
+-- no step is made when the closure or the rule is called with the current entry
 pub shown_at : {K V S T H : Type 0} {d : keyed.Ghosts S K H} (w : Window K V S H d) (x : Computing K V S T H) (w' : Window K V S H d) (x' : Computing K V S T H)
     (shown : Option (Stored K V)) → HasStepped w x w' x' (CallsClosure shown) → (answer : Answer)
     → Answers (call_ask_of x'.writer.call.machine.call) (Some answer) w' w' → Answers (call_ask_of x.writer.call.machine.call) (Some answer) w w'
@@ -52,17 +53,17 @@ module _ {K V S T H O : Type 0} {d : keyed.Ghosts S K H} (says : O → Option (S
   abbrev Heard : Type 0
   Heard = List (Option (Stored K V) × Operation V T)
 
-  -- this holds of each that may have started so
+  -- the property holds for each window, key and operator with which it may have started
   abbrev EachWay : ((since : Window K V S H d) (key : K) (first : O) → Type 0) → Type 0
   EachWay P = (since : Window K V S H d) (key : K) (first : O) → IsOnItsWay since start_window key says first asked start → P since key first
 
-  -- it relies on what is seen by now and on what was answered
+  -- it relies on the log observed so far and on the answers so far
   abbrev IsUnderWay : (w : Window K V S H d) (x : Computing K V S T H) (op : O) → Type 0
   IsUnderWay w x op = EachWay (λ since key first. (heard : Heard)
       × computing.IsUnderWay d.keys.eq d.keys.hash (begun_of w.book.now.parts) w.book.now.begun.book key since.sight.log w.sight.log x heard
       × HasReturned says first heard op)
 
-  -- and asks for itself
+  -- and is in phase `Calling`
   abbrev pub IsRunning : (w : Window K V S H d) (x : Computing K V S T H) (op : O) → Type 0
   IsRunning w x op = IsUnderWay w x op
       × IsValid x.writer.call.machine
@@ -72,7 +73,7 @@ module _ {K V S T H O : Type 0} {d : keyed.Ghosts S K H} (says : O → Option (S
       × Does (has_changed x.writer.call.machine) start_window w
       × CanCompute w x
 
-  -- This is an answer to what it asks, after what was shown by now.
+  -- This is an answer to its ask, after the calls of the closure so far.
   abbrev IsAnswer : (w : Window K V S H d) (x : Computing K V S T H) (op : O) → Answer → Type 0
   IsAnswer w x op answer = EachWay (λ since key first. (heard : Heard)
       × ((begun : List (Event K V S)) × IsPrefix since.sight.log begun
@@ -92,12 +93,12 @@ module _ {K V S T H O : Type 0} {d : keyed.Ghosts S K H} (says : O → Option (S
     )
 
     module _ (w : Window K V S H d) (x : Computing K V S T H) (op : O) (r : IsRunning w x op) where
-      -- what its machine asked for was done
+      -- the request of its machine was fulfilled
       module _ (w' : Window K V S H d) (x' : Computing K V S T H) (answer : Answer) (t : HasStepped w x w' x' (Answered answer)) where
         pub answered_so : IsAnswer w' x' op answer
         answered_so since key first h = let u = r.0 since key first h in (u.0, (u.1.0, u.1.1, rw t.sees.book (t.turns.0 key u.1.0 u.0 u.1.2)), u.2)
 
-      -- the closure or the rule was shown what there is, and has answered
+      -- the closure or the rule was called with the current entry, and has returned
       module _ (w' : Window K V S H d) (x' : Computing K V S T H) (shown : Option (Stored K V)) (t : HasStepped w x w' x' (CallsClosure shown))
           (done : Operation V T) (left : O) (said : says op shown done left) (x'' : Computing K V S T H) (answer : Answer)
           (hears : RecordsResult d.keys x' shown done x'' answer) where
@@ -108,7 +109,7 @@ module _ {K V S T H O : Type 0} {d : keyed.Ghosts S K H} (says : O → Option (S
           (op, u.2, said),
         )
 
-      -- so its machine may be told the answer, and goes on
+      -- so its machine may receive the answer, and continues
       module _ (w' : Window K V S H d) (x' : Computing K V S T H) (left : O) (answer : Answer) (is : IsAnswer w' x' left answer) where
         pub takes : CanTake w' x' answer
         takes = let u = is way.0 way.1 way.2 way.3 in (way.1, u.1.0, u.0, u.1.2)

@@ -1,4 +1,5 @@
--- After each answer a lookup again relies on what holds, holds what it loaded last, and has fewer steps left.
+-- After each answer a lookup again relies on facts that hold, holds the table and the pair that it
+-- loaded last, and has fewer steps left.
 use Rattle.std.proofs.Common.{◌≡◌, ⊎_elim, ℕ, ◌^◌, ◌<◌, ◌≤◌, Bool, true, MatchOption, Option, None}
 use Rattle.std.proofs.Common.{Some, List, [], append-nil, refl, sym, ap, ◌∙◌, subst, arith}
 use Rattle.std.specs.Cmp.{IsEquivalence}
@@ -47,7 +48,7 @@ pub of_get : (m : Machine) → m.task ≡ Get → m ≡ lookup m.hash m.initial 
 of_get m e = ap (λ (t : Task). record m { task = t }) e
 
 module _ {K V S : Type 0} where
-  -- the table that is held is held still, over a longer log, where no other one is named
+  -- the table that is held is still held, over a longer log, if no other one is named
   pub held_on : (log log' : List (Event K V S)) → IsPrefix log log' → (t : ℕ) (o : Option ℕ) → ((v : ℕ) → o ≡ Some v → t ≡ v)
       → (table : Option (Bor Sheet)) → HoldsTable log (Some t) table → HoldsTable log' o table
   held_on log log' pre t None only table h = tt
@@ -74,12 +75,12 @@ module _ {K V S H : Type 0} (eq : K → K → Bool) (input : K → List (List �
   abbrev On : List (Event K V S) → Machine → LoadedPairs (Stored K V) → Type 0
   On log m loaded = ReliesOn eq input build write finish classes respects b matches query lawful begun log m loaded
 
-  -- what a reading relies on
+  -- the facts that a reading relies on
   relies_on : (log : List (Event K V S)) (m : Machine) (table : Option (Bor Sheet)) (pair : Option (Stored K V)) → (r : Rested log m table pair)
       → On log m r.loaded
   relies_on log m table pair r = record { since = r.since; is = r.is; relies = r.relies }
 
-  -- an answer that follows
+  -- a right answer, after which the lookup continues with less left
   pub record IsGoing (log' : List (Event K V S)) (m : Machine) (answer : Answer) (table : Option (Bor Sheet)) (pair : Option (Stored K V)) : Type 0 where
     pub reading : Rested log' (after m answer) table pair
     pub fewer : left_of (after m answer).state < left_of m.state
@@ -222,7 +223,7 @@ module _ {K V S H : Type 0} (eq : K → K → Bool) (input : K → List (List �
           fewer = step.fewer;
         }
 
--- the map resizes as its setting says
+-- the map resizes as its setting states
 mode_of : (mode : ResizeMode) → IsModeOf mode (is_blocking mode)
 mode_of (Incremental chunk) = refl
 mode_of Blocking = refl

@@ -32,7 +32,7 @@ not_buried : (kind : Option StepKind) → kind ≡ Some kinds.Bury → IsPutting
 not_buried kind is puts = ⊎_elim (λ h. let no : Some kinds.Bury ≡ Some kinds.Claim = sym is ∙ h in cc no)
     (λ h. let no : Some kinds.Bury ≡ Some kinds.Replace = sym is ∙ h in cc no) puts
 
--- What holds of the write of a pair holds of what is asked for by it.
+-- A property of the write of a pair holds of the ask that it leads to.
 module _ (Holds : (t x old n : ℕ) → Type 0) where
   of_ask : (write : Write) (n : ℕ) → Holds write.place.table write.place.probe.i write.old n → (t x old new : ℕ)
       → put_ask write n ≡ Ask_exchange (Slot t x) old new → Holds t x old (pair_of new)
@@ -115,7 +115,7 @@ pub asked_served : (m : Machine) → IsValidState m.task m.state → IsWriter m.
     → IsServed m.made t x old (pair_of new)
 asked_served m s w t x old new e = served_in_stage m.task m.hash m.made m.state s w t x old new e
 
--- Where a pair is put in, it is claimed for an empty place, and else replaces the one that is there.
+-- A pair that is put in is claimed for an empty place, or replaces the one that is there.
 abbrev IsKindAt : Option StepKind → (t x old n : ℕ) → Type 0
 IsKindAt kind t x old n = kind ≡ Some (cond (old == 0) kinds.Claim kinds.Replace)
 

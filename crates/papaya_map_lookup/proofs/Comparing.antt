@@ -48,18 +48,18 @@ use Rattle.papaya_map_lookup.proofs.Lookups.{IsStepIn, hint_step, lookup, size_s
 use Rattle.papaya_map_lookup.proofs.Readings.{IsQuery, ReliesOn, allowed_with, coding, hashed_with, learned, setting}
 use Rattle.papaya_map_book.proofs.TableSizes.{sizes}
 
--- a lookup doesn't find a pair where it passes a table
+-- a lookup doesn't find a pair when it passes a table
 passes_unfound : (mode : ResizeMode) (fill : Option ℕ) (t n : ℕ) → passes Get mode fill t ≡ Ended (Found n) → ⊥
 passes_unfound (Incremental chunk) fill t n e = cc e
 passes_unfound Blocking fill t n e = cc e
 
 module _ {K P : Type 0} (g : Setting K P) (c : Coding K P) (hashed : IsHashed g c) (begun since : List (Exchange P))
     (may : AllAllowed g start (begun ++ since)) (k : K) (loaded : LoadedPairs P) where
-  -- the pair last told of was the key's at a moment of the call
+  -- the pair last passed to the machine was the key's at some point of the call
   abbrev pub WasLast : Type 0
   WasLast = (p : P) × (loaded.last ≡ Some p) × WasAtMoment g c begun since k (Some p)
 
-  -- what a search found is the pair last told of
+  -- a search finds the pair last passed to the machine
   found_last : (mode : ResizeMode) (remembered : Remembered) (s : ProbeStep) → ReliesProbed g c hashed begun since k loaded s → (n : ℕ)
       → goes_as Get mode remembered s ≡ Ended (Found n) → WasLast
   found_last mode remembered (seen.On search) r n e = absurd (cc e)
@@ -73,7 +73,7 @@ module _ {K P : Type 0} (g : Setting K P) (c : Coding K P) (hashed : IsHashed g 
       (p, r.1, r.2.had shows)
 
   module _ (hash initial : ℕ) (mode : ResizeMode) (made : Made) (remembered : Remembered) where
-    -- the lookup stands where it compares; the pair is the one that it was told of last
+    -- the lookup is in the state that compares; the pair is the one last passed to it
     pub yes_found : (s : Stage) → IsValidState Get s → ReliesStage g c begun since k loaded Get s → (n : ℕ) (same : Bool)
         → ((p : P) → loaded.last ≡ Some p → same ≡ g.same k (g.key p)) → asks made hash s ≡ SameKey n → (m : ℕ)
         → (after (lookup hash initial mode made remembered s) (Yes same)).state ≡ Ended (Found m) → WasLast
@@ -147,7 +147,7 @@ module _ {K V S H : Type 0} (eq : K → K → Bool) (input : K → List (List �
       (ask_named g c hashed begun r.since may None r.loaded m.task m.hash m.made m.state r.relies.stage) t x (inl e) in
       (came, subst (λ n. x < n) ((sizes (steps_of log) t came.0 came.1).0 ∙ ap (λ (z : Sheet). length z.slots) came.2) named.1)
 
-  -- the table has the size that it says
+  -- the table has the size that its sheet states
   pub size_read : (t : ℕ) (sheet : Sheet) → IsTable log t sheet → (slots limit : ℕ) → slots ≡ length sheet.slots → limit ≡ sheet.limit
       → IsSize slots limit → ask_of m ≡ SizeOf t
       → IsGoing eq input build write finish classes respects b matches query lawful begun log m (Size slots limit) table pair

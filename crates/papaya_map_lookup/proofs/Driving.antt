@@ -58,7 +58,9 @@ module _ {K V K' : Type 0} (g : Setting K' (Stored K V)) (c : Coding K' (Stored 
   own_word : (new : ℕ) (q : Stored K V) → IsOwnWord Numbered loaded new q → IsOwnWord c loaded' new q
   own_word new q own = record { made = made q own.made; named = numbers q ∙ own.named }
 
-  -- What a call asks for is what its machine asks for, where a pair that it claims has its key. It depends on the pairs that it made and on their numbers, and not on the pair last loaded.
+  -- An exchange that a call asks for is one that its machine asks for, if each pair that it claims
+  -- has its key. Only the pairs that the call made and their numbers matter, not the pair last
+  -- loaded.
   pub asked_by_made : (kind : Option StepKind) (at : At) (new : ℕ) (s : State (Stored K V)) (e : Exchange (Stored K V))
       → (kind ≡ Some kinds.Claim → (q : Stored K V) → IsOneOf loaded.made q → g.key q ≡ k) → IsCallAsked kind at new s loaded e
       → IsAsked g c k kind at new s loaded' e
@@ -111,7 +113,7 @@ code_same g g' c (Marked p) = refl
 code_same g g' c (Copied p) = refl
 code_same g g' c (Buried p) = refl
 
--- and so is the word that stands at a place
+-- and so is the word at a place
 pub word_same : {K P : Type 0} (g g' : Setting K P) (c : Coding K P) (s : State P) (at : At) → word_of g' c s at ≡ word_of g c s at
 word_same g g' c s Root = refl
 word_same g g' c s (Next t) = refl
@@ -130,7 +132,7 @@ module _ {K V S H : Type 0} (eq : K → K → Bool) (input : K → List (List �
   abbrev fed_to : ℕ
   fed_to = fed eq input build write finish classes respects b matches query lawful
 
-  -- the settings of a log, with what is called by as a further key and without it
+  -- the settings of a log, with the argument of the call as a further key and without it
   abbrev pub wide : List (Event K V S) → Setting (Option K) (Stored K V)
   wide log = setting eq input build write finish classes respects b matches query lawful log
 
@@ -149,13 +151,13 @@ module _ {K V S H : Type 0} (eq : K → K → Bool) (input : K → List (List �
     pub is : begun ++ since ≡ exchanges_of log
     pub relies : Relies (wide log) coded begun since k m loaded
 
-  -- the word that stands at a place, in the wide setting of any log
+  -- the word at a place, in the wide setting of any log
   pub word_wide : (log log' : List (Event K V S)) (at : At) → word_of (wide log') coded (state_of log) at ≡ word_in eq hash b log at
   word_wide log log' at = key_word (plain log') matches fed_to c (state_of log) at ∙ word_same (plain log) (plain log') c (state_of log) at
 
   module _ (log : List (Event K V S)) (l : IsLawfulLog eq hash b log) (m : Machine) (loaded : LoadedPairs (Stored K V)) (r : IsRelying log m loaded)
       (log' : List (Event K V S)) (l' : IsLawfulLog eq hash b log') (pre : IsPrefix log log') where
-    -- what has come since
+    -- the exchanges that have come since
     abbrev more : List (Exchange (Stored K V))
     more = exchanges_of pre.0
 
@@ -163,7 +165,7 @@ module _ {K V S H : Type 0} (eq : K → K → Bool) (input : K → List (List �
     longer = sym (append_assoc begun r.since more)
         ∙ (ap (λ (z : List (Exchange (Stored K V))). z ++ more) r.is ∙ (sym (exchanges_of-append log pre.0) ∙ ap exchanges_of pre.1))
 
-    -- the longer log's tables are no matter
+    -- the facts hold in the setting of the longer log, whose further tables make no difference
     carried : Relies (wide log') coded begun r.since k m loaded
     carried =
         let On = IsOn (state_of log).first (state_of log).next in
@@ -187,7 +189,7 @@ module _ {K V S H : Type 0} (eq : K → K → Bool) (input : K → List (List �
           more may_longer k m loaded carried;
     }
 
-    -- it is told of the log's words, with which the log grew
+    -- it receives an answer about the log's words, with which the log grew
     pub relying_told : (answer : Answer) (loaded' : LoadedPairs (Stored K V))
         → IsTrueOf (wide log') coded k (state_of log) (kind_of_ask m) loaded (ask_of m) answer more loaded' → IsRelying log' (after m answer) loaded'
     relying_told answer loaded' told =
@@ -207,7 +209,7 @@ module _ {K V S H : Type 0} (eq : K → K → Bool) (input : K → List (List �
     pub allowed : Allows (plain log) (state_of log) by
     pub written : IsWritten (plain log) c (state_of log) at new (after_exchange (state_of log) by)
 
-  -- so may what a machine asks for, whenever the old word stands there
+  -- so may the exchange that a machine asks for, whenever the expected word is there
   can_exchange : (v : List (Event K V S)) → IsLawfulLog eq hash b v → (m : Machine) (loaded : LoadedPairs (Stored K V)) → IsRelying v m loaded
       → (at : At) (old new : ℕ) → ask_of m ≡ Ask_exchange at old new
       → (log : List (Event K V S)) → IsPrefix v log → IsLawfulLog eq hash b log → word_in eq hash b log at ≡ old → IsGranted log (kind_of_ask m) loaded at new
@@ -233,12 +235,13 @@ module _ {K V S H : Type 0} (eq : K → K → Bool) (input : K → List (List �
         };
       }
 
-  -- A pair of this key may be put in by an exchange of this kind: it is claimed with the call's own key, and replaces one of its key.
+  -- A pair of this key may be put in by an exchange of this kind: it is claimed with the call's own
+  -- key, and replaces one of its key.
   abbrev pub IsKeyFor : List (Event K V S) → Option StepKind → (t x : ℕ) → K → Type 0
   IsKeyFor log kind t x key = (kind ≡ Some kinds.Claim → Some key ≡ k) × (kind ≡ Some kinds.Replace → HasKeyAt log t x key)
 
   module _ (log : List (Event K V S)) (loaded : LoadedPairs (Stored K V)) (t x new : ℕ) where
-    -- a pair that the call made is put in, where one of its number was asked for
+    -- a pair that the call made is put in, if one of its number was asked for
     module _ (q : Stored K V) (number : pair_of new ≡ q.index) where
       abbrev MayPut : Option StepKind → Type 0
       MayPut kind = MayStep eq hash b (Slot t x) kind new (Some q) (names.Pair q) log
@@ -289,7 +292,7 @@ module _ {K V S H : Type 0} (eq : K → K → Bool) (input : K → List (List �
           written = subst (λ (e : Exchange (Stored K V)). IsWritten (plain log) c (state_of log) (Slot t x) new (after_exchange (state_of log) e)) by g.written;
         })
 
-  -- which it may later too, since the key of a filled slot stays
+  -- it may be put in later too, since the key of a filled slot stays
   key_for_stays : (v log : List (Event K V S)) → IsLawfulLog eq hash b log → IsPrefix v log → (kind : Option StepKind) (t x : ℕ) (key : K)
       → IsKeyFor v kind t x key → IsKeyFor log kind t x key
   key_for_stays v log l pre kind t x key for = (for.0, λ is. key_at_stays eq input build write finish classes respects b v log l pre t x key (for.1 is))
@@ -333,7 +336,7 @@ module _ {K V S H : Type 0} (eq : K → K → Bool) (input : K → List (List �
       written = subst (λ (e : Exchange (Stored K V)). IsWritten (plain log) c (state_of log) Made new (after_exchange (state_of log) e)) asked written;
     }
 
-  -- A number for a pair may be taken whenever so many were taken as the machine was told.
+  -- A number for a pair may be taken whenever as many were taken as the machine has read.
   pub can_take : (v : List (Event K V S)) → IsLawfulLog eq hash b v → (m : Machine) (loaded : LoadedPairs (Stored K V)) → IsRelying v m loaded
       → (old new : ℕ) → ask_of m ≡ Ask_exchange Made old new → CanExchange eq hash b Made (kind_of_ask m) old new None names.Nothing v
   can_take v l m loaded r old new asks log pre l' stands = let g = can_exchange v l m loaded r Made old new asks log pre l' stands in

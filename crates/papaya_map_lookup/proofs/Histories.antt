@@ -29,7 +29,7 @@ module _ {K P : Type 0} (key : P → K) where
   changes_begin es fs gs e = (changes_of key fs, sym (changes-append es fs) ∙ ap (changes_of key) e)
 
 module _ {K P : Type 0} (g : Setting K P) where
-  -- the changes of a list make of a map what its exchanges make
+  -- the changes of a list act on a map as its exchanges do
   pub replay_is : (m : K → Option P) (es : List (Exchange P)) → replay_from g.same m (changes_of g.key es) ≡ map_of g m es
   replay_is m [] = refl
   replay_is m (Open t ∷ es) = replay_is m es

@@ -34,7 +34,7 @@ module _ {K V S H : Type 0} (eq : K → K → Bool) (input : K → List (List �
   abbrev plain : List (Event K V S) → Setting K (Stored K V)
   plain log = setting_of eq (hash b.hasher) b.mode b.limit log
 
-  -- the words of a longer log came of those that stood there
+  -- the words of a longer log come from those of the shorter one
   later_state : (log log' : List (Event K V S)) → IsLawfulLog eq hash b log' → IsPrefix log log' → IsLater (plain log') (state_of log) (state_of log')
   later_state log log' l' pre =
       let more = exchanges_of pre.0 in
@@ -50,7 +50,7 @@ module _ {K V S H : Type 0} (eq : K → K → Bool) (input : K → List (List �
       → HasKeyAt log' t x key
   key_at_stays log log' l' pre t x key h = key_stable (plain log') (state_of log) (state_of log') (later_state log log' l' pre) t x key h
 
--- The key of a pair that a machine met is in the slot still.
+-- The key of a pair that a machine met is still in the slot.
 module _ {K V S : Type 0} (eq : K → K → Bool) (hash : S → K → ℕ) (b : Begun K V S) (matches : K → Bool) (fed : ℕ)
     (begun since : List (Exchange (Stored K V))) (k : Option K) (log : List (Event K V S)) (is : begun ++ since ≡ exchanges_of log) where
   abbrev wide : Setting (Option K) (Stored K V)

@@ -57,7 +57,7 @@ done_state made hash (Growing u) stands reply e = absurd stands
 done_state made hash (Ended other) stands reply e = let is : other ≡ reply = cc e in ap Ended is
 
 module _ {K P : Type 0} (g : Setting K P) (c : Coding K P) (begun since : List (Exchange P)) (k : K) (loaded : LoadedPairs P) where
-  -- a lookup replies that its key was absent at a moment, or that it found a pair
+  -- a lookup replies that its key was absent at some point, or that it found a pair
   get_reply : (reply : Reply) → IsReply g c begun since k loaded Get reply → ((n : ℕ) → reply ≡ Found n → ⊥) → WasAtMoment g c begun since k None
   get_reply Absent r none = r
   get_reply (Found n) r none = absurd (none n refl)
@@ -80,7 +80,7 @@ module _ {K V S H : Type 0} (eq : K → K → Bool) (input : K → List (List �
   abbrev hash : S → K → ℕ
   hash = hash_of input build write finish
 
-  -- the history at a moment of the call
+  -- the history at some point of the call
   history_then : (value : Option (Stored K V))
       → WasAtMoment (setting eq input build write finish classes respects b matches query lawful log)
       (coding eq input build write finish classes respects b matches query lawful) (exchanges_of began) r.since None value → IsHistory eq matches old log value
@@ -120,7 +120,7 @@ module _ {K V S H : Type 0} (eq : K → K → Bool) (input : K → List (List �
       let h = history_then None (get_reply g c (exchanges_of began) r.since None r.loaded reply stage none) in
       record { seen = h.seen; since = h.since; until = h.until; is = h.had }
 
--- what an answer tells of the pair that was found, another tells that says less of it
+-- the result about the pair that was found, from one that states more of it
 found_as : {K V A B : Type 0} (is : A → Stored K V → Type 0) (is' : B → Stored K V → Type 0) (f : A → B)
     → ((a : A) (p : Stored K V) → is a p → is' (f a) p)
     → (eq : K → K → Bool) (matches : K → Bool) (old new : List (Change K (Stored K V))) (answer : Option A) (less : Option B) → option_map f answer ≡ less
@@ -144,7 +144,7 @@ module _ {K V : Type 0} (eq : K → K → Bool) (matches : K → Bool) (old new 
   pair_answer = found_as (λ hit p. (hit.key.now ≡ key_of p) × (hit.value.now ≡ p.value.value))
       (λ pair p. (pair.0.now ≡ key_of p) × (pair.1.now ≡ p.value.value)) (λ hit. (hit.key, hit.value)) (λ hit p is. is) eq matches old new
 
--- what was answered since more was seen
+-- a result since a longer history is one since a shorter history
 pub answered_since : {K V A : Type 0} (is_of : A → Stored K V → Type 0) (eq : K → K → Bool) (matches : K → Bool)
     (old mid new : List (Change K (Stored K V))) (answer : Option A) → IsPrefix old mid → IsFoundBetween is_of eq matches mid new answer
     → IsFoundBetween is_of eq matches old new answer

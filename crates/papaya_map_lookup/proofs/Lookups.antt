@@ -30,7 +30,7 @@ use Rattle.papaya_call.specs.Machine.{IsValidState, after, asks, passes, goes_as
 use Rattle.papaya_call_law.proofs.LoadsLeft.{chosen}
 use Rattle.papaya_map_lookup.specs.Lookups.{left_in, left_of, table_of}
 
--- a lookup comes here after a place of table u, where so much is left of u
+-- a lookup reaches this state after a place of table u, with this much left of u
 record Follows (u more : ℕ) (s : State) : Type 0 where
   pub table : (v : ℕ) → table_of s ≡ Some v → u ≡ v
   pub fewer : left_of s ≤ left_in u more
@@ -43,7 +43,7 @@ follows_passes (Incremental chunk) fill u more le = record { table = λ v e. cc 
 follows_passes Blocking fill u more le = follows_ended u more Absent
 
 module _ (mode : ResizeMode) (held : Remembered) (at : Place) (within : at.probe.len ≤ at.limit) where
-  -- what a search saw at a place leads to such a state
+  -- the outcome of a probe leads to such a state
   abbrev Leads : ℕ → ProbeStep → Type 0
   Leads more seen = Follows at.table more (goes_as Get mode held seen)
 
@@ -53,7 +53,7 @@ module _ (mode : ResizeMode) (held : Remembered) (at : Place) (within : at.probe
       (λ e. let lt = ltb-true at.probe.len at.limit e in record { table = λ v h. cc h; fewer = omega (arith, le, lt) })
       (λ e. follows_passes mode held.fill at.table more (omega (arith, le, within)))
 
-  -- of a hint
+  -- after a hint
   abbrev hint_read : ℕ
   hint_read = 3 * (at.limit + 1 - at.probe.len)
 
@@ -63,7 +63,7 @@ module _ (mode : ResizeMode) (held : Remembered) (at : Place) (within : at.probe
       (λ e. record { table = λ v h. cc h; fewer = omega arith })
       (λ e. leads_on hint_read (omega arith))
 
-  -- of a word
+  -- after a word
   abbrev word_read : ℕ
   word_read = 3 * (at.limit + 1 - at.probe.len) - 1
 
@@ -78,7 +78,7 @@ module _ (mode : ResizeMode) (held : Remembered) (at : Place) (within : at.probe
   leads_look kinds.Buried word = leads_on word_read (omega arith)
   leads_look kinds.Closed word = leads_on word_read (omega arith)
 
-  -- of a comparison
+  -- after a comparison
   abbrev compared : ℕ
   compared = 3 * (at.limit + 1 - at.probe.len) - 2
 
@@ -94,7 +94,7 @@ module _ (mode : ResizeMode) (held : Remembered) (at : Place) (within : at.probe
   leads_compared word true = leads_match (kind_of word) word
   leads_compared word false = leads_on compared (omega arith)
 
--- no load tells a lookup that a pair is the one that it looks for
+-- no load alone lets a lookup find its pair
 abbrev IsUnfound : State → Type 0
 IsUnfound s = (n : ℕ) → s ≡ Ended (Found n) → ⊥
 
@@ -118,20 +118,21 @@ unfound_look mode held at kinds.Copied word = λ n e. cc e
 unfound_look mode held at kinds.Buried word = unfound_on mode held at
 unfound_look mode held at kinds.Closed word = unfound_on mode held at
 
--- An answer to a lookup that names table t: it goes on in this table or in none, and less is left.
+-- An answer to a lookup that names table t: it continues in this table or in none, and less is
+-- left.
 pub record IsStepIn (t : ℕ) (s s' : State) : Type 0 where
   pub names : table_of s ≡ Some t
   pub table : (v : ℕ) → table_of s' ≡ Some v → t ≡ v
   pub fewer : left_of s' < left_of s
 
--- An answer with the number of a table, or 0: it goes on in that table, or in none.
+-- An answer with the number of a table, or 0: it continues in that table, or in none.
 pub record IsStepTo (n : ℕ) (s s' : State) : Type 0 where
   pub table : (v : ℕ) → table_of s' ≡ Some v → (n ≡ v) × (n ≡ 0 → ⊥)
   pub fewer : left_of s' < left_of s
   pub unfound : IsUnfound s'
 
 module _ (hash initial : ℕ) (mode : ResizeMode) (made : Made) (held : Remembered) where
-  -- a lookup that stands here
+  -- a lookup in this state
   abbrev pub lookup : State → Machine
   lookup s = record { task = Get; hash = hash; mode = mode; initial = initial; made = made; remembered = held; state = s }
 
@@ -197,7 +198,7 @@ module _ (hash initial : ℕ) (mode : ResizeMode) (made : Made) (held : Remember
   hint_step (Growing u) stands t x word e = absurd stands
   hint_step (Ended reply) stands t x word e = absurd (cc e)
 
-  -- the size of a table was told
+  -- the size of a table was received
   pub size_step : (s : State) → IsValidState Get s → (t slots limit : ℕ) → limit < 2 ^ 32 → asks made hash s ≡ SizeOf t
       → IsStepIn t s (after (lookup s) (Size slots limit)).state × IsUnfound (after (lookup s) (Size slots limit)).state
   size_step AtRoot stands t slots limit few e = absurd (cc e)
@@ -221,7 +222,7 @@ module _ (hash initial : ℕ) (mode : ResizeMode) (made : Made) (held : Remember
   size_step (Growing u) stands t slots limit few e = absurd stands
   size_step (Ended reply) stands t slots limit few e = absurd (cc e)
 
-  -- the pair last told of was compared
+  -- the pair last passed to the machine was compared
   pub yes_step : (s : State) → IsValidState Get s → (n : ℕ) (same : Bool) → asks made hash s ≡ SameKey n → (t : ℕ)
       × IsStepIn t s (after (lookup s) (Yes same)).state
   yes_step AtRoot stands n same e = absurd (cc e)

@@ -21,7 +21,8 @@ use Rattle.papaya_map_book.proofs.Logs.{exchanges_of-append}
 use Rattle.papaya_map_lookup.proofs.Readings.{IsQuery, coding, fed, key_form, setting}
 use Rattle.papaya_map_book.proofs.Settings.{is_hashed}
 
--- A history between those of two logs, where the keys that match had this value. Where it is a pair, the pair's key is one of them.
+-- A history between those of two logs, in which the keys that match had this value. If it is a
+-- pair, the pair's key is one of them.
 pub record IsHistory {K V S : Type 0} (eq : K → K → Bool) (matches : K → Bool) (old log : List (Event K V S)) (value : Option (Stored K V)) : Type 0 where
   pub seen : List (Change K (Stored K V))
   pub since : IsPrefix (history_of old) seen
@@ -68,7 +69,7 @@ module _ {K V S H : Type 0} (eq : K → K → Bool) (input : K → List (List �
     late : es ++ rest ≡ exchanges_of log
     late = append_assoc begun so_far rest ∙ (ap (λ (z : List (Exchange (Stored K V))). begun ++ z) parts ∙ is)
 
-    -- a moment of the call is a history between the two
+    -- a state of the map during the call is that of a history between the two
     history_at : (those : K → Bool) (value : Option (Stored K V)) → ((k : K) → those k ≡ true → map_left plain es k ≡ value)
         → ((p : Stored K V) → value ≡ Some p → those (key_of p) ≡ true) → IsHistory eq those old log value
     history_at those value had found = record {
@@ -83,11 +84,11 @@ module _ {K V S H : Type 0} (eq : K → K → Bool) (input : K → List (List �
     allowed_then : AllAllowed plain start es
     allowed_then = allowed_first plain es rest start (subst (AllAllowed plain start) (sym late) l.allowed)
 
-  -- the map at a moment, from that at the call's begin
+  -- the map at some point, from the map when the call began
   then_left : (so_far : List (Exchange (Stored K V))) (k : K) → map_left plain (begun ++ so_far) k ≡ map_of plain (map_left plain begun) so_far k
   then_left so_far k = ap (λ (z : K → Option (Stored K V)). z k) (map_of-append plain begun so_far (λ i. None))
 
-  -- what the further key had at a moment, the keys that it matches had in a history
+  -- a value that the further key had at some point, the keys that it matches had in a history
   pub matched_history : (value : Option (Stored K V)) → Was None value → IsHistory eq matches old log value
   matched_history value was =
       let f = fed eq input build write finish classes respects b matches query lawful in
@@ -95,7 +96,7 @@ module _ {K V S H : Type 0} (eq : K → K → Bool) (input : K → List (List �
       may value was in
       history_at moment.so_far moment.rest moment.is matches value (λ k h. then_left moment.so_far k ∙ moment.value_is k h) moment.found
 
-  -- what a key of the map had at a moment, the keys that equal it had in a history
+  -- a value that a key of the map had at some point, the keys that equal it had in a history
   pub own_history : (key : K) (value : Option (Stored K V)) → Was (Some key) value → IsHistory eq (eq key) old log value
   own_history key value was =
       let f = fed eq input build write finish classes respects b matches query lawful in

@@ -1,4 +1,4 @@
--- One place of a search of the root alone: where it leads the machine, which nothing runs.
+-- One place of a search of the root alone: the state to which it leads the ghost machine.
 use Rattle.std.proofs.Common.{◌≡◌, ℕ, nat_lt, if◌then◌else◌, Bool, true, false, MatchOption, Option, Some, List, sym, ap, ◌∙◌, subst}
 use Rattle.std.specs.Cmp.{IsEquivalence}
 use Rattle.std.proofs.lemmas.Bool.{ltb-true}
@@ -36,12 +36,12 @@ use Rattle.papaya_map_lookup.specs.declared.lookup.ProbeHit.TheVariants as turns
 use Rattle.papaya_map_lookup.proofs.Readings.{IsQuery, fed}
 use Rattle.papaya_map_lookup.proofs.Turning.{here_not, hint_passed, on_not, other_pair, passed, read_not, word_next}
 
--- a search goes on within its table
+-- a search continues within its table
 on_within : (at : Place) → IsWithin at → IsProbed (go_on at)
 on_within at within = chosen IsProbed (nat_lt at.probe.len at.limit) (On (Looking (next_place at))) (Over at.table)
     (λ e. next_within at within (ltb-true at.probe.len at.limit e)) (λ e. tt)
 
--- where no pair is at a place, and it is not the last, the next place is looked at
+-- if no pair is at a place, and it is not the last, the next place is probed
 pub went_on : {M E : Type 0} (P : ProbeHit M E → Type 0) (at next : Place) (near : RootHit M E) → near ≡ nears.On → nat_lt at.probe.len at.limit ≡ true
     → next ≡ next_place at → MatchOption (hit_in_root at near) (Unit {0}) P → P (turns.Next next)
 went_on {M} {E} P at next near on more is all =
@@ -50,11 +50,11 @@ went_on {M} {E} P at next near on more is all =
     let told : hit_in_root {M = M} {E = E} at near ≡ Some (turns.Next next) = ap (hit_in_root at) on ∙ ap (λ (s : ProbeStep). Some (hit_of s)) goes in
     subst (λ (o : Option (ProbeHit M E)). MatchOption o (Unit {0}) P) told all
 
--- what the word tells, by its kind
+-- the outcome by the word, by its kind
 pub looks : (at : Place) (word : ℕ) (kind : Kind) → kind_of word ≡ kind → look at word ≡ look_at kind at word
 looks at word kind is = ap (λ (k : Kind). look_at k at word) is
 
--- a matching key of a pair that lives there
+-- a matching key of a pair that is live there
 pub meets : (at : Place) (word : ℕ) (same : Bool) → kind_of word ≡ kinds.Live → same ≡ true → at_yes (Comparing at word) same ≡ Here at word
 meets at word same live e = ap (at_yes (Comparing at word)) e ∙ ap (λ (k : Kind). match_at k at word) live
 
@@ -82,7 +82,7 @@ module _ {K V S H : Type 0} (eq : K → K → Bool) (input : K → List (List �
         told (subst IsProbed (sym is) (on_within at within)) (λ a z. read_not at a (sym is ∙ z)) in
         subst (λ (s : ProbeStep). Turned log' table (hit_of s)) is all.0
 
-    -- or says nothing, or is the key's
+    -- or states nothing, or is the key's
     pub to_read : may_hold hint h ≡ true → IsReadingAt eq hash b matches fed_to begun h log' (Searching (Reading at)) table
     to_read e = word_next eq input build write finish classes respects b matches query lawful begun h name log at within table r log' pre hint told at
         (ap (λ (o : Bool). if o then On (Reading at) else go_on at) e)
@@ -105,7 +105,7 @@ module _ {K V S H : Type 0} (eq : K → K → Bool) (input : K → List (List �
         told (subst IsProbed (sym is) (on_within at within)) (λ a w z. on_not at a w (sym is ∙ z)) in
         subst (λ (s : ProbeStep). Turned log' table (hit_of s)) is all.0
 
-    -- a pair lives there, with another key
+    -- a live pair is there, with another key
     pub other_there : kind_of word ≡ kinds.Live → (p : Stored K V) → state ≡ Some (names.Pair p) → (same : Bool) → same ≡ matches (key_of p)
         → same ≡ false → Turned log' table (hit_of (go_on at))
     other_there live p is same same_is e =

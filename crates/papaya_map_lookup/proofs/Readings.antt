@@ -1,4 +1,5 @@
--- A lookup with the key that it searches for as a further key: what it relies on, over longer logs and after each answer.
+-- A lookup with the key that it searches for as a further key: the facts that it relies on, over
+-- longer logs and after each answer.
 use Rattle.std.proofs.Common.{◌≡◌, ℕ, ◌%◌, ◌^◌, Bool, true, Option, None, List, [], ◌++◌, append-nil, append_assoc, sym, ap, ◌∙◌, subst, arith}
 use Rattle.std.specs.Cmp.{IsEquivalence}
 use Rattle.std.specs.List.{fold}
@@ -32,7 +33,7 @@ use Rattle.papaya_map_book.proofs.Logs.{exchanges_of-append}
 use Rattle.papaya_map_book.proofs.Settings.{agrees_later, is_hashed}
 use Rattle.papaya_map_book.proofs.TableSizes.{some_slot}
 
--- what may be the hint of a slot may be so with the further key
+-- a possible hint of a slot is one with the further key too
 pub hint_with : {K P : Type 0} (g : Setting K P) (c : Coding K P) (matches : K → Bool) (hash : ℕ) (w : Word P) (n : ℕ) → IsHintOf g c w n
     → IsHintOf (with_key g matches hash) (coding_with c hash) w n
 hint_with g c matches hash Empty n h = h
@@ -52,7 +53,8 @@ hint_without g c matches hash (Marked p) n h = h
 hint_without g c matches hash (Copied p) n h = h
 hint_without g c matches hash (Buried p) n h = h
 
--- What is looked up matches some keys, which it hashes as and which are all that equal one of them.
+-- The argument of a lookup matches some keys. It hashes as they do, and they are all the keys that
+-- equal one of them.
 pub record IsQuery {K : Type 0} (eq : K → K → Bool) (input : K → List (List ℕ)) (matches : K → Bool) (query : List (List ℕ)) : Type 0 where
   pub feeds : (k : K) → matches k ≡ true → query ≡ input k
   pub class : (k l : K) → matches k ≡ true → matches l ≡ eq k l
@@ -63,7 +65,7 @@ module _ {K V S H : Type 0} (eq : K → K → Bool) (input : K → List (List �
   abbrev hash : S → K → ℕ
   hash = hash_of input build write finish
 
-  -- the hash of what is looked up
+  -- the hash of the lookup's argument
   abbrev pub fed : ℕ
   fed = finish (fold write (build b.hasher) query) % 2 ^ 64
 

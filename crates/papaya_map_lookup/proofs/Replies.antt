@@ -65,7 +65,7 @@ table_size (f ∷ es) t w e =
 
 module _ {K V S : Type 0} (eq : K → K → Bool) (hash : S → K → ℕ) (b : Begun K V S) (log : List (Event K V S)) (k : K) (kind : Option StepKind)
     (loaded : LoadedPairs (Stored K V)) where
-  -- a table's size is what a machine is to be told of it
+  -- a table's size is the right answer about it
   pub size_told : (t : ℕ) (sheet : Sheet) → IsTable log t sheet
       → IsTrueOf (setting_of eq (hash b.hasher) b.mode b.limit log) (coding_of (hash b.hasher)) k (state_of log) kind loaded (SizeOf t)
       (Size (length sheet.slots) sheet.limit) [] loaded
@@ -84,7 +84,7 @@ module _ {K V S : Type 0} (eq : K → K → Bool) (hash : S → K → ℕ) (b : 
       → IsTrueOf (setting_of eq (hash b.hasher) b.mode b.limit log) (coding_of (hash b.hasher)) k (state_of log) kind loaded (Load Root) (Word_read found) [] loaded
   root_answer name found table r = (ap Word_read (sym r.is), refl, refl)
 
-  -- and the word of a slot: the pair that it names is the one last told of
+  -- and the word of a slot: the pair that it names is the one last passed to the machine
   pub slot_answer : (name : Book) (t x found : ℕ) (pair : Option (Stored K V)) → IsSlot eq hash b name t x found log pair
       → IsTrueOf (setting_of eq (hash b.hasher) b.mode b.limit log) (coding_of (hash b.hasher)) k (state_of log) kind loaded (Load (Slot t x))
       (Word_read found) [] (record { last = or_last pair loaded.last; made = loaded.made })

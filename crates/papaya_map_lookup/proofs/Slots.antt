@@ -16,7 +16,7 @@ all_named : (b : Book) (ws : List Named) → AllOf b ws → ws ≡ map (word_nam
 all_named b [] a = refl
 all_named b (w ∷ ws) a = λ i. a.0 i ∷ all_named b ws a.1 i
 
--- so they are as what is seen of the table names them
+-- so they are the words that the observed sheet of the table names
 pub seen_words : (view seen : Sheet) (ws : List Named) → view ≡ seen → view.slots ≡ map (λ (w : Named). w.key) ws → AllOf view.book ws
     → ws ≡ map (word_named seen.book) seen.slots
 seen_words view seen ws same slots all = subst (λ (s : Sheet). ws ≡ map (word_named s.book) s.slots) same
@@ -33,7 +33,7 @@ named_at b [] i x l e = absurd (omega arith)
 named_at b (k ∷ ks) zero x l e = (k, refl, e)
 named_at b (k ∷ ks) (suc i) x l e = named_at b ks i x (omega arith) e
 
--- of the low bits of a slot's word, the first three alone tell its kind
+-- the low bits of a slot's word: its first three alone determine its kind
 pub low_bits : {K P : Type 0} (g : Setting K P) (c : Coding K P) (w : Word P) → code g c w % 1024 < 8
 low_bits g c Empty = omega arith
 low_bits g c Closed = omega arith

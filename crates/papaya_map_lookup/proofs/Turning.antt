@@ -1,4 +1,5 @@
--- A search of a table and the lookup around it: where each outcome of a place leads the machine, which nothing runs.
+-- A search of a table and the lookup around it: the state to which each outcome of a place leads
+-- the ghost machine.
 use Rattle.std.proofs.Common.{◌≡◌, ℕ, ◌<◌, ◌==◌, nat_lt, if◌then◌else◌, Bool, true, false}
 use Rattle.std.proofs.Common.{MatchOption, Option, None, Some, List, length, refl, sym, ap, ◌∙◌}
 use Rattle.std.proofs.Common.{subst, arith}
@@ -53,7 +54,7 @@ use Rattle.papaya_map_lookup.proofs.Comparing.{hint_held, same_read, size_read, 
 use Rattle.papaya_map_lookup.proofs.LookupReplies.{absent_answer, found_answer}
 use Rattle.papaya_map_lookup.proofs.Readings.{IsQuery, fed}
 
--- the search goes on, and neither loads a word nor compares a key
+-- the search continues, and neither loads a word nor compares a key
 abbrev IsOnward : ProbeStep → Type 0
 IsOnward (On (Looking at)) = Unit {0}
 IsOnward (On (Sizing t)) = ⊥
@@ -66,7 +67,7 @@ IsOnward (Over t) = Unit {0}
 onward_on : (at : Place) → IsOnward (go_on at)
 onward_on at = chosen IsOnward (nat_lt at.probe.len at.limit) (On (Looking (next_place at))) (Over at.table) (λ e. tt) (λ e. tt)
 
--- so it is where no word is to be loaded
+-- it is so if no word is to be loaded
 onward_hinted : (at : Place) (hash hint : ℕ) → ((a : Place) → hinted at hash hint ≡ On (Reading a) → ⊥) → IsOnward (hinted at hash hint)
 onward_hinted at hash hint =
     chosen (λ seen. ((a : Place) → seen ≡ On (Reading a) → ⊥) → IsOnward seen) (may_hold hint hash) (On (Reading at)) (go_on at)
@@ -81,7 +82,7 @@ read_hinted at hash hint a =
     chosen (λ seen. seen ≡ On (Reading a) → seen ≡ On (Reading at)) (may_hold hint hash) (On (Reading at)) (go_on at) (λ e h. refl)
     (λ e h. absurd (read_not at a h))
 
--- and where no key is to be compared
+-- and if no key is to be compared
 abbrev IsOnwardElse : ProbeStep → Type 0
 IsOnwardElse seen = ((a : Place) (w : ℕ) → seen ≡ On (Comparing a w) → ⊥) → IsOnward seen
 
@@ -93,7 +94,7 @@ onward_look kinds.Copied at word = λ none. absurd (none at word refl)
 onward_look kinds.Buried at word = λ none. onward_on at
 onward_look kinds.Closed at word = λ none. onward_on at
 
--- and where the pair of which the key was compared is not found
+-- and if the pair whose key was compared is not found
 abbrev IsOnwardBut : ProbeStep → Type 0
 IsOnwardBut seen = ((a : Place) (w : ℕ) → seen ≡ Here a w → ⊥) → IsOnward seen
 
@@ -109,7 +110,7 @@ onward_yes : (at : Place) (word : ℕ) (same : Bool) → IsOnwardBut (at_yes (Co
 onward_yes at word true = onward_match (kind_of word) at word
 onward_yes at word false = λ none. onward_on at
 
--- Where a key is compared, it is that of the pair of the word that was loaded.
+-- A compared key is that of the pair of the word that was loaded.
 pub record IsCompared (kind : Kind) (seen : ProbeStep) (at : Place) (word : ℕ) : Type 0 where
   pub some : kind ≡ kinds.Empty → ⊥
   pub shut : kind ≡ kinds.Closed → ⊥
@@ -131,13 +132,13 @@ compared_look kinds.Closed at word a w h = absurd (on_not at a w h)
 pub here_not : (at a : Place) (w : ℕ) → go_on at ≡ Here a w → ⊥
 here_not at a w = chosen (λ s. s ≡ Here a w → ⊥) (nat_lt at.probe.len at.limit) (On (Looking (next_place at))) (Over at.table) (λ e h. cc h) (λ e h. cc h)
 
--- a pair is found where its key matches
+-- a pair is found if its key matches
 here_same : (at a : Place) (word w : ℕ) (same : Bool) → at_yes (Comparing at word) same ≡ Here a w → same ≡ true
 here_same at a word w true here = refl
 here_same at a word w false here = absurd (here_not at a w here)
 
 module _ (M E : Type 0) where
-  -- the turn leads the machine where the search goes
+  -- the outcome leads the machine to the state of the search
   led_on : (mode : ResizeMode) (n : ℕ) (seen : ProbeStep) → IsOnward seen → goes_as Get mode nothing seen ≡ next_stage {M = M} {E = E} mode n (hit_of seen)
   led_on mode n (On (Looking at)) o = refl
   led_on mode n (On (Sizing t)) o = absurd o
@@ -165,7 +166,7 @@ module _ (M E : Type 0) where
   unfound_on (Here p word) met entry e = cc e
   unfound_on (Over t) met entry e = cc e
 
--- a lookup that was told this number of a table comes to that table, and has replied where it is 0
+-- a lookup that received this number of a table comes to that table, and has replied if it is 0
 abbrev pub numbered : ℕ → Stage
 numbered n = if n == 0 then Ended replies.Absent else Searching (Sizing n)
 
@@ -178,7 +179,7 @@ numbered_some log n sheet came =
 numbered_none : (n : ℕ) → n ≡ 0 → numbered n ≡ Ended replies.Absent
 numbered_none n e = ap numbered e
 
--- A lookup was told this number, and holds the table.
+-- A lookup received this number, and holds the table.
 pub record IsHeld {K V S H : Type 0} (eq : K → K → Bool) (hash : S → K → ℕ) (matches : K → Bool) (query : S → ℕ)
     (begun : List (Exchange (Stored K V))) (h : ℕ) (book : Book K V S H) (log : List (Event K V S)) (number : ℕ) (held : Option (Bor Sheet)) : Type 0 where
   pub pair : Option (Stored K V)
@@ -186,7 +187,7 @@ pub record IsHeld {K V S H : Type 0} (eq : K → K → Bool) (hash : S → K →
       (lookup_at h book.parts.mode book.parts.limit (numbered number)) held pair
   pub names : MatchOption held (number ≡ 0) (λ r. IsTable log number r.now × (r.now.book ≡ book.begun.book))
 
--- the pair that is held is the one last told of
+-- the pair that is held is the one last passed to the machine
 holds_or : {K V S : Type 0} (b : Begun K V S) (name : Name) (last pair told : Option (Stored K V)) → IsPlaced b (Some name) (pair_named told)
     → HoldsPair b last pair → HoldsPair b (or_last told last) (or_last told pair)
 holds_or b name last pair None placed h = h
@@ -206,11 +207,11 @@ module _ {K V S H : Type 0} (eq : K → K → Bool) (input : K → List (List �
   Reads log stage lent pair = Rested eq input build write finish classes respects b matches query lawful begun log (lookup_at h b.mode b.limit stage)
       (Some lent) pair
 
-  -- a turn led the machine on, and less is left
+  -- an outcome led the machine on, and less is left
   abbrev pub Goes : List (Event K V S) → Stage → Sheet → ProbeHit (Met K V) (Bor K × Bor V) → Type 0
   Goes log stage table turn = IsNextStage eq hash b name matches fed_to begun h log table turn × (left_of (next_stage b.mode 0 turn) < left_of stage)
 
-  -- a search that goes on
+  -- a search that continues
   goes_on : (log : List (Event K V S)) (stage : Stage) (table : Sheet) (lent : Bor Sheet) → lent.now ≡ table
       → (pair : Option (Stored K V)) (seen : ProbeStep) → IsProbed seen → IsOnward seen → Reads log (goes_as Get b.mode nothing seen) lent pair
       → left_of (goes_as Get b.mode nothing seen) < left_of stage → Goes log stage table (hit_of seen)
@@ -238,7 +239,7 @@ module _ {K V S H : Type 0} (eq : K → K → Bool) (input : K → List (List �
 
     -- its hint was loaded
     module _ (log' : List (Event K V S)) (pre : IsPrefix log log') (hint : ℕ) (told : IsSlotHint eq hash b at.table at.probe.i hint log') where
-      -- so the machine was answered
+      -- so the machine received a right answer
       hint_answered : Reads log' (goes_as Get b.mode nothing (hinted at h hint)) r.0 r.2
           × (left_of (goes_as Get b.mode nothing (hinted at h hint)) < left_of (Searching (Looking at)))
       hint_answered =
@@ -386,7 +387,7 @@ module _ {K V S H : Type 0} (eq : K → K → Bool) (input : K → List (List �
       (root_read eq input build write finish classes respects b matches query lawful (exchanges_of began) began log after told.lawful
       (lookup_at h b.mode b.limit AtRoot) None None first tt book.begun.book word held refl told).reading
 
-  -- a table that is held was asked for its size
+  -- the size of a table that is held was requested
   pub first_looked : (log : List (Event K V S)) (number : ℕ) (held : Option (Bor Sheet)) (pair : Option (Stored K V))
       → Reads_with log (numbered number) held pair → MatchOption held (number ≡ 0) (λ z. IsTable log number z.now × (z.now.book ≡ book.begun.book))
       → (lent : Bor Sheet) → held ≡ Some lent
@@ -419,7 +420,7 @@ module _ {K V S H : Type 0} (eq : K → K → Bool) (input : K → List (List �
       (lookup_at h b.mode b.limit (Leaving t)) (Some turned.lent) turned.pair r tt book.begun.book t word held refl told in
       (turned.pair, all.reading, subst (λ (s : Stage). left_of (numbered word) < left_of s) (sym leads) all.fewer)
 
-  -- what the lookup answers: the pair that was found
+  -- the lookup returns the pair that was found
   pub answers_found : (log : List (Event K V S)) (table : Sheet) (met : Met K V) (entry : Bor K × Bor V) → Turned log table (turns.Found met entry)
       → (lent : Bor Sheet) → IsHitAnsweredBetween {S = S} {H = H} eq matches (history_of old) (history_of log)
       (Some (record { table = lent; met = met; key = entry.0; value = entry.1 }))
@@ -434,18 +435,18 @@ module _ {K V S H : Type 0} (eq : K → K → Bool) (input : K → List (List �
   absent log held pair r = absent_answer eq input build write finish classes respects b matches query lawful old began pre log
       (lookup_at h b.mode b.limit (Ended replies.Absent)) held pair r tt replies.Absent refl (λ n e. cc e)
 
-  -- none, where a search ended so
+  -- none, if a search ended so
   pub answers_absent : (log : List (Event K V S)) (table : Sheet) → Turned log table turns.Absent
       → IsHitAnsweredBetween {S = S} {H = H} eq matches (history_of old) (history_of log) None
   answers_absent log table turned = absent log (Some turned.lent) turned.pair turned.reading
 
-  -- or passed the table where no further one is searched
+  -- or if it passed the table and no further one is searched
   pub answers_passed : (log : List (Event K V S)) (table : Sheet) (t : ℕ) → book.parts.mode ≡ Blocking → Turned log table (turns.Over t)
       → IsHitAnsweredBetween {S = S} {H = H} eq matches (history_of old) (history_of log) None
   answers_passed log table t mode turned = absent log (Some turned.lent) turned.pair
       (subst (λ (s : Stage). Reads_with log s (Some turned.lent) turned.pair) (ap (λ (z : ResizeMode). passes Get z None t) mode) turned.reading)
 
-  -- or where there is no table
+  -- or if there is no table
   pub answers_none : (log : List (Event K V S)) (number : ℕ) (held : Option (Bor Sheet)) (pair : Option (Stored K V))
       → Reads_with log (numbered number) held pair → MatchOption held (number ≡ 0) (λ z. IsTable log number z.now × (z.now.book ≡ book.begun.book))
       → held ≡ None → IsHitAnsweredBetween {S = S} {H = H} eq matches (history_of old) (history_of log) None
@@ -453,7 +454,7 @@ module _ {K V S H : Type 0} (eq : K → K → Bool) (input : K → List (List �
       let zero = subst (λ (o : Option (Bor Sheet)). MatchOption o (number ≡ 0) (λ z. IsTable log number z.now × (z.now.book ≡ book.begun.book))) none named in
       absent log held pair (subst (λ (s : Stage). Reads_with log s held pair) (numbered_none number zero) reading)
 
--- a search that neither goes on, nor found a pair, nor passed the table
+-- a search that neither continues, nor found a pair, nor passed the table
 pub absent_else : {M E : Type 0} (turn : ProbeHit M E) → ((at : Place) → turn ≡ turns.Next at → ⊥)
     → ((met : M) (entry : E) → turn ≡ turns.Found met entry → ⊥) → ((t : ℕ) → turn ≡ turns.Over t → ⊥) → turn ≡ turns.Absent
 absent_else (turns.Next at) on found over = absurd (on at refl)

@@ -14,7 +14,7 @@ use Rattle.papaya_map_scan.specs.Leaving.{AllDrop, AreDropped, Drops, HasDropped
 use Rattle.papaya_map_scan.specs.Meeting.{HadPair}
 
 module _ {K V : Type 0} (p : Stored K V) where
-  -- what was taken out was so for good, and after anything earlier too
+  -- an entry that was taken out was so for good, and since any earlier history
   pub out_later : (old new newer : List (Change K (Stored K V))) → IsPrefix new newer → WasTakenOut old new p → WasTakenOut old newer p
   out_later old new newer pre r = record {
     before = r.before;
@@ -35,18 +35,18 @@ module _ {K V : Type 0} (p : Stored K V) where
   }
 
 module _ {K P : Type 0} (eq : K → K → Bool) (classes : IsEquivalence eq) (key : P → K) where
-  -- equal keys have one pair
+  -- equal keys have one entry
   abbrev pub IsOfClasses : (K → Option P) → Type 0
   IsOfClasses m = (k l : K) → eq k l ≡ true → m k ≡ m l
 
   changed_classes : (m : K → Option P) → IsOfClasses m → (c : Change K P) → IsOfClasses (changed eq m c)
   changed_classes m of c k l same = ap (λ b. cond b c.put (m k)) (classes.congr k l c.class same) ∙ ap (cond (eq l c.class) c.put) (of k l same)
 
-  -- some change of these took the pair out
+  -- one of these changes took the entry out
   abbrev pub IsOut : List (Change K P) → P → Type 0
   IsOut cs p = (before : List (Change K P)) × (change : Change K P) × (rest : List (Change K P)) × (before ++ change ∷ rest ≡ cs) × (change.taken ≡ Some p)
 
-  -- what the map has it has after the changes, or one of them took it out
+  -- an entry of the map is there after the changes, or one of them took it out
   out_or_there : (cs : List (Change K P)) (m : K → Option P) → IsOfClasses m → AllLegalChanges eq key m cs → (k : K) (p : P) → m k ≡ Some p
       → IsOut cs p ⊎ (replay_from eq m cs k ≡ Some p)
   out_or_there [] m of legal k p has = inr has
@@ -60,14 +60,14 @@ module _ {K P : Type 0} (eq : K → K → Bool) (classes : IsEquivalence eq) (ke
       (out_or_there cs (changed eq m c) (changed_classes m of c) legal.1 k p (cond-false (eq k c.class) c.put (m k) other ∙ has)))
       (cases_Bool (eq k c.class))
 
-  -- so too from a moment on
+  -- so too from some state on
   pub out_since : (old cs : List (Change K P)) (m : K → Option P) → IsOfClasses m → AllLegalChanges eq key m (old ++ cs) → (k : K) (p : P)
       → replay_from eq m old k ≡ Some p → IsOut cs p ⊎ (replay_from eq m (old ++ cs) k ≡ Some p)
   out_since [] cs m of legal k p has = out_or_there cs m of legal k p has
   out_since (c ∷ old) cs m of legal k p has = out_since old cs (changed eq m c) (changed_classes m of c) legal.1 k p has
 
 module _ {K V : Type 0} (eq : K → K → Bool) (classes : IsEquivalence eq) where
-  -- a pair of the map is the map's after a longer history, or was taken out
+  -- an entry of the map is the map's after a longer history, or was taken out
   pub out_or_still : (old new : List (Change K (Stored K V))) → IsPrefix old new → IsLegalHistory eq key_of new → (k : K) (p : Stored K V)
       → replay eq old k ≡ Some p → WasTakenOut old new p ⊎ (replay eq new k ≡ Some p)
   out_or_still old new pre legal k p has =
@@ -87,7 +87,7 @@ module _ {K V : Type 0} (eq : K → K → Bool) (classes : IsEquivalence eq) whe
 
   module _ (older old new : List (Change K (Stored K V))) (pre : IsPrefix older old) (legal : IsLegalHistory eq key_of old)
       (said : List (Stored K V × Bool)) where
-    -- what is left of the map after one history is left of it after an earlier one
+    -- the entries that are left after one history are left after an earlier one
     pub retained_earlier : IsPrefix old new → IsRetained eq old new said → IsRetained eq older new said
     retained_earlier on r k p has =
         ⊎_elim
@@ -95,12 +95,12 @@ module _ {K V : Type 0} (eq : K → K → Bool) (classes : IsEquivalence eq) whe
         (λ still. ⊎_elim (λ out. inl (out_earlier p older old new pre out)) (λ stays. inr stays) (r k p still))
         (out_or_still older old pre legal k p has)
 
-  -- and is so for good
+  -- and for good
   pub retained_later : (old new newer : List (Change K (Stored K V))) → IsPrefix new newer → (said : List (Stored K V × Bool))
       → IsRetained eq old new said → IsRetained eq old newer said
   retained_later old new newer pre said r k p has = ⊎_elim (λ out. inl (out_later p old new newer pre out)) (λ stays. inr stays) (r k p has)
 
-  -- where the map has no pair any more, each was taken out
+  -- if the map has no entry any longer, each was taken out
   pub retained_none : (old new : List (Change K (Stored K V))) → IsPrefix old new → IsLegalHistory eq key_of new → ((k : K) → replay eq new k ≡ None)
       → (said : List (Stored K V × Bool)) → IsRetained eq old new said
   retained_none old new pre legal none said k p has =
@@ -113,7 +113,7 @@ module _ {K V : Type 0} (eq : K → K → Bool) (old new : List (Change K (Store
   drop_more [] all change p had drops = ((p, had, drops), tt)
   drop_more (c ∷ made) all change p had drops = (all.0, drop_more made all.1 change p had drops)
 
-  -- what was made of the answers about pairs that the map had are drops
+  -- the changes made for results about entries that the map had are drops
   all_drop : (said : List (Stored K V × Bool)) → AllArguments (HadPair eq old new) said → (made : List (Change K (Stored K V))) → AreDropped said made
       → AllDrop eq old new made
   all_drop [] had made is = subst (AllDrop eq old new) (sym is) tt

@@ -1,12 +1,12 @@
 -- The later states of an entry that was in a slot.
 pub mod Pairs
--- and of one that the map had
+-- and those of one that the map had
 pub mod Leaving
--- what stands in the slots of a table that was taken
+-- the words in the slots of a table that was taken
 pub mod Taken
--- what a walk has passed of it
+-- the part of it that an iteration has passed
 pub mod Walking
--- how the scan of a slot goes on
+-- how the scan of a slot continues
 pub mod Scanning
--- what is so stays so
+-- facts that stay true
 pub mod TableScans

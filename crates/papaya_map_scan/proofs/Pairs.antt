@@ -25,7 +25,7 @@ TakesIt (Replace t x q r) p = q ≡ p
 TakesIt (Bury t x q) p = q ≡ p
 TakesIt _ p = ⊥
 
--- some exchange of these does
+-- one of these exchanges does
 pub record IsPairOut {P : Type 0} (fs : List (Exchange P)) (p : P) : Type 0 where
   pub so_far : List (Exchange P)
   pub by : Exchange P
@@ -47,7 +47,7 @@ it_kind w p (inl e) = ap (λ u. has_pair (kind u)) e
 it_kind w p (inr (inl e)) = ap (λ u. has_pair (kind u)) e
 it_kind w p (inr (inr e)) = ap (λ u. has_pair (kind u)) e
 
--- what takes a pair out is a change that does
+-- an exchange that takes a pair out is a change that does
 pub change_out : {K P : Type 0} (key : P → K) (p : P) (e : Exchange P) → TakesIt e p → (c : Change K P) × (change_of key e ≡ c ∷ []) × (c.taken ≡ Some p)
 change_out key p (Replace t x q r) out = (record { class = key q; taken = Some q; put = Some r }, refl, ap Some out)
 change_out key p (Bury t x q) out = (record { class = key q; taken = Some q; put = None }, refl, ap Some out)
@@ -102,7 +102,7 @@ module _ {K P : Type 0} (g : Setting K P) (law : IsLawful g) where
       → ((run fs s).slot t x ≡ Marked p) ⊎ ((run fs s).slot t x ≡ Copied p)
   marked_then t x p fs s may marked = subst (λ w. Becomes g w ((run fs s).slot t x)) marked ((later_run g law fs s may).words t x)
 
-  -- a pair that stood Live in a slot is there in one form or the other, or it was taken out
+  -- a pair that was live in a slot is there in one form or the other, or it was taken out
   live_then : (t x : ℕ) (p : P) (fs : List (Exchange P)) (s : State P) → AllAllowed g s fs → s.slot t x ≡ Live p → HasIt ((run fs s).slot t x) p
       ⊎ IsPairOut fs p
   live_then t x p [] s may live = inl (inl live)
@@ -136,7 +136,7 @@ module _ {K P : Type 0} (g : Setting K P) (law : IsLawful g) where
         let (j, within, is) = own_place g s (keeping_sound g s m keeps) law k t x p same (it_named (s.slot t x) p h) in
         (j, within, is, ap (λ y. active (view g k (s.slot t y))) is ∙ it_active k (s.slot t x) p h same)
 
-    -- no two slots of a table have pairs of one key
+    -- no two slots of a table have pairs of equal keys
     pub its_slot : (t x y : ℕ) (p q : P) → HasIt (s.slot t x) p → HasIt (s.slot t y) q → g.same (g.key q) (g.key p) ≡ true → x ≡ y
     its_slot t x y p q hx hy same =
         let base : IsBase (IsOn s.first s.next) g.places (g.place (g.key q)) (look g s (g.key q)) =

@@ -1,4 +1,4 @@
--- The scan of a slot goes on by the word that is there and by what the closure returns for its pair.
+-- The scan of a slot continues by the word that is there and by the closure's result for its pair.
 use Rattle.std.proofs.Common.{◌≡◌, inl, inr, ⊎_elim, ℕ, suc, ◌==◌, Bool, true, false, Option, None}
 use Rattle.std.proofs.Common.{Some, List, [], ◌∷◌, ◌++◌, map, append_assoc, eqb-true, refl, sym, ap}
 use Rattle.std.proofs.Common.{◌∙◌, subst}
@@ -49,7 +49,7 @@ module _ {K V F : Type 0} (eq : K → K → Bool) (judges : F → Stored K V →
   had_wider : (newer : List (Change K (Stored K V))) → IsPrefix new newer → (p : Stored K V) → HadPair eq old new p → HadPair eq old newer p
   had_wider newer pre p r = record { seen = r.seen; since = r.since; until = prefix_trans r.seen new newer r.until pre; is = r.is }
 
-  -- what was shown so far, once more is seen
+  -- the calls of the closure so far, over a longer log
   pub shown_later : (newer : List (Change K (Stored K V))) → IsPrefix new newer → HasCalled eq old newer made mine judges first left said
   shown_later newer pre = record {
     has_said = h.has_said;
@@ -61,7 +61,7 @@ module _ {K V F : Type 0} (eq : K → K → Bool) (judges : F → Stored K V →
   }
 
   module _ (q : Stored K V) (next : F) (had : HadPair eq old new q) where
-    -- a further pair is shown
+    -- the closure is called with a further pair
     pub shown_more : (stays : Bool) → judges left q stays next → HasCalled eq old new made mine judges first next ((q, stays) ∷ said)
     shown_more stays says = record {
       has_said = (left, h.has_said, says);
@@ -72,7 +72,7 @@ module _ {K V F : Type 0} (eq : K → K → Bool) (judges : F → Stored K V →
           h.dropped;
     }
 
-    -- and taken out
+    -- and the pair is taken out
     pub shown_dropped : judges left q false next → (newer : List (Change K (Stored K V))) → IsPrefix new newer → (change : Change K (Stored K V))
         → Drops change q → (mine' : List (Change K (Stored K V))) → mine' ≡ mine ++ change ∷ []
         → HasCalled eq old newer made mine' judges first next ((q, false) ∷ said)
@@ -90,14 +90,14 @@ last_snoc (y ∷ []) x = refl
 last_snoc (y ∷ (z ∷ zs)) x = last_snoc (z ∷ zs) x
 
 module _ {K V S : Type 0} (log : List (Event K V S)) (t x : ℕ) (shown : Stored K V) (r : IsBuried log t x shown) where
-  -- the change that a deletion is
+  -- the change that a deletion makes
   abbrev pub burial : Change K (Stored K V)
   burial = record { class = key_of r.pair; taken = Some r.pair; put = None }
 
   pub burial_drops : Drops burial shown
   burial_drops = (r.pair, refl, refl, r.same)
 
-  -- it is the last that was done
+  -- it is the last step of the call's own
   pub burial_done : (done done' : List (Step K V)) → done' ≡ done ++ last_if true (steps_of log) → changes_by done' ≡ changes_by done ++ burial ∷ []
   burial_done done done' is =
       let steps : steps_of log ≡ steps_of r.before ++ r.step ∷ [] = ap steps_of r.is ∙ (steps-append r.before (Stepped r.step ∷ []) ∙ refl) in
@@ -107,7 +107,7 @@ module _ {K V S : Type 0} (log : List (Event K V S)) (t x : ℕ) (shown : Stored
       ap (changes_of key_of) whole ∙ (changes-append key_of (map exchange_of done) (exchange_of r.step ∷ [])
       ∙ ap (λ (e : Exchange (Stored K V)). changes_by done ++ changes_of key_of (e ∷ [])) r.buries)
 
-  -- and the pair is not in the slot any more
+  -- and the pair is no longer in the slot
   pub burial_there : (state_of log).slot t x ≡ Buried r.pair
   burial_there =
       ap (λ (l : List (Event K V S)). (state_of l).slot t x) r.is
@@ -129,7 +129,7 @@ module _ {K V S H F : Type 0} (eq : K → K → Bool) (input : K → List (List 
 
   module _ (name : Book) (log : List (Event K V S)) (pre : IsPrefix v log) (mine' : List (Change K (Stored K V))) (f' : F) (x word : ℕ)
       (pair : Option (Stored K V)) (s : IsSlot eq hashing b name t x word log pair) (so : So log mine' f' x x (Unit {0})) where
-    -- the table was taken before what is seen now
+    -- the table was taken before the log that is observed now
     abbrev moment : (at : List (Event K V S)) → IsTakenAt b began v t at → IsTaken b began log t
     moment at r = record { at = at; since = r.since; until = prefix_trans at v log r.until pre; root = r.root; some = r.some; last = r.last }
 
@@ -168,7 +168,7 @@ module _ {K V S H F : Type 0} (eq : K → K → Bool) (input : K → List (List 
                 (one.2 tt at taken scanned) q there),
           )
 
-      -- it does not
+      -- the closure returned `false` for it
       pub so_shown : judges f' q false f'' → So log mine' f'' x x (Unit {0})
       so_shown says first made said h =
           let one = so first made said h in (
@@ -178,7 +178,7 @@ module _ {K V S H F : Type 0} (eq : K → K → Bool) (input : K → List (List 
                 (one.2 tt at taken scanned) q there false),
           )
 
-      -- and was deleted
+      -- and it was deleted
       pub so_buried : (ended : Type 0) → judges f' q false f'' → (log' : List (Event K V S)) → IsPrefix log log' → IsLawfulLog eq hashing b log'
           → IsBuried log' t x q → (mine'' : List (Change K (Stored K V))) → ((r : IsBuried log' t x q) → mine'' ≡ mine' ++ burial log' t x q r ∷ [])
           → So log' mine'' f'' x (suc x) ended

@@ -49,7 +49,7 @@ module _ {K V S H : Type 0} {d : keyed.Ghosts S K H} where
       subst (λ (z : Bor (Book K V S H)). taking.IsTakenAt (begun_of z.now.parts) began w'.sight.log t at) (sym sees.book) later
 
   module _ {F : Type 0} (began : List (Event K V S)) (judges : F → Stored K V → Bool → F → Type 0) where
-    -- what was shown so far, once more is seen
+    -- the calls of the closure so far, over a longer log
     pub shown_on : (w w' : Window K V S H d) → Sees w w' → w'.own.done ≡ w.own.done
         → (made : List (Change K (Stored K V))) (first f : F) (said : List (Stored K V × Bool)) → HasCalled began judges made w first f said
         → HasCalled began judges made w' first f said
@@ -58,7 +58,7 @@ module _ {K V S H : Type 0} {d : keyed.Ghosts S K H} where
         (shown_later d.keys.eq judges (history_of began) (past w) made (own w) first f said h (past w') (history_since w.sight.log w'.sight.log sees.log))
 
     module _ (t : ℕ) where
-      -- a scan that begins, one once more is seen, and one after another
+      -- a scan that begins, one over a longer log, and one after another
       pub scans_none : (w : Window K V S H d) (f : F) (from : ℕ) → Scans began judges w f w f t from from (Unit {0})
       scans_none w f from first made said h = (said, h, λ e at taken scanned. scanned)
 
@@ -80,7 +80,7 @@ module _ {K V S H : Type 0} {d : keyed.Ghosts S K H} where
           let two = v' first made one.0 one.1 in
           (two.0, two.1, λ e at taken scanned. two.2 e at (taken_at_on began w w' t at sees taken) (one.2 tt at taken scanned))
 
-      -- where it came to its end, or to no end at all
+      -- the same, if the condition on its end is stronger, or is never met
       pub scans_ended : (w w' : Window K V S H d) (f f' : F) (from upto : ℕ) (ended other : Type 0) → (other → ended)
           → Scans began judges w f w' f' t from upto ended → Scans began judges w f w' f' t from upto other
       scans_ended w w' f f' from upto ended other so v first made said h =
@@ -91,7 +91,7 @@ module _ {K V S H : Type 0} {d : keyed.Ghosts S K H} where
       scans_stopped w w' f f' from mid upto ended other never v first made said h =
           let one = v first made said h in (one.0, one.1, λ e. absurd (never e))
 
--- a slot that is left of a table, once more is seen
+-- a slot that is left of a table, over a longer log
 slot_later : {K V S : Type 0} (log log' : List (Event K V S)) (t x : ℕ) (word : Word) → IsPrefix log log' → IsSlotAt log t x word → IsSlotAt log' t x word
 slot_later log log' t x word pre h = (h.0, table_since log log' t h.0 pre h.1, h.2, h.3, h.4)
 
@@ -139,7 +139,7 @@ module _ {K V S : Type 0} (log : List (Event K V S)) (t : ℕ) (sheet : Sheet) (
   pub all_last : AreLast log t (length sheet.slots) (map (word_named sheet.book) sheet.slots)
   all_last = are_last sheet.slots (omega arith) (λ i. ap (slice_get sheet.slots) (omega arith))
 
--- a walk begins with all slots of the root, or with none
+-- an iteration begins with all slots of the root, or with none
 pub all_left : {K V S : Type 0} (eq : K → K → Bool) (b : Begun K V S) (began log : List (Event K V S)) (t : ℕ) (sheet : Sheet) (words : List Word)
     → IsPrefix began log → calls.IsTable log t sheet → taking.IsTaken b began log t → words ≡ map (word_named sheet.book) sheet.slots
     → ArePassed eq b began log t 0 (length sheet.slots) [] → IsLeft eq b began log t words 0 []
@@ -157,7 +157,7 @@ pub none_left : {K V S : Type 0} (eq : K → K → Bool) (b : Begun K V S) (bega
     → ArePassed eq b began log 0 0 0 [] → IsLeft eq b began log 0 [] 0 []
 none_left eq b began log pre passed = record { since = pre; last = tt; taken = λ some. absurd (omega (arith, some)); passed = passed }
 
--- what a walk gives, once it has gone on
+-- the next result of an iteration, after another one
 pub gives_next : {K V : Type 0} (eq : K → K → Bool) (before after : Walked K V) → Walks eq before after → (L : Type 0)
     → (L → IsLegalHistory eq key_of after.history) → (found : Option (Bor K × Bor V)) → after.given ≡ with_found before.given found
     → MatchOption found (Unit {0}) (λ entry. L)

@@ -65,7 +65,7 @@ taken_later b old log log' t r pre = record {
   last = r.last;
 }
 
--- and it was after anything earlier too
+-- and it was since any earlier log
 pub taken_earlier : {K V S : Type 0} (b : Begun K V S) (older old log : List (Event K V S)) (t : ℕ) → IsPrefix older old → IsTaken b old log t
     → IsTaken b older log t
 taken_earlier b older old log t pre r = record {
@@ -77,14 +77,14 @@ taken_earlier b older old log t pre r = record {
   last = r.last;
 }
 
--- what was scanned was so for good
+-- slots that were scanned stay so for good
 pub scanned_later : {K V S : Type 0} (at log log' : List (Event K V S)) → IsPrefix log log' → (t upto : ℕ) (said : List (Stored K V × Bool))
     → IsScannedUpTo at log t upto said → IsScannedUpTo at log' t upto said
 scanned_later at log log' pre t upto said scanned x lt p had =
     ⊎_elim (λ out. inl (out_later p (history_of at) (history_of log) (history_of log') (history_since log log' pre) out)) (λ kept. inr kept)
     (scanned x lt p had)
 
--- and so was a pair that the map had
+-- and so does an entry that the map had
 pub had_later : {K V S : Type 0} (eq : K → K → Bool) (old log log' : List (Event K V S)) (p : Stored K V)
     → HadPair eq (history_of old) (history_of log) p → IsPrefix log log' → HadPair eq (history_of old) (history_of log') p
 had_later eq old log log' p r pre = record {
@@ -140,7 +140,7 @@ module _ {K V S H : Type 0} (eq : K → K → Bool) (input : K → List (List �
   takes_found old log pre blocks t some root =
       record { at = log; since = pre; until = ([], append-nil log); root = root; some = some; last = λ inc. absurd (cc (inc, blocks)) }
 
-  -- a root that has no next table then is the root still
+  -- a root that has no next table then is still the root
   pub takes_last : (old v log : List (Event K V S)) → IsPrefix old v → IsPrefix v log → Lawful v → Lawful log → (t : ℕ) → 0 < t
       → (state_of v).root ≡ t → (state_of log).next t ≡ 0 → IsTaken b old log t
   takes_last old v log first pre l l' t some root none =
@@ -169,7 +169,7 @@ module _ {K V S H : Type 0} (eq : K → K → Bool) (input : K → List (List �
     law : IsLawful Gs
     law = (hashed eq input build write finish classes respects b log l).lawful
 
-    -- the words as it was taken, the map then, and the exchanges since
+    -- the words when it was taken, the map then, and the exchanges since
     abbrev taken_words : State (Stored K V)
     taken_words = state_of r.at
 
@@ -192,7 +192,7 @@ module _ {K V S H : Type 0} (eq : K → K → Bool) (input : K → List (List �
     reached : (k : K) → IsReached Gs (state_of log) k t
     reached k = subst (λ (s : State (Stored K V)). IsReached Gs s k t) ran (reached_now Gs law taken_words taken_map keeps t r.root r.some r.last since may k)
 
-    -- what the map had at a moment since then, it had in a history
+    -- an entry that the map had at some point since then, it had in a history
     had_in : (p : Stored K V) → IsAtMoment Gs taken_map since (key_of p) (Some p) → HadPair eq (history_of old) (history_of log) p
     had_in p moment =
         let es = exchanges_of r.at ++ moment.so_far in
@@ -235,12 +235,12 @@ module _ {K V S H : Type 0} (eq : K → K → Bool) (input : K → List (List �
       abbrev IsOut : Type 0
       IsOut = WasTakenOut (history_of r.at) (history_of log) p
 
-      -- it is there still, or was taken out
+      -- it is still there, or was taken out
       it_then : HasIt ((state_of log).slot t x) p ⊎ IsOut
       it_then = ⊎_elim (λ has. inl (subst (λ (s : State (Stored K V)). HasIt (s.slot t x) p) ran has)) (λ out. inr (out_since p out))
           (pair_then Gs law t x p since taken_words may had)
 
-      -- no pair is there any more
+      -- no pair is there any longer
       pub past_out : (word : ℕ) → word_in eq hashing b log (Slot t x) ≡ word → has_pair (kind_of word) ≡ false → IsOut
       past_out word stands none =
           ⊎_elim
@@ -249,7 +249,7 @@ module _ {K V S H : Type 0} (eq : K → K → Bool) (input : K → List (List �
           (λ out. out)
           it_then
 
-      -- a deleted one is
+      -- a deleted pair is there
       pub buried_out : (q : Stored K V) → (state_of log).slot t x ≡ Buried q → IsOut
       buried_out q is = ⊎_elim (λ has. absurd (⊎_elim (λ e. cc (e, is)) (⊎_elim (λ e. cc (e, is)) (λ e. cc (e, is))) has)) (λ out. out) it_then
 
@@ -271,7 +271,7 @@ module _ {K V S H : Type 0} (eq : K → K → Bool) (input : K → List (List �
           (λ out. inr out)
           it_then
 
-    -- each pair that the map had then stood in a slot
+    -- each entry that the map had then was in a slot
     stood_in : (sheet : Sheet) → IsTable log t sheet → (k : K) (p : Stored K V) → replay eq (history_of r.at) k ≡ Some p → (x : ℕ)
         × (x < length sheet.slots) × Holds (taken_words.slot t x) p
     stood_in sheet table k p has =
@@ -290,7 +290,7 @@ module _ {K V S H : Type 0} (eq : K → K → Bool) (input : K → List (List �
         let there : Holds (taken_words.slot t x) q = subst (λ (u : ℕ). Holds (taken_words.slot u x) q) r.root held.1 in
         (x, subst (λ (n : ℕ). x < n) size within, subst (λ (z : Stored K V). Holds (taken_words.slot t x) z) is there)
 
-    -- and each that the map had before was taken out until now, or stood in a slot then
+    -- and each that the map had before was taken out until now, or was in a slot then
     pub stood_or_out : (sheet : Sheet) → IsTable log t sheet → (k : K) (p : Stored K V) → replay eq (history_of old) k ≡ Some p
         → WasTakenOut (history_of old) (history_of log) p ⊎ ((x : ℕ) × (x < length sheet.slots) × Holds (taken_words.slot t x) p)
     stood_or_out sheet table k p has =
@@ -325,7 +325,7 @@ module _ {K V S H : Type 0} (eq : K → K → Bool) (input : K → List (List �
       pub scanned_past : (word : ℕ) → word_in eq hashing b log (Slot t upto) ≡ word → has_pair (kind_of word) ≡ false → IsScannedUpTo r.at log t (suc upto) said
       scanned_past word stands none = scanned_next said scanned (λ p had. inl (past_out upto p had word stands none))
 
-      -- a pair of it is shown
+      -- the closure is called with its pair
       pub scanned_shown : (q : Stored K V) → HasIt ((state_of log).slot t upto) q → (stays : Bool) → IsScannedUpTo r.at log t upto ((q, stays) ∷ said)
       scanned_shown q there stays x lt p had =
           ⊎_elim
@@ -333,7 +333,7 @@ module _ {K V S H : Type 0} (eq : K → K → Bool) (input : K → List (List �
           (λ kept. ⊎_elim (λ apart. inr (inr (apart, kept))) (λ out. inl out) (other_out x p had upto (λ is. omega (arith, lt, is)) q there))
           (scanned x lt p had)
 
-      -- and stays
+      -- and the pair stays
       pub scanned_kept : (q : Stored K V) → HasIt ((state_of log).slot t upto) q → IsScannedUpTo r.at log t (suc upto) ((q, true) ∷ said)
       scanned_kept q there = scanned_next ((q, true) ∷ said) (scanned_shown q there true)
           (λ p had. ⊎_elim (λ is. inr (inl (is, refl))) (λ out. inl out) (named_out upto p had q (it_named ((state_of log).slot t upto) q there)))
@@ -343,14 +343,14 @@ module _ {K V S H : Type 0} (eq : K → K → Bool) (input : K → List (List �
       scanned_buried q is = scanned_next said scanned (λ p had. inl (buried_out upto p had q is))
 
     module _ (x word : ℕ) (stands : word_in eq hashing b log (Slot t x) ≡ word) where
-      -- what stands there
+      -- the word that is there
       abbrev there : Word (Stored K V)
       there = (state_of log).slot t x
 
       of_kind : IsOfKind (kind_of word) there
       of_kind = subst (λ (n : ℕ). IsOfKind (kind_of n) there) stands (word_of_kind Gs Cs there)
 
-      -- the pair that a word names was the map's
+      -- the pair that a word names was an entry of the map
       pub slot_had : has_pair (kind_of word) ≡ true → (p : Stored K V) × (named there ≡ Some p) × HadPair eq (history_of old) (history_of log) p
       slot_had some =
           let pair = pair_there (kind_of word) there of_kind some in
@@ -362,7 +362,7 @@ module _ {K V S H : Type 0} (eq : K → K → Bool) (input : K → List (List �
                 (met_had Gs law taken_words taken_map keeps t r.root r.some r.last since may x there p same pair.1),
           )
 
-      -- a Live pair may be deleted
+      -- a live pair may be deleted
       pub may_bury : kind_of word ≡ kinds.Live → MayStep eq hashing b (Slot t x) (Some steps_of_kind.Bury) (grave_word word) None names.Nothing log
       may_bury live =
           let pair : IsOfKind kinds.Live there = subst (λ (k : Kind). IsOfKind k there) live of_kind in
@@ -422,7 +422,7 @@ module _ {K V S H : Type 0} (eq : K → K → Bool) (input : K → List (List �
       (stood : IsSlot eq hashing b name t x word v0 pair0)
       (s : IsSlotTried eq hashing b name t x (Some steps_of_kind.Bury) word new None names.Nothing v found log pair) (is : (found == word) ≡ true)
       (shown gone : Stored K V) (one : pair0 ≡ Some shown) (other : pair ≡ Some gone) where
-    -- the pair that went has the number of the one that stood there
+    -- the pair that was taken out has the number of the one that was there
     pub same_index : gone.index ≡ shown.index
     same_index =
         let u = s.tried in
@@ -452,7 +452,7 @@ module _ {K V S H : Type 0} (eq : K → K → Bool) (input : K → List (List �
     pub buried_by : shown.value ≡ gone.value → IsBuried log t x shown
     buried_by value = by_step (subst (λ (z : Bool). MatchBool z Made (log ≡ s.tried.before)) is s.tried.after) value
 
-  -- where there is no root, the map has no pair, and each that it had was taken out
+  -- if there is no root, the map has no entry, and each that it had was taken out
   pub retained_rootless : (old log : List (Event K V S)) → IsPrefix old log → Lawful log → (state_of log).root ≡ 0 → (said : List (Stored K V × Bool))
       → IsRetained eq (history_of old) (history_of log) said
   retained_rootless old log pre l zero said = retained_none eq classes (history_of old) (history_of log) (history_since old log pre)

@@ -38,7 +38,7 @@ member_last x [] = inl refl
 member_last x (y ∷ xs) = inr (member_last x xs)
 
 module _ {K V : Type 0} (entries : List (K × V)) (p : Stored K V) where
-  -- what is among some entries is among these and one more
+  -- a member of some entries is one of these and one more
   among_with : (found : Option (Bor K × Bor V)) → IsAmong entries p → IsAmong (with_found entries found) p
   among_with None is = is
   among_with (Some entry) is = member_before (key_of p, p.value.value) entries ((entry.0.now, entry.1.now) ∷ []) is
@@ -48,7 +48,7 @@ module _ {K V : Type 0} (entries : List (K × V)) (p : Stored K V) where
       (ap (λ (k : K). (k, entry.1.now)) are.0 ∙ ap (λ (v : V). (key_of p, v)) are.1) (member_last (entry.0.now, entry.1.now) entries)
 
 module _ {K V S : Type 0} (eq : K → K → Bool) (b : Begun K V S) (began log log' : List (Event K V S)) (pre : IsPrefix log log') (t len : ℕ) where
-  -- what is ahead is so for good
+  -- a pair that is ahead stays so over a longer log, up to its place
   ahead_later : (from from' : ℕ) (p : Stored K V) (a : IsAhead b began log t from len p) → from' ≤ a.place → IsAhead b began log' t from' len p
   ahead_later from from' p a le = record {
     at = a.at;
@@ -65,7 +65,7 @@ module _ {K V S : Type 0} (eq : K → K → Bool) (b : Begun K V S) (began log l
     stood = a.stood;
   }
 
-  -- the slot to which the walk has come is passed
+  -- the slot to which the iteration has come is passed
   pub passed_next : (x : ℕ) (given : List (K × V)) (found : Option (Bor K × Bor V))
       → ((at : List (Event K V S)) → IsTakenAt b began log t at → IsPassed at log' t x found)
       → ArePassed eq b began log t x len given → ArePassed eq b began log' t (suc x) len (with_found given found)
@@ -86,7 +86,7 @@ module _ {K V S : Type 0} (eq : K → K → Bool) (b : Begun K V S) (began log l
       (cases_lt x a.place)))
       (so k p has)
 
--- where none was found, there is no entry more
+-- if none was found, there is no further entry
 pub none_found : {K V : Type 0} (given : List (K × V)) (found : Option (Bor K × Bor V)) → is_some found ≡ false → with_found given found ≡ given
 none_found given None is = refl
 none_found given (Some entry) is = absurd (cc is)
@@ -98,7 +98,7 @@ pub passed_all : {K V S : Type 0} (eq : K → K → Bool) (b : Begun K V S) (beg
 passed_all eq b began log t from len given over so k p has =
     ⊎_elim (λ out. inl out) (⊎_elim (λ is. inr is) (λ a. let since = a.since in let until = a.until in absurd (omega (arith, since, until, over)))) (so k p has)
 
--- so where a walk is over
+-- so if an iteration is over
 pub over_leaves : {K V S : Type 0} (eq : K → K → Bool) (b : Begun K V S) (began log : List (Event K V S)) (t from len : ℕ)
     (given : List (K × V)) (found : Option (Bor K × Bor V)) → MatchOption found (len ≤ from) (λ entry. Unit {0})
     → ArePassed eq b began log t from len given
@@ -110,7 +110,7 @@ over_leaves eq b began log t from len given None over so = passed_all eq b began
 module _ {K V S H : Type 0} (eq : K → K → Bool) (input : K → List (List ℕ)) (build : S → H) (write : H → List ℕ → H) (finish : H → ℕ)
     (classes : IsEquivalence eq) (respects : (x y : K) → eq x y ≡ true → input x ≡ input y) (b : Begun K V S)
     (began log : List (Event K V S)) (l : IsLawfulLog eq (hash eq input build write finish classes respects b) b log) where
-  -- as the walk begins, all pairs are ahead
+  -- as the iteration begins, all pairs are ahead
   pub passed_none : (t : ℕ) (sheet : Sheet) → IsTable log t sheet → (r : IsTaken b began log t)
       → ArePassed eq b began log t 0 (length sheet.slots) []
   passed_none t sheet table r k p has =

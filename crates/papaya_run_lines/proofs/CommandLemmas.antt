@@ -34,7 +34,7 @@ clear_no_space = above_no_space (codes "clear") (omega arith, (omega arith, (ome
 walk_no_space : ¬ (Contains (codes "walk") 32)
 walk_no_space = above_no_space (codes "walk") (omega arith, (omega arith, (omega arith, (omega arith, tt))))
 
--- what the two parts are of a command's text
+-- the parts of a command's text
 abbrev CommandParts : List ℕ → List ℕ → Command → Type 0
 CommandParts name rest (Insert k v) = (codes "i" ≡ name) × (key value : List ℕ) × WritesNumber key k × WritesNumber value v × (rest ≡ key ++ 32 ∷ value)
 CommandParts name rest (Get k) = (codes "g" ≡ name) × WritesNumber rest k
@@ -91,7 +91,7 @@ bare_command text Slots w = w
 bare_command text Clear w = w
 bare_command text Walk w = w
 
--- what a text without a space says as a word, it says as a command
+-- the result for a text without a space as a word is its result as a command
 pub bare_is : (text : List ℕ) (r : Option Command) → ¬ (Contains text 32)
     → MatchOption r ((command : Command) → ¬ (WritesBare text command)) (WritesBare text)
     → MatchOption r ((command : Command) → ¬ (WritesCommand text command)) (WritesCommand text)
@@ -110,7 +110,7 @@ no_name text name rest parts none Slots w = command_parts text name rest Slots p
 no_name text name rest parts none Clear w = command_parts text name rest Clear parts w
 no_name text name rest parts none Walk w = command_parts text name rest Walk parts w
 
--- what an insertion has behind its name
+-- the text behind the name of an insertion
 inserts : (text name rest : List ℕ) → Parts text name rest → name ≡ codes "i" → (command : Command) → WritesCommand text command
     → ((k v : ℕ) (key value : List ℕ) → WritesNumber key k → WritesNumber value v → rest ≡ key ++ 32 ∷ value → ⊥) → ⊥
 inserts text name rest parts named (Insert k v) w then =
@@ -139,7 +139,7 @@ no_number text name rest key value parts named split none command w = inserts te
     let R : List ℕ → Type 0 = λ t. WritesNumber t v in
     elim none [ inl h ↦ h k (subst P cut.0 u) | inr h ↦ h v (subst R cut.1 s) ])
 
--- what a refusal says, of a result that is None
+-- the meaning of a refusal, for a result that is `None`
 pub none_command : (text : List ℕ) (r : Option Command) → r ≡ None → ((command : Command) → ¬ (WritesCommand text command))
     → MatchOption r ((command : Command) → ¬ (WritesCommand text command)) (WritesCommand text)
 none_command text r e h = let P : Option Command

@@ -1,4 +1,4 @@
--- A run of a script on a core, and what is printed of its trace.
+-- A run of a script on a core, and the text that is printed of its trace.
 use Rattle.std.proofs.Common.{◌≡◌, ◌==◌, ℕ, None, Some, Ok, Err, IfSome, List, length, reverse, inl, inr, sym, subst, ◌∙◌}
 use Rattle.std.specs.Option.{option_or}
 use Rattle.std.specs.Prelude.{IsErrAnd, Option, Result}
@@ -47,7 +47,7 @@ module _ {S : Type 0} (hash : S → ℕ → ℕ) (first : CoreState ℕ ℕ S An
   ran_to None n script is = tt
   ran_to (Some text) n script is = ran (lines_of text) (Some n) script is
 
--- a run that the writer or memory has ended says nothing of its lines
+-- a run that the writer or memory has ended states nothing about its lines
 module _ {S : Type 0} (hash : S → ℕ → ℕ) (first : CoreState ℕ ℕ S Answering → Type 0) (wrote : List ℕ → Type 0) where
   pub failed : (known : Option (List ℕ)) (ended : Result (Unit {0}) Failure) (why : Failure) → IsErrAnd ended (λ told. told ≡ why)
       → IsPrintFailure why → IfSome known (λ text. IsCoreRun hash first (lines_of text) wrote ended)

@@ -9,7 +9,7 @@ use Rattle.std.specs.Io.KnownBytes.{IsAtEnd}
 use Rattle.std.specs.Io.BufRead.{DropsThrough, take_through, drop_through, strip_last}
 use Rattle.papaya_run_lines.specs.Lines.{IsNextLine, before_first, lines_of}
 
--- the last of so many bytes is looked at, and goes
+-- the last of `n + 1` bytes is inspected, and removed if it is a line end
 strip_at : (xs : List ℕ) (n : ℕ) → length xs ≡ suc n → strip_last 10 xs ≡ cond (eqb (slice_index xs n) 10) (take n xs) xs
 strip_at xs n is =
     let last : length xs - 1 ≡ n = omega (arith, is) in
@@ -27,7 +27,7 @@ strip_cons x y ys =
     ∙ front_of (eqb (slice_index (y ∷ ys) (length ys)) 10) x (take (length ys) (y ∷ ys)) (y ∷ ys)
     ∙ ap (λ l. x ∷ l) (sym (strip_at (y ∷ ys) (length ys) refl))
 
--- the same of a line read through its end
+-- the same for a line read through its end
 strip_through : (x y : ℕ) (ys : List ℕ) → strip_last 10 (x ∷ take_through 10 (y ∷ ys)) ≡ x ∷ strip_last 10 (take_through 10 (y ∷ ys))
 strip_through x y ys = at (eqb y 10)
   where
@@ -35,8 +35,8 @@ strip_through x y ys = at (eqb y 10)
     at true = strip_cons x y []
     at false = strip_cons x y (take_through 10 ys)
 
--- Of a text whose first byte is no line end, so many lines are left as of the text behind that byte. The last argument says that of
--- a shorter text.
+-- If the first byte of a text is no line end, the text has as many lines left as the text behind
+-- that byte. The last argument states this for a shorter text.
 longer : (x : ℕ) (xs : List ℕ) → eqb x 10 ≡ false
     → ((y : ℕ) (ys : List ℕ) → xs ≡ y ∷ ys → lines_of (y ∷ ys) ≡ strip_last 10 (take_through 10 (y ∷ ys)) ∷ lines_of (drop_through 10 (y ∷ ys)))
     → lines_of (x ∷ xs) ≡ strip_last 10 (take_through 10 (x ∷ xs)) ∷ lines_of (drop_through 10 (x ∷ xs))

@@ -60,7 +60,7 @@ abbrev pub IsAbove : List ℕ → Type 0
 IsAbove [] = Unit {0}
 IsAbove (x ∷ xs) = (32 < x) × IsAbove xs
 
--- what stands above a space is none
+-- a text whose bytes are above a space has no space
 pub above_no_space : (text : List ℕ) → IsAbove text → ¬ (Contains text 32)
 above_no_space [] w = empty_has
 above_no_space (x ∷ xs) w = no_space_more x xs (λ e. omega (arith, e, w.0)) (above_no_space xs w.1)

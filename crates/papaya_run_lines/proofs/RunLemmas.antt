@@ -1,4 +1,4 @@
--- Lines that are run one after the other, and what they print.
+-- Lines that are run one after the other, and the text that they print.
 use Rattle.std.proofs.Common.{◌≡◌, ◌≢◌, ℕ, ◌+◌, Bool, true, false, cond, eqb, None, Some, IfSome}
 use Rattle.std.proofs.Common.{Ok, Err, List, [], ◌∷◌, ◌++◌, length, inl, inr, refl, sym, ap, subst}
 use Rattle.std.proofs.Common.{◌∙◌, arith, append_assoc, length-append}
@@ -21,8 +21,8 @@ module _ {S : Type 0} (does : S → List ℕ → Printed → S → Type 0) where
   prints_both s m s' ((b ∷ bs) ∷ lines) ys t u (reply, middle, rest, done, first, is) then =
       (reply, middle, rest ++ u, done, prints_both middle m s' lines ys rest u first then, ap (λ l. l ++ u) is ∙ append_assoc (text_of reply) (10 ∷ rest) u)
 
-  -- So many lines of a text were done since the first state, and what they print was written. The
-  -- rest is left.
+  -- `n` lines of a text were done since the first state, and the text that they print was written.
+  -- The rest is left.
   pub record SoFar (first now : S) (wrote : List ℕ → Type 0) (n : ℕ) (left : Option (List ℕ)) (text : List ℕ) : Type 0 where
     pub rest : List ℕ
     pub left_is : left ≡ Some rest
@@ -46,7 +46,7 @@ module _ {S : Type 0} (does : S → List ℕ → Printed → S → Type 0) where
     written = none;
   }
 
-  -- a text that is left, where it is known
+  -- a text that is left, if it is known
   told : (P : List ℕ → Type 0) (left : Option (List ℕ)) (rest : List ℕ) → left ≡ Some rest → IfSome left P → P rest
   told P left rest is h = subst (λ o. IfSome o P) is h
 
@@ -105,7 +105,7 @@ module _ {S : Type 0} (does : S → List ℕ → Printed → S → Type 0) where
       subst (λ f. IsRun (λ s. s ≡ first) does is_bad (lines_of known) wrote_now (Err f)) (sym (is ∙ why_is))
       (far.done, here, (first, now, far.printed, refl, far.prints, kept far.printed far.written))
 
-  -- why a line was not done, told with what was written before
+  -- the reason why a line was not done, with the text that was written before
   pub why_failed : (is_bad : List ℕ → Type 0) (n : ℕ) (line : List ℕ) (why : Failure) (wrote wrote_now : List ℕ → Type 0) {B W : Type 0} (b b' : B) (w w' : W)
       → (why ≡ failure.Output) ⊎ ((why ≡ without_memory) ⊎ ((why ≡ failure.Line n) × (line ≢ []) × is_bad line × (b' ≡ b) × (w' ≡ w)))
       → (w' ≡ w → (before : List ℕ) → wrote before → wrote_now before)
@@ -136,7 +136,7 @@ module _ {S : Type 0} (does : S → List ℕ → Printed → S → Type 0) where
   run_known is_bad first wrote wrote_now ended None later run = tt
   run_known is_bad first wrote wrote_now ended (Some text) later run = run_later is_bad first (lines_of text) wrote wrote_now ended later run
 
--- what holds of a value holds of it where its failure would be told in other words
+-- a fact about a value still holds if its failure is described in other words
 pub ok_kept : {T E F : Type 0} (r : Result T E) (told : Result T F) (x : T) (P : T → Type 0) (Q : E → Type 0)
     → told ≡ Ok x → MatchResult r (λ y. told ≡ Ok y) Q → ((e : E) → Q e → ⊥) → IfOk r P → P x
 ok_kept {F = F} (Ok y) told x P Q is was never h = subst (λ (o : Result _ F). IfOk o P) (sym was ∙ is) h
@@ -149,7 +149,7 @@ behind_buffer capacity buffer None left some none is = ap (λ n. cond (eqb n 0) 
 behind_buffer capacity buffer (Some xs) left some none is = ap (λ n. cond (eqb n 0) None (prepend_known buffer left)) some
     ∙ ap (λ l. prepend_known l left) none ∙ ap (prepend_known []) is
 
--- lines that are done, seen in another way
+-- lines that are done, in another view of the state
 module _ {S T : Type 0} (see : S → T) (does : S → List ℕ → Printed → S → Type 0) (shows : T → List ℕ → Printed → T → Type 0)
     (each : (s : S) (line : List ℕ) (reply : Printed) (s' : S) → does s line reply s' → shows (see s) line reply (see s')) where
   prints_as : (s : S) (lines : List (List ℕ)) (text : List ℕ) (s' : S) → Prints does s lines text s' → Prints shows (see s) lines text (see s')

@@ -14,14 +14,14 @@ use Rattle.papaya_run_lines.specs.Turns.{WritesTurn}
 abbrev pub Turns : Type 0
 Turns = List (Turn ℕ ℕ Answering)
 
--- What is read of a text is the script so far, if a bad line stands in it. Else the script of the lines that are left, of which the
--- first has this number, makes it whole.
+-- If the script so far has a bad line, it is the script of the text. Otherwise it becomes whole
+-- with the script of the lines that are left, the first of which has this number.
 abbrev pub Reads : List ℕ → Script → ℕ → (left : List ℕ) → Option ℕ → Type 0
 Reads text script number left (Some bad) = IsScript (lines_of text) 1 script.turns.items script.lines.items (Some bad)
 Reads text script number left None = (turns : Turns) (rows : List Line) (bad : Option ℕ) → IsScript (lines_of left) number turns rows bad
     → IsScript (lines_of text) 1 (script.turns.items ++ turns) (script.lines.items ++ rows) bad
 
--- the same of what a reader has left
+-- the same for the text that a reader has left
 pub record SoFar (script : Script) (number : ℕ) (left : Option (List ℕ)) (text : List ℕ) : Type 0 where
   pub rest : List ℕ
   pub left_is : left ≡ Some rest
@@ -50,7 +50,7 @@ put_bad : (line : List ℕ) (lines : List (List ℕ)) (number : ℕ) → line �
 put_bad [] lines number some none = absurd (some refl)
 put_bad (b ∷ bs) lines number some none = inr (none, refl, refl, refl)
 
--- a text that is left, where it is known
+-- a text that is left, if it is known
 told : (P : List ℕ → Type 0) (left : Option (List ℕ)) (rest : List ℕ) → left ≡ Some rest → IfSome left P → P rest
 told P left rest is h = subst (λ o. IfSome o P) is h
 

@@ -9,12 +9,12 @@ use Rattle.papaya_seq.specs.Computes.{IsUpdated}
 use Rattle.papaya_seq.specs.Map.{MapState}
 use Rattle.papaya_run_lines.specs.Closures.{follower}
 
--- what is no refusal with references is none with values
+-- a result without a refusal has none with values in place of references
 pub answered : (r : Result (Option (Bor ℕ)) Refused) → IsOk r → IsOk (old_answered r)
 answered (Ok shown) h = refl
 answered (Err refused) h = h
 
--- an update by a closure that answers the number after the one that it is shown
+-- an update by a closure that returns the number after its argument
 pub followed : {S F : Type 0} (eq : ℕ → ℕ → Bool) (k : ℕ) (g : Shared F (Bor ℕ × Unit {0}) ℕ) (f : F)
     → ((shown : Bor ℕ) (next : ℕ) → g.post f (shown, tt) next → next ≡ follower shown.now)
     → (s : MapState ℕ ℕ S) (answer : Result (Option ℕ) Refused) (s' : MapState ℕ ℕ S) → IsUpdated eq k (FnReturnsAt g f) s answer s'

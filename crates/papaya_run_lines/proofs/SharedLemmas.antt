@@ -1,4 +1,5 @@
--- The results of a session: an update whose closure returns what a script's closures do; and why a map without a limit refuses.
+-- The results of a session: an update whose closure returns as a script's closures do; and the
+-- causes for which a map without a limit refuses.
 use Rattle.std.proofs.Common.{◌≡◌, ◌==◌, ℕ, None, Some, Ok, Err, Option, inl, inr, sym, ◌∙◌, ap}
 use Rattle.std.specs.Fn.{FnReturnsAt, Shared}
 use Rattle.std.specs.Prelude.{IfErr, IfOk, Result}
@@ -10,7 +11,7 @@ use Rattle.papaya_map.specs.Storing.{IsUpdated}
 use Rattle.papaya_run_lines.specs.Closures.{follower}
 use Rattle.papaya_run_lines.specs.Shared.{IsFollowed, Seen}
 
--- a map without a limit refuses for want of memory or of room alone
+-- a map without a limit refuses only because memory or room ran out
 pub plain : {A : Type 0} (limit : Option ℕ) (taken : ℕ) (answer : Result A Refused) → limit ≡ None → IfErr answer (IsWriteRefusal limit taken)
     → IfErr answer IsMemoryOrCapacity
 plain limit taken (Ok a) none h = tt

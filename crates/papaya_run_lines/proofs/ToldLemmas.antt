@@ -27,8 +27,8 @@ pub line_at : (lines : List Line) (turn : ℕ) (d : Line) → turn < length line
 line_at lines turn d h = let next : suc turn ≡ turn + 1 = omega arith in drop-cons lines turn d h ∙ ap (λ n. get_or lines turn d ∷ drop n lines) next
 
 module _ {S : Type 0} (store : StoreState ℕ ℕ S) (trace : List Entry) (lines : List Line) where
-  -- The lines of the first turns, so many, have printed this. What the lines behind them print of
-  -- the entries that are left makes it whole.
+  -- The lines of the first `turn` turns have printed this. It becomes whole with the text that the
+  -- lines behind them print of the entries that are left.
   pub record SoFar (none calls : List LinePart) (turn : ℕ) (left : List Entry) (old new : Option (List ℕ)) : Type 0 where
     pub printed : List ℕ
     pub appended : Appends old new printed
@@ -63,7 +63,7 @@ module _ {S : Type 0} (store : StoreState ℕ ℕ S) (trace : List Entry) (lines
     far.appended,
   )
 
-  -- all turns are told
+  -- all turns have been printed
   pub all_told : (none calls : List LinePart) (turn : ℕ) (left : List Entry) (old now : Option (List ℕ)) → SoFar none calls turn left old now → drop turn lines ≡ []
       → (text : List ℕ) × PrintsLines store trace none lines 0 trace text None × Appends old now text
   all_told none calls turn left old now far is = (
@@ -73,7 +73,7 @@ module _ {S : Type 0} (store : StoreState ℕ ℕ S) (trace : List Entry) (lines
     far.appended,
   )
 
-  -- what a line tells, in other words
+  -- the text of a line, in other words
   pub told_so : (line : Line) (turn : ℕ) (kind kind' : LinePart) (entries : List Entry) (reply reply' : Option Reply) (text : List ℕ) → kind ≡ kind'
       → entries ≡ trace → reply ≡ reply'
       → IsLineOutput store kind line (gave_to line.caller turn (reverse entries)) reply text

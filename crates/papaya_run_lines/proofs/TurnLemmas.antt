@@ -27,7 +27,7 @@ refuse_no_space = above_no_space (codes "refuse") (omega arith, (omega arith, (o
 finish_no_space : ¬ (Contains (codes "finish") 32)
 finish_no_space = above_no_space (codes "finish") (omega arith, (omega arith, (omega arith, (omega arith, (omega arith, (omega arith, tt))))))
 
--- what is no command is no call
+-- a text that is no command is no call
 pub no_command : (text : List ℕ) → ((what : Command) → ¬ (WritesCommand text what)) → (call : Call ℕ ℕ Answering) → ¬ (WritesCall text call)
 no_command text none (Get k) w = none (command.Get k) w
 no_command text none (Insert k v) w = none (command.Insert k v) w
@@ -37,14 +37,14 @@ no_command text none Clear w = none command.Clear w
 no_command text none Walk w = none command.Walk w
 no_command text none _ w = w
 
--- the word that a turn's line begins with
+-- the word with which a turn's line begins
 abbrev word_of : Turn ℕ ℕ Answering → List ℕ
 word_of (Begin c what) = codes "begin"
 word_of (Step c false) = codes "step"
 word_of (Step c true) = codes "refuse"
 word_of (Finish c n) = codes "finish"
 
--- a line that asks for a turn begins with its word and a space
+-- a line that requests a turn begins with its word and a space
 turn_word : (line : List ℕ) (turn : Turn ℕ ℕ Answering) → WritesTurn line turn → (rest : List ℕ) × (line ≡ word_of turn ++ 32 ∷ rest)
     × ¬ (Contains (word_of turn) 32)
 turn_word line (Begin c what) (caller, call, w, u, e) = (caller ++ 32 ∷ call, e, begin_no_space)
@@ -52,7 +52,7 @@ turn_word line (Step c false) (caller, w, e) = (caller, e, step_no_space)
 turn_word line (Step c true) (caller, w, e) = (caller, e, refuse_no_space)
 turn_word line (Finish c n) ((caller, w, e), most) = (caller, e, finish_no_space)
 
--- a line without a space asks for no turn
+-- a line without a space requests no turn
 pub no_space_turn : (line : List ℕ) → ¬ (Contains line 32) → (turn : Turn ℕ ℕ Answering) → ¬ (WritesTurn line turn)
 no_space_turn line none turn w =
     let t : (rest : List ℕ) × (line ≡ word_of turn ++ 32 ∷ rest) × ¬ (Contains (word_of turn) 32) = turn_word line turn w in
@@ -64,14 +64,14 @@ turn_first line verb rest parts turn w =
     let t : (rest : List ℕ) × (line ≡ word_of turn ++ 32 ∷ rest) × ¬ (Contains (word_of turn) 32) = turn_word line turn w in
     (cut_once (word_of turn) t.0 verb rest (sym t.1 ∙ parts.0) t.2 parts.1).0
 
--- a line of another verb asks for no turn
+-- a line with another verb requests no turn
 pub no_verb : (line word rest : List ℕ) → Parts line word rest → ((v : Verb) → word ≢ verb_word v) → (turn : Turn ℕ ℕ Answering) → ¬ (WritesTurn line turn)
 no_verb line word rest parts none (Begin c what) w = none verb.Begin (sym (turn_first line word rest parts (Begin c what) w))
 no_verb line word rest parts none (Step c false) w = none verb.Step (sym (turn_first line word rest parts (Step c false) w))
 no_verb line word rest parts none (Step c true) w = none verb.Refuse (sym (turn_first line word rest parts (Step c true) w))
 no_verb line word rest parts none (Finish c n) w = none verb.Finish (sym (turn_first line word rest parts (Finish c n) w))
 
--- what a begin has behind its verb
+-- the text behind the verb of a begin
 begins : (line word rest : List ℕ) → Parts line word rest → word ≡ codes "begin" → (turn : Turn ℕ ℕ Answering) → WritesTurn line turn
     → ((c : ℕ) (what : Call ℕ ℕ Answering) (caller call : List ℕ) → WritesCaller caller c → WritesCall call what → rest ≡ caller ++ 32 ∷ call → ⊥) → ⊥
 begins line word rest parts named (Begin c what) (caller, call, w, u, e) then =
@@ -97,7 +97,7 @@ no_begin line word rest caller call parts named split none turn w = begins line 
     let R : List ℕ → Type 0 = λ t. WritesCall t what in
     elim none [ inl h ↦ h c (subst P cut.0 u) | inr h ↦ h what (subst R cut.1 s) ])
 
--- what a refusal says, of a result that is None
+-- the meaning of a refusal, for a result that is `None`
 pub none_call : (text : List ℕ) (r : Option (Call ℕ ℕ Answering)) → r ≡ None → ((call : Call ℕ ℕ Answering) → ¬ (WritesCall text call))
     → MatchOption r ((call : Call ℕ ℕ Answering) → ¬ (WritesCall text call)) (WritesCall text)
 none_call text r e h = let P : Option (Call ℕ ℕ Answering)

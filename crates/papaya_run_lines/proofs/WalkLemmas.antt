@@ -13,12 +13,12 @@ use Rattle.papaya_map_scan.specs.Walked.{Gives, Walked, Walks}
 use Rattle.papaya_run_lines.specs.Walk.{IsByKey}
 use Rattle.papaya_run_lines.specs.Shared.{Had, Seen}
 
--- what the map had by one history it had by a later one
+-- an entry that the map had by one history it had by a later one
 had_later : (old seen later : Seen) → IsPrefix seen later → (pair : ℕ × ℕ) → Had old seen pair → Had old later pair
 had_later old seen later pre pair (p, same, had) =
     (p, same, record { seen = had.seen; since = had.since; until = prefix_trans had.seen seen later had.until pre; is = had.is })
 
--- a walk that was at the first gave these pairs, and is here now
+-- an iteration that began at the first position returned these entries, and is here now
 pub record HasGiven (first : Walked ℕ ℕ) (pairs : List (ℕ × ℕ)) (now : Walked ℕ ℕ) : Type 0 where
   pub book : now.book ≡ first.book
   pub began : now.began ≡ first.began
@@ -29,7 +29,8 @@ pub record HasGiven (first : Walked ℕ ℕ) (pairs : List (ℕ × ℕ)) (now : 
 pub none_given : (first : Walked ℕ ℕ) → HasGiven first [] first
 none_given first = record { book = refl; began = refl; since = ([], append-nil first.history); had = All-nil (Had first.began first.history) }
 
--- what was given so far, by what the walk has seen after a further call
+-- the entries that were returned so far, by the history that the iteration has observed after a
+-- further call
 pub still_given : (first before after : Walked ℕ ℕ) (pairs : List (ℕ × ℕ)) (answer : Option (Bor ℕ × Bor ℕ)) → HasGiven first pairs before
     → Gives (λ a b. a == b) before answer after → HasGiven first pairs after
 still_given first before after pairs answer given gives = by answer gives
@@ -64,7 +65,7 @@ one_given first before after pairs entry given gives =
           (All-cons (Had first.began after.history) (entry.0.now, entry.1.now) [] (p, same, mine) (All-nil (Had first.began after.history)));
     }
 
--- by rising key, and by what the session has seen since
+-- by rising key, and by the history that the session has observed since
 pub by_key : (old seen later : Seen) (given pairs : List (ℕ × ℕ)) → IsPrefix seen later → IsByKey given pairs → All (Had old seen) given
     → All (Had old later) pairs
 by_key old seen later given pairs pre sorted had =

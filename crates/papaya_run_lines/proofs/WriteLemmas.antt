@@ -14,7 +14,7 @@ pub keeps_same : (a : Option (List ℕ)) → Keeps a a
 keeps_same None = tt
 keeps_same (Some xs) = refl
 
--- what was written after the other
+-- two texts that were written one after the other
 pub appends_both : (a b c : Option (List ℕ)) (t u : List ℕ) → Appends a b t → Appends b c u → Appends a c (t ++ u)
 appends_both None b c t u first then = tt
 appends_both (Some xs) None c t u first then = absurd first

@@ -58,7 +58,7 @@ chunk_passed cursor word some = ap
     (λ (b : Bool). if not b then stepped.On (next_cursor cursor)
     else if cursor.copied then stepped.Further (chunk_at cursor) else stepped.On (Settling (chunk_at cursor) settles.Looking)) (ne_eqb word 0 some)
 
--- so many words of chunks are left to load
+-- the number of words of chunks that are left to load
 abbrev chunks_left : Step → ℕ
 chunks_left (AtChunk cursor) = words_left cursor + 1
 chunks_left _ = 0

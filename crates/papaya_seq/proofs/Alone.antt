@@ -1,4 +1,4 @@
--- The map for one caller that a call leaves which is made alone.
+-- The map for one caller after a call that is made alone.
 use Rattle.std.proofs.Common.{◌≡◌, ℕ, Bool, true, List, None}
 use Rattle.std.specs.Cmp.{IsEquivalence}
 use Rattle.papaya_call.specs.declared.call.Call.{Call}
@@ -25,7 +25,7 @@ module _ {K V S H : Type 0} (eq : K → K → Bool) (input : K → List (List �
   pub map_answered : IsAnswered eq call (map_in eq s.store) reply (map_in eq store)
   map_answered = alone_answered eq input build write finish classes respects (core_of s) left call reply lawful.lawful over.ran
 
-  -- the logs
+  -- the arena of pairs
   pub map_logged : IsNewIn s.store reply × KeepsPairs s.store store
   map_logged = alone_logged eq input build write finish classes respects (core_of s) left call reply lawful.lawful over.ran
 

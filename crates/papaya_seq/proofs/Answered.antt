@@ -1,4 +1,4 @@
--- What the reply of an insertion says about the map, in terms of its pairs.
+-- The meaning of an insertion's reply for the map, in terms of its pairs.
 use Rattle.std.proofs.Common.{◌≡◌, ⊎_elim, ℕ, Bool, true, false, cond, List, [], ◌∷◌, Option, Some}
 use Rattle.std.proofs.Common.{None, Result, Ok, Err, inl, inr, refl, sym, ◌∙◌, ap, subst, IfErr}
 use Rattle.std.proofs.lemmas.Bool.{cases_Bool}
@@ -29,7 +29,7 @@ lookup_alike {V = V} eq law (p ∷ ps) j k e =
     ∙ ap (cond (eq k p.key) (Some p)) (lookup_alike eq law ps j k e)
 
 module _ {K V S : Type 0} (eq : K → K → Bool) (law : IsEquivalence eq) where
-  -- the pair that the finite map has at a key is logged under its number
+  -- the pair that the finite map has at a key is in the arena under its number
   pub logged_there : (s : StoreState K V S) (k : K) (n : ℕ) (p : Stored K V) → map_in eq s k ≡ Some p → p.number ≡ n → pair_of s n ≡ Some p
   logged_there s k n p there is = subst (λ m. pair_of s m ≡ Some p) is (logged_content s eq p (lookup_some eq (content eq s) k p there).0)
 
@@ -159,7 +159,7 @@ module _ {K V S : Type 0} (eq : K → K → Bool) (law : IsEquivalence eq) where
         none None does = does
         none (Some p) does = does
 
-    -- the same of a reply that is known to be this one
+    -- the same for a reply that is known to be this one
     pub inserted_by : (replace : Bool) (reply : _) (n : ℕ) → reply ≡ replies.Inserted n
         → IsAnswered eq (insertion replace k v) (map_in eq s) reply (map_in eq s') → IsNewIn s reply → IsMade None n
     inserted_by replace reply n is d fresh = inserted_made replace n
@@ -186,7 +186,7 @@ pub tried_made : {K V S : Type 0} (eq : K → K → Bool) (k : K) (v : V) (s : M
     → (p : Stored K V) × (pair_of s'.store n ≡ Some p) × (p.value ≡ v) × Inserts eq k v s.store None s'.store × KeepsAndGrows s s'
 tried_made eq k v s result s' n is tried = subst (λ r. IsTried eq k v s r s') is tried
 
--- what held none before its value was stored, had no pair
+-- if there was no value before a value was stored, the key had no pair
 pub none_held : {K V : Type 0} (held : Option (Stored K V)) → value_of held ≡ None → held ≡ None
 none_held None e = refl
 none_held (Some p) e = let f : Some p.value ≡ None = e in absurd cc
@@ -211,7 +211,7 @@ module _ {K V S : Type 0} (eq : K → K → Bool) (k : K) (v : V) (s s' : MapSta
         subst (λ o. MatchOption (value_of o) (shown ≡ v) (λ current. shown ≡ current)) (sym occupied.there) (same ∙ sym occupied.value),
       )
 
--- what holds of a refusal, holds of this one
+-- a fact about a refusal holds of this one
 pub err_at : {T E : Type 0} (P : E → Type 0) (result : Result T E) (e : E) → result ≡ Err e → IfErr result P → P e
 err_at P (Ok t) e is h = absurd cc
 err_at P (Err other) e is h = let same : other ≡ e = cc is in subst P same h
@@ -222,14 +222,14 @@ pub tried_refused : {K V S : Type 0} (eq : K → K → Bool) (k : K) (v : V) (s 
 tried_refused eq k v s result s' refused is tried = subst (λ r. IsTried eq k v s r s') is tried
 
 module _ {K V S : Type 0} (s s' : MapState K V S) where
-  -- a cause of a call that stores, without what the class of its key has
+  -- a cause of a call that stores, without the pair of its key's class
   pub write_cause : (held : Option (Stored K V)) (refused : Refused) → IsWriteCauseAt s held refused s' → IsWriteCause s refused s'
   write_cause held refused (inl memory) = inl memory
   write_cause held refused (inr (inl (is, inl full))) = inr (inl (is, inl full))
   write_cause held refused (inr (inl (is, inr (needed, none)))) = inr (inl (is, inr none))
   write_cause held refused (inr (inr spent)) = inr (inr spent)
 
-  -- it is refused for want of memory, at a limit of what there may be, or as no number was left
+  -- it is refused because memory ran out, a limit was reached, or no number was left
   pub store_refusal : (refused : Refused) → IsWriteCause s refused s' → IsStoreRefusal s refused
   store_refusal refused (inl memory) = inl (inl memory)
   store_refusal refused (inr (inl (is, full))) = inl (inr is)
@@ -237,7 +237,7 @@ module _ {K V S : Type 0} (s s' : MapState K V S) where
 
 module _ {K V A B : Type 0} (eq : K → K → Bool) (call : Call K V A) (other : Call K V B) (k : K) (key : key_of call ≡ Some k)
     (other_key : key_of other ≡ Some k) (alike : (went came : Option (Stored K V)) (reply : _) → Does call went reply came → Does other went reply came) where
-  -- what one call on a key does, another does that is like it
+  -- two similar calls on a key have the same effect
   does_alike : (m m' : K → Option (Stored K V)) (reply : _) → CallDoes eq call m reply m' → CallDoes eq other m reply m'
   does_alike m m' reply d = record {
     went = d.went;
@@ -246,7 +246,7 @@ module _ {K V A B : Type 0} (eq : K → K → Bool) (call : Call K V A) (other :
     does = alike d.went d.came reply d.does;
   }
 
-  -- so it is answered alike
+  -- so they have the same result
   answered_alike : (m m' : K → Option (Stored K V)) (reply : _) → IsAnswered eq call m reply m' → IsAnswered eq other m reply m'
   answered_alike m m' (replies.Refused refused)
       d = (
@@ -266,7 +266,8 @@ module _ {K V A B : Type 0} (eq : K → K → Bool) (call : Call K V A) (other :
   answered_alike m m' (replies.Aborted t) d = does_alike m m' (replies.Aborted t) d
 
 module _ {K V : Type 0} (A : Type 0) (k : K) (v : V) where
-  -- what an insertion that replaces nothing does is the same whatever closures calls have
+  -- the effect of an insertion that replaces nothing does not depend on the type of the closures'
+  -- answers
   try_does : (went came : Option (Stored K V)) (reply : _) → Does {A = Unit {0}} (TryInsert k v) went reply came → Does {A = A} (TryInsert k v) went reply came
   try_does None came (replies.Inserted n) d = d
   try_does (Some p) came (replies.Occupied n) d = d
@@ -289,7 +290,7 @@ module _ {K V : Type 0} (A : Type 0) (k : K) (v : V) where
   try_does None came (replies.Refused refused) d = absurd d
   try_does (Some p) came (replies.Refused refused) d = absurd d
 
-  -- so is what one does that replaces
+  -- nor does that of one that replaces
   insert_does : (went came : Option (Stored K V)) (reply : _) → Does {A = Unit {0}} (Insert k v) went reply came → Does {A = A} (Insert k v) went reply came
   insert_does None came (replies.Inserted n) d = d
   insert_does None came (replies.Occupied n) d = absurd d
@@ -312,7 +313,7 @@ module _ {K V : Type 0} (A : Type 0) (k : K) (v : V) where
   insert_does (Some p) came replies.Done d = absurd d
   insert_does (Some p) came (replies.Refused refused) d = absurd d
 
-  -- so is what they are answered
+  -- nor do their results
   pub try_answered : (eq : K → K → Bool) (m m' : K → Option (Stored K V)) (reply : _) → IsAnswered {A = Unit {0}} eq (TryInsert k v) m reply m'
       → IsAnswered {A = A} eq (TryInsert k v) m reply m'
   try_answered eq = answered_alike eq (TryInsert k v) (TryInsert k v) k refl refl try_does

@@ -1,5 +1,5 @@
--- What a store answers does not depend on the answers of closures: a call is made with answers of
--- one type, and proved with answers of another.
+-- The store's answers do not depend on the answers of closures: a call is made with answers of one
+-- type, and proved with answers of another.
 use Rattle.std.proofs.Common.{◌≡◌, ℕ, Bool, true, false, Option, None, Some, inl, inr, refl, sym, ◌∙◌, ap}
 use Rattle.papaya_call.specs.Answers.{Says}
 use Rattle.papaya_call.specs.declared.ask.Ask.{Ask as Call_ask}
@@ -23,14 +23,14 @@ use Rattle.papaya_core_timeline.specs.Solo.{whatever}
 abbrev pub answering : {K V A B : Type 0} → Option B → Running K V A → Running K V B
 answering o r = record { machine = r.machine; key = r.key; value = r.value; answers = o }
 
--- something is shown to a closure
+-- the ask calls a closure
 abbrev pub IsShowing : Call_ask → Type 0
 IsShowing ShowNone = Unit {0}
 IsShowing (ShowPair n) = Unit {0}
 IsShowing _ = ⊥
 
 module _ {K V S A : Type 0} (eq : K → K → Bool) (says : Says K V A) (o : Option (Unit {0})) where
-  -- where nothing is shown, a closure's answers make no difference
+  -- if no closure is called, a closure's answers make no difference
   pub answering_call : (refuse : Bool) (ask : Call_ask) (store : StoreState K V S) (r : Running K V A) (answer : Call_answer)
       (store' : StoreState K V S) (later : Running K V A) → (IsShowing ask → ⊥) → Performs eq says refuse ask store r answer store' later
       → Performs eq whatever refuse ask store (answering o r) answer store' (answering o later) × (later.answers ≡ r.answers)
@@ -70,7 +70,7 @@ module _ {K V S A : Type 0} (eq : K → K → Bool) (says : Says K V A) (o : Opt
   answering_call refuse (Ask_done reply) store r answer store' later unshown
       (e, (same, stays)) = ((e, (same, ap (answering o) stays)), ap (λ q. q.answers) stays)
 
-  -- whoever asks
+  -- for each ask
   pub answering_performs : (hash : S → K → ℕ) (refuse : Bool) (ask : Ask) (store : StoreState K V S) (r : Running K V A) (answer : Answer)
       (store' : StoreState K V S) (later : Running K V A) → ((own : Call_ask) → ask ≡ asks.Call own → IsShowing own → ⊥)
       → PerformsAsk eq says hash refuse ask store r answer store' later
@@ -81,7 +81,7 @@ module _ {K V S A : Type 0} (eq : K → K → Bool) (says : Says K V A) (o : Opt
       (performs, stays) = ((performs, ap (answering o) stays), ap (λ q. q.answers) stays)
 
 module _ {K V S A : Type 0} (eq : K → K → Bool) (says : Says K V A) where
-  -- where there are none, an insertion is shown nothing
+  -- without answers of a closure, an insertion calls no closure
   pub silent_call : (refuse replace : Bool) (ask : Call_ask) (store : StoreState K V S) (r : Running K V A) (answer : Call_answer)
       (store' : StoreState K V S) (later : Running K V A) → r.answers ≡ None → r.machine.call.task ≡ Insert replace
       → Performs eq says refuse ask store r answer store' later

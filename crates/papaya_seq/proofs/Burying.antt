@@ -58,7 +58,7 @@ module _ {K V S F : Type 0} (g : Mut F (Bor K × (Bor V × Unit {0})) Bool) (mat
       (middle, later, step, leads_on first rest middle later (after m (answers.Call answer)) s' f' m' s'' f'' m'' led more)
 
   module _ (s : StoreState K V S) (f : F) where
-    -- the search of the root leads a removal on
+    -- a removal continues with the answers to the search of the root
     searched_answer : (ask : Ask) (answer : Answer) → IsSearchAsk ask → IsTrueOfStore matches s ask answer → IsRemovalAnswer g matches ask s f answer s f
     searched_answer (Load at) answer asked told = (told, refl, refl)
     searched_answer (SameKey n) answer asked told = (told, refl, refl)
@@ -90,7 +90,7 @@ module _ {K V S F : Type 0} (g : Mut F (Bor K × (Bor V × Unit {0})) Bool) (mat
     )
 
     module _ (removal : Removal) (m : Call_machine) where
-      -- the removal stands here
+      -- the removal in this state
       abbrev stands_at : State → Machine
       stands_at state = itself (record m { task = RemoveIf; state = state })
 
@@ -128,7 +128,7 @@ module _ {K V S F : Type 0} (g : Mut F (Bor K × (Bor V × Unit {0})) Bool) (mat
         replied = ap (λ z. asks.Call (Ask_done (Removed z))) (sym n_is);
       }
 
-    -- A removal whose search of the root saw this: it replies so.
+    -- The reply of a removal whose search of the root found this.
     module _ (hashed : ℕ) (mode : ResizeMode) (initial : ℕ) (limit : Option ℕ) where
       abbrev removing : State → Machine
       removing state = itself (record (started RemoveIf hashed mode initial limit) { state = state })
@@ -159,7 +159,7 @@ module _ {K V S F : Type 0} (g : Mut F (Bor K × (Bor V × Unit {0})) Bool) (mat
       found_it at word live root reply s' f' buried = root_led (turns.Here at word) (Showing (record { place = at; word = word })) root
           (ap (λ kind. removes kind at word) live) reply s' f' (buried (started RemoveIf hashed mode initial limit))
 
--- each answer leads a removal on
+-- a removal continues after each answer
 pub leads_under_way : {K V S F : Type 0} (g : Mut F (Bor K × (Bor V × Unit {0})) Bool) (eq : K → K → Bool) (hash : S → K → ℕ) (matches : K → Bool)
     (hashed : ℕ) (map : MapState K V S) (agrees : F) (told : List Answer) (s : StoreState K V S) (f : F) (m : Machine) (s' : StoreState K V S)
     (f' : F) (m' : Machine) → StepsTo g matches told s f m s' f' m' → IsUnderWay g eq hash matches hashed map agrees s f m

@@ -61,7 +61,7 @@ use Rattle.papaya_seq.proofs.LinkLengths.{IsLongLink, copy_good, led_long, link_
 use Rattle.papaya_seq.proofs.Sizes.{link_asked, sized_as}
 use Rattle.papaya_seq.proofs.TableLengths.{IsCountedBy, IsLengthened, copy_counts, copy_long, own_counts, own_long}
 
--- what is asked for a pair is no table
+-- an ask for a pair is no ask for a table
 no_tables : (slots limit chunks : ℕ) → HoldsOfPairAsks (λ ask. ask ≡ MakeTable slots limit chunks → ⊥)
 no_tables slots limit chunks = record {
   loads = λ e. absurd cc;
@@ -98,16 +98,16 @@ makes_first made hash (Leaving t) slots limit chunks e = absurd cc
 makes_first made hash (Growing need) slots limit chunks e = absurd cc
 makes_first made hash (Ended reply) slots limit chunks e = absurd cc
 
--- the reply of a call in this state, where it is told that all went well
+-- the reply of a call in this state, if its ask succeeds
 abbrev replied_at : Machine → Phase → State → Option Reply
 replied_at m phase state = reply_in (ask_of (after (record m { phase = phase; call = record m.call { state = state } }) (answers.Call told.Ok)))
 
--- one that adds to the count ends so
+-- a call that adds to the count ends with this reply
 count_ends : (m : Machine) (state : State) (reply : Reply) → m.phase ≡ Calling → m.call.state ≡ state → replied_at m Calling state ≡ Some reply
     → reply_in (ask_of (after m (answers.Call told.Ok))) ≡ Some reply
 count_ends m state reply calling is ends = ap (λ phase. replied_at m phase m.call.state) calling ∙ ap (λ st. replied_at m Calling st) is ∙ ends
 
--- a call that has counted what it claimed, and writes its hint
+-- a call that has counted its claim, and writes its hint
 abbrev pub HasCounted : Machine → Type 0
 HasCounted m = (m.phase ≡ Calling) × ((claimed : Claimed) × (m.call.state ≡ Noting claimed))
 
@@ -141,7 +141,9 @@ root_long initial words enough = of_table (table_of words.tables words.root) ref
         (All-contains (λ len. initial ≤ len) (lengths_of words) (length t.slots) enough.tables (table_length words.tables words.root t e)))
 
 module _ {K V S : Type 0} (eq : K → K → Bool) (hash : S → K → ℕ) (store store' : StoreState K V S) (m : Machine) (answer : Answer) where
-  -- What one step of a call did: what it asked for itself left the lengths, and counted nothing but where it adds to the count; what it asked for a copy was performed. Where it makes its first table there was no root, and a root stays.
+  -- One step of a call: its own ask left the lengths, and counted nothing unless it adds to the
+  -- count; the ask for a copy was performed. If it makes its first table, there was no root; a root
+  -- stays.
   pub record IsCallStep : Type 0 where
     pub own : m.phase ≡ Calling → IsLengthened (λ slots. (limit chunks : ℕ) × (call_machine.ask_of m.call ≡ MakeTable slots limit chunks)) store store'
     pub counted : m.phase ≡ Calling → (told_so : Call_answer) × (answer ≡ answers.Call told_so) × IsCountedBy (call_machine.ask_of m.call) store told_so store'
@@ -149,7 +151,7 @@ module _ {K V S : Type 0} (eq : K → K → Bool) (hash : S → K → ℕ) (stor
     pub first : m.phase ≡ Calling → m.call.state ≡ Making → store.words.root ≡ 0
     pub stays : 0 < store.words.root → 0 < store'.words.root
 
-  -- so is one by which an ask of a call under way was performed
+  -- the step that performs an ask of a call under way is one
   pub performed_so : (r later : Running K V (Unit {0})) → r.machine ≡ m → PerformsAsk eq whatever hash false (ask_of m) store r answer store' later
       → IsCurrent (word_at store.words) m → (0 < store.words.root → 0 < store'.words.root) → IsCallStep
   performed_so r later is performs read stays = record {
@@ -177,7 +179,7 @@ module _ {K V S : Type 0} (s : MapState K V S) where
   abbrev pub Follows : List ℕ → ℕ → Type 0
   Follows lengths len = (before : ℕ) × Contains lengths before × IsNextLength s.initial pairs before len
 
-  -- what the call has made of the tables, and what it goes by
+  -- the tables that the call has made, and the lengths on which it relies
   pub record IsLong (store : StoreState K V S) (m : Machine) : Type 0 where
     pub enough : All (λ len. s.initial ≤ len) (lengths_of store.words)
     pub made : Grows s (record s { store = store })
@@ -203,7 +205,7 @@ module _ {K V S : Type 0} (s : MapState K V S) where
     first = enough.first;
   }
 
-  -- what it leaves: where there is no root there was none
+  -- the lengths of its tables after it: if there is no root, there was none
   pub long_left : (store : StoreState K V S) (m : Machine) → IsLong store m → IsLongEnough s.initial store.words
   long_left store m long = record {
     tables = long.enough;
@@ -225,7 +227,7 @@ module _ {K V S : Type 0} (s : MapState K V S) where
     abbrev MayMake : ℕ → Type 0
     MayMake slots = IsMadeBeside s.initial pairs s.store.words.root lengths slots
 
-    -- where the call makes its first table, there was no root
+    -- if the call makes its first table, there was no root
     no_root : m.phase ≡ Calling → m.call.state ≡ Making → s.store.words.root ≡ 0
     no_root calling making =
         let now = step.first calling making in
@@ -261,7 +263,7 @@ module _ {K V S : Type 0} (s : MapState K V S) where
             (λ slots limit chunks asked. copy_good (Follows lengths) lengths goes slots limit chunks asked link)
             (copy_long eq false hash (copying_ask goes) store answer store' (step.copy (copying_ask goes) (ap (asks_in m.call) e)))
 
-    -- none of those that were is gone
+    -- every table of before is still there
     still_there : (len : ℕ) → Contains lengths len → Contains lengths' len
     still_there len there = ⊎_elim
         (λ same. subst (λ l. Contains l len) (sym same) there)
@@ -387,7 +389,7 @@ module _ {K V S : Type 0} (s : MapState K V S) where
         by_phase (Linking made) e = copy_counts eq false hash (link_ask made) store answer store' (step.copy (link_ask made) (ap (asks_in m.call) e))
         by_phase (Copying_root goes) e = copy_counts eq false hash (copying_ask goes) store answer store' (step.copy (copying_ask goes) (ap (asks_in m.call) e))
 
-    -- one more ask is answered
+    -- after one more answer
     pub long_more : IsLong store' (after m answer)
     long_more = record {
       enough = all_enough;

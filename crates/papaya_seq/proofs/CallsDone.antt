@@ -27,7 +27,7 @@ use Rattle.papaya_seq.specs.Removes.{IsRemoval, IsRemovalBy}
 use Rattle.papaya_seq.specs.Resizes.{IsCopyCause, IsReserveCause}
 
 module _ {K V : Type 0} (eq : K → K → Bool) (classes : IsEquivalence eq) where
-  -- where no key stands twice, a pair is found by each key that equals its own
+  -- if keys are distinct, a pair is found by each key that equals its own
   pub found_apart : (ps : List (Stored K V)) → AreApart eq (λ p. p.key) ps → (k : K) (p : Stored K V) → Contains ps p → eq k p.key ≡ true
       → lookup eq (λ q. q.key) ps k ≡ Some p
   found_apart [] apart k p (i, within, is) same = absurd (omega (arith, within))
@@ -41,7 +41,7 @@ module _ {K V : Type 0} (eq : K → K → Bool) (classes : IsEquivalence eq) whe
       (λ (n : eq k q.key ≡ false). cond-false (eq k q.key) (Some q) (lookup eq (λ (r : Stored K V). r.key) ps k) n ∙ rest)
       (cases_Bool (eq k q.key))
 
-  -- where no key equals, none is found
+  -- if no key equals it, none is found
   pub found_none : (ps : List (Stored K V)) (k : K) → All (λ p. eq k p.key ≡ false) ps → lookup eq (λ q. q.key) ps k ≡ None
   found_none [] k none = refl
   found_none (q ∷ ps) k none =
@@ -50,7 +50,7 @@ module _ {K V : Type 0} (eq : K → K → Bool) (classes : IsEquivalence eq) whe
 
 module _ {K V S : Type 0} (eq : K → K → Bool) (classes : IsEquivalence eq) (s : StoreState K V S) (apart : AreApart eq (λ p. p.key) (content eq s))
     (k : K) where
-  -- a class that has what it had
+  -- a class that keeps its pair
   stays : (s' : StoreState K V S) → Unchanged eq s s' → (o : Option (Stored K V)) → map_in eq s k ≡ o → IsUpdate eq k o o (map_in eq s) (map_in eq s')
   stays s' unchanged o here = record {
     before = here;
@@ -75,7 +75,7 @@ module _ {K V S : Type 0} (eq : K → K → Bool) (classes : IsEquivalence eq) (
   get_absent A none = record { went = None; came = None; update = stays s (λ j. refl) None (none_here none); does = refl }
 
   module _ (said : Stored K V → Bool → Type 0) (s' : StoreState K V S) where
-    -- the pair of another equal key went
+    -- the pair of another equal key was removed
     went : (p : Stored K V) → eq k p.key ≡ true → IsUpdate eq p.key (Some p) None (map_in eq s) (map_in eq s')
         → IsUpdate eq k (Some p) None (map_in eq s) (map_in eq s')
     went p same update = record {
@@ -91,7 +91,7 @@ module _ {K V S : Type 0} (eq : K → K → Bool) (classes : IsEquivalence eq) (
             (λ (n : eq j p.key ≡ false). n)
             (cases_Bool (eq j p.key))
 
-    -- a removal does what the finite map does
+    -- a removal has the effect that it has on the finite map
     pub remove_answered : {A : Type 0} (a : A) (reply : Reply) → ((refused : words.Refused) → reply ≡ Refused refused → refused ≡ RemoveNothing → ⊥)
         → IsRemoval eq (eq k) said s reply s' → IsAnswered eq (RemoveIf k a) (map_in eq s) reply (map_in eq s')
     remove_answered a Absent never (none, unchanged) = record { went = None; came = None; update = stays s' unchanged None (none_here none); does = refl }
@@ -120,7 +120,7 @@ module _ {K V S : Type 0} (eq : K → K → Bool) (classes : IsEquivalence eq) (
     remove_fresh (Replaced m n) removal = absurd removal
     remove_fresh (Occupied n) removal = absurd removal
 
-    -- and its closure's answers said so
+    -- and its closure's answers gave this result
     pub remove_said : {A : Type 0} (says : Says K V A) (a : A)
         → ((p : Stored K V) (agrees : Bool) → said p agrees → (a' : A) × says.yes a p.key p.value agrees a') → (reply : Reply)
         → IsRemoval eq (eq k) said s reply s' → IsJudged says a reply s
@@ -143,12 +143,12 @@ keyed_undone eq call k keyed reply m m' answered is =
     let f : None ≡ Some k = sym done.0 ∙ keyed in
     absurd cc
 
--- what is refused for memory or at a limit is no removal of nothing
+-- a refusal because memory ran out, or at a limit, is no removal of nothing
 pub removes_something : (refused : words.Refused) → IsMakeRefusal refused → refused ≡ RemoveNothing → ⊥
 removes_something refused (inl memory) nothing = let f : Memory ≡ RemoveNothing = sym memory ∙ nothing in absurd cc
 removes_something refused (inr full) nothing = let f : Capacity ≡ RemoveNothing = sym full ∙ nothing in absurd cc
 
--- room, and the end of a resize, are refused for want of memory or at a limit
+-- a reservation, and the end of a resize, are refused because memory ran out or at a limit
 pub reserve_makes : {K V S : Type 0} (eq : K → K → Bool) (s : MapState K V S) (more : ℕ) (refused : words.Refused) (s' : MapState K V S)
     → IsReserveCause eq s more refused s' → IsMakeRefusal refused
 reserve_makes eq s more refused s' (inl memory) = inl memory
@@ -196,7 +196,7 @@ module _ {K V S A : Type 0} (eq : K → K → Bool) (hash : S → K → ℕ) (sa
 module _ {K V S A : Type 0} (eq : K → K → Bool) (says : Says K V A) (call : Call K V A) (no_key : key_of call ≡ None) (s s' : MapState K V S)
     (keeps : Keeps s s') (said : (reply : Reply) → FollowsResult eq says call s reply s'.store)
     (makes : (refused : words.Refused) → MayRefuse eq s call refused s' → IsMakeRefusal refused) where
-  -- what is done on no key is a call
+  -- a call on no key that had this effect was made, with this reply
   pub resized_called : (done : Result (Unit {0}) words.Refused) (reply : Reply) → MatchResult done (λ _. reply ≡ Done) (λ e. reply ≡ Refused e)
       → OnOk done (IsDone eq says call s.store s'.store) → IfErr done (λ e. MayRefuse eq s call e s')
       → OnOk done (IsDoneBy call (map_in eq s.store) (map_in eq s'.store)) → IfErr done (λ e. IsLeftBy call (map_in eq s.store) (map_in eq s'.store))

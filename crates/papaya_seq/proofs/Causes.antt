@@ -86,15 +86,15 @@ IsLogStage stage = ⊥
 abbrev pub IsPartAsk : Machine → Type 0
 IsPartAsk m = (m.phase ≡ Calling) × IsLogStage m.call.state
 
--- the log is full, memory was short, or no number was left
+-- the arena is full, memory ran out, or no number was left
 abbrev pub IsLogRefusal : {K V S : Type 0} → MapState K V S → Refused → Type 0
 IsLogRefusal s refused = (refused ≡ Memory) ⊎ ((refused ≡ Capacity) × IsArenaFull s.store) ⊎ ((refused ≡ Limit) × IsSpent s)
 
--- there is no next table, or memory was short
+-- there is no next table, or memory ran out
 abbrev pub IsNoTableRefusal : {K V S : Type 0} → MapState K V S → Refused → Type 0
 IsNoTableRefusal s' refused = (refused ≡ Memory) ⊎ ((refused ≡ Capacity) × HasNoTable s')
 
--- a closure that was shown no pair would remove one
+-- a closure that was called with `None` would remove a pair
 abbrev pub IsRemoveNothing : Machine → Answer → Refused → Type 0
 IsRemoveNothing m answer refused = (refused ≡ RemoveNothing) × (ask_of m ≡ asks.Call ShowNone) × (answer ≡ answers.Call (Op Remove))
 
@@ -107,7 +107,7 @@ write_cause s refused m s' (inl (inr (inr spent))) = inr (inr spent)
 write_cause s refused m s' (inr (table, inl memory)) = inl memory
 write_cause s refused m s' (inr (table, inr (capacity, none))) = inr (inl (capacity, inr none))
 
--- a table is there, of so many slots
+-- a table is there, with `slots` slots
 abbrev pub HasSlots : {K V S : Type 0} → StoreState K V S → ℕ → ℕ → Type 0
 HasSlots store behind slots = (t : TableWords) × (table_of store.words.tables behind ≡ Some t) × (length t.slots ≡ slots)
 
@@ -126,7 +126,7 @@ pair_stage made (Writing write) h = tt
 pair_stage made (Pairing purpose) h = tt
 pair_stage made stage h = absurd h
 
--- it is where it asks for the count of numbers, and has no number then
+-- a call that asks for the count of numbers is to make a pair, and has no number
 number_unless : (ask : Call_ask) → IsMakeAsk ask → IsNumberAsk ask → ⊥
 number_unless MakeKey makes asks_number = asks_number
 number_unless MakeValue makes asks_number = asks_number
@@ -141,7 +141,7 @@ numberless_ask Wanted made old asks_number e = absurd cc
 numberless_ask (Free n) made old asks_number e = absurd cc
 numberless_ask Taken made old asks_number e = number_unless (make_ask made old) (make_asks made old) asks_number
 
--- what is asked for a pair alone
+-- an ask for a pair is one of a call that is to make it
 pub pair_stage_of : (made : Made) (hash : ℕ) (stage : Stage) → IsPairAsk (call_asks made hash stage) → IsPairStage made stage
 pair_stage_of made hash (Writing write) asks_pair = by_served (serves made write) asks_pair
   where
@@ -178,7 +178,7 @@ number_stage made hash (Writing write) none asks_number = numberless_ask made.nu
 number_stage made hash (Pairing purpose) pairing asks_number = numberless_ask made.number made (in_place_of purpose) asks_number
 number_stage made hash stage pairing asks_number = absurd pairing
 
--- what it is told then is how many were taken
+-- the answer is then how many were taken
 told_count : {K V S A : Type 0} (eq : K → K → Bool) (says : Says K V A) (ask : Call_ask) (store store' : StoreState K V S) (r r' : Running K V A)
     (told : Call_answer) (count : ℕ) → IsNumberAsk ask → Performs eq says false ask store r told store' r' → (told ≡ Word_read count)
     ⊎ (told ≡ Found_instead count) → count ≡ store.words.made
@@ -198,7 +198,7 @@ told_count eq says (Exchange Made_word old new) store store' r r' told count ask
     lost_is e (inr is) = let f : Found_instead count ≡ Found_instead store.words.made = sym is ∙ e in cc f
 told_count eq says ask store store' r r' told count asks_number h is = absurd asks_number
 
--- what was refused at a limit, or for want of memory
+-- a refusal at a limit, or because memory ran out
 pub by_limit : (refused : Refused) (most count : ℕ) (told : Call_answer) → told ≡ Was_refused refused → Refuses most count told → (refused ≡ Memory)
     ⊎ ((refused ≡ Capacity) × (most ≤ count))
 by_limit refused most count told is (inl memory) = let f : Was_refused refused ≡ Was_refused Memory = sym is ∙ memory in
@@ -231,9 +231,10 @@ module _ {K V S : Type 0} (s : MapState K V S) (store store' : StoreState K V S)
       (inr (capacity, inr (record { behind = behind; table = table; there = there; unfit = unfit; long = at_slots })))
 
 module _ {K V S : Type 0} (eq : K → K → Bool) (hash : S → K → ℕ) (s : MapState K V S) (call : KeyCall K V) where
-  -- What a call under way has logged so far, its mode and initial capacity, and the table whose next one it makes.
+  -- The pairs that a call under way has stored so far, its mode and initial capacity, and the table
+  -- whose next one it makes.
   pub record IsNotStored (store : StoreState K V S) (r : Running K V (Unit {0})) : Type 0 where
-    -- until its pair is made the log is as long as it was
+    -- until its pair is made the arena is as long as it was
     pub pairs : IsFirst r.machine.call.task r.machine.call.made r.machine.call.remembered → length store.pairs ≡ length s.store.pairs
     -- and until it has a number for it as many were taken
     pub numbers : IsFirst r.machine.call.task r.machine.call.made r.machine.call.remembered → IsNumberless r.machine.call.made
@@ -241,7 +242,7 @@ module _ {K V S : Type 0} (eq : K → K → Bool) (hash : S → K → ℕ) (s : 
     pub limit : r.machine.call.made.limit ≡ s.mode.limit
     pub mode : r.machine.call.mode ≡ s.mode.resize
     pub initial : r.machine.call.initial ≡ s.initial
-    -- the length of a next table is counted by the slots of the one before
+    -- the length of a next table is computed from the slots of the one before
     pub sized : In (IsSizedLink (HasSlots store)) (link_in r.machine.phase)
 
   -- a call that begins
@@ -279,7 +280,7 @@ module _ {K V S : Type 0} (eq : K → K → Bool) (hash : S → K → ℕ) (s : 
     still_there : (behind slots : ℕ) → HasSlots store behind slots → HasSlots store' behind slots
     still_there behind slots (t, there, is) = let more = grown behind t there in (more.0, more.1, more.2 ∙ is)
 
-    -- a table's size that was answered
+    -- the size of a table in an answer
     told_size : (slots limit : ℕ) → answer ≡ answers.Call (Size slots limit) → (behind copied : ℕ) (unfit : Bool)
         → link_in r.machine.phase ≡ Some (links.Sizing behind copied unfit) → HasSlots store' behind slots
     told_size slots limit is behind copied unfit e =
@@ -293,7 +294,7 @@ module _ {K V S : Type 0} (eq : K → K → Bool) (hash : S → K → ℕ) (s : 
     next_sized = machine_sized (HasSlots store') r.machine answer told_size
         (sized_beside (HasSlots store) (HasSlots store') still_there (link_in r.machine.phase) un.sized)
 
-    -- where the call is this after the step
+    -- the call after the step, in this state
     unlogged_then : (then : Call_machine) → (after r.machine answer).call ≡ then → then.mode ≡ own.mode → then.initial ≡ own.initial
         → then.made.limit ≡ own.made.limit → (IsFirst then.task then.made then.remembered → IsFirst own.task own.made own.remembered
         × (length store'.pairs ≡ length store.pairs))
@@ -311,11 +312,11 @@ module _ {K V S : Type 0} (eq : K → K → Bool) (hash : S → K → ℕ) (s : 
       sized = next_sized;
     }
 
-    -- what the answered ask does to the log
+    -- the effect of the answered ask on the arena
     log : IsLogStep store store' (ask_of r.machine) answer
     log = made_logs eq hash s call store r answer store' later going performs same keys came
 
-    -- a call that is set aside logs nothing
+    -- a call that is set aside stores nothing in the arena
     aside_asked : (t : ℕ) → left_by own.state ≡ Some t → (phase : Phase) → (IsPairMade (asks_in own phase) answer → ⊥)
         × (IsNumberTaken (asks_in own phase) answer → ⊥)
     aside_asked t left Calling = by_ask (call_machine.ask_of own) (aside_asks own.made own.hash own.state t left)
@@ -343,7 +344,7 @@ module _ {K V S : Type 0} (eq : K → K → Bool) (hash : S → K → ℕ) (s : 
     unlogged_aside t left stage is = let logs = aside_logs t left in
         unlogged_then (record own { state = stage }) is refl refl refl (λ first. (first, logs.0)) (λ first none. (none, logs.1))
 
-    -- what it asks for itself is answered
+    -- its own ask is answered
     told_performs : (told : Call_answer) → r.machine.phase ≡ Calling → answer ≡ answers.Call told
         → Performs eq whatever false (call_machine.ask_of own) store r told store' later
     told_performs told calling is = own_performs eq whatever hash store r answer store' later told calling is performs
@@ -367,7 +368,7 @@ module _ {K V S : Type 0} (eq : K → K → Bool) (hash : S → K → ℕ) (s : 
         asked : ask_of r.machine ≡ asks.Call (call_machine.ask_of own)
         asked = ap (asks_in own) step.phase
 
-        -- a pair that was logged is remembered, or is the insertion's
+        -- a pair that was stored in the arena is remembered, or is the insertion's
         pair_kept : (told : Call_answer) → IsPairMade (asks.Call (call_machine.ask_of own)) (answers.Call told)
             → IsFirst own.task (call_machine.after own told).made (call_machine.after own told).remembered → ⊥
         pair_kept (Made_number n) makes first = paired_first own valid makes n first
@@ -385,7 +386,7 @@ module _ {K V S : Type 0} (eq : K → K → Bool) (hash : S → K → ℕ) (s : 
         untaken none took = number_taken own step.told
             (subst (λ a. IsNumberTaken (asks.Call (call_machine.ask_of own)) a) step.is (subst (λ y. IsNumberTaken y answer) asked took)) none
 
-    -- one more ask is answered
+    -- after one more answer
     pub unlogged_more : IsNotStored store' (stepped later r.machine answer)
     unlogged_more = elim (made_goes eq hash s call store r answer store' later going performs same keys came) [
       | inl waits ↦ unlogged_aside waits.from waits.left own.state waits.call
@@ -400,7 +401,7 @@ module _ {K V S : Type 0} (eq : K → K → Bool) (hash : S → K → ℕ) (s : 
       abbrev then : MapState K V S
       then = record { store = store'; mode = s.mode; initial = s.initial }
 
-      -- what was asked for the pair was refused
+      -- the ask for the pair was refused
       abbrev WasRefused : Call_ask → Type 0
       WasRefused ask = (told : Call_answer) → told ≡ Was_refused refused → IsToMake ask → Performs eq whatever false ask store r told store' later
           → IsLogRefusal s refused
@@ -430,7 +431,7 @@ module _ {K V S : Type 0} (eq : K → K → Bool) (hash : S → K → ℕ) (s : 
         ];
       }
 
-      -- what was to be made was refused
+      -- a part of the pair, or a table, was refused
       abbrev Why : Type 0
       Why = (IsPartAsk r.machine × IsLogRefusal s refused) ⊎ (IsTableAsk r.machine × IsNoTableRefusal then refused)
 
@@ -520,7 +521,8 @@ module _ {K V S : Type 0} (eq : K → K → Bool) (hash : S → K → ℕ) (s : 
         | inr long ↦ (copies_only _ long.asks, next_long long)
       ]
 
-      -- Why the step ends the call refused: a log, a table, or a closure that would remove what isn't there; and what it asked for.
+      -- The cause for which the step ends the call refused, with its ask: the arena, a table, or a
+      -- closure that would remove an absent entry.
       pub refused_as : reply_in (ask_of (after r.machine answer)) ≡ Some (Reply_refused refused) → (IsPartAsk r.machine × IsLogRefusal s refused)
           ⊎ (IsTableAsk r.machine × IsNoTableRefusal then refused) ⊎ IsRemoveNothing r.machine answer refused
       refused_as e = elim (made_caused eq hash s call store r answer store' later going performs same keys came refused e) [
@@ -532,7 +534,7 @@ module _ {K V S : Type 0} (eq : K → K → Bool) (hash : S → K → ℕ) (s : 
         | inr because ↦ inr (inl (next_table because))
       ]
 
-      -- the same without what it asked of a log
+      -- the same without the ask for a pair
       pub refused_so : reply_in (ask_of (after r.machine answer)) ≡ Some (Reply_refused refused) → IsLogRefusal s refused
           ⊎ (IsTableAsk r.machine × IsNoTableRefusal then refused) ⊎ IsRemoveNothing r.machine answer refused
       refused_so e = elim (refused_as e) [ inl log ↦ inl log.1 | inr others ↦ inr others ]

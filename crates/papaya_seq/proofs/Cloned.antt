@@ -38,7 +38,7 @@ module _ {K V : Type 0} (eq : K → K → Bool) (law : IsEquivalence eq) (CK : K
   abbrev HasNoneOf : List (Stored K V) → Entries K V → Type 0
   HasNoneOf ps m = (j : K) (r : Stored K V) → lookup eq (λ p. p.key) ps j ≡ Some r → m j ≡ None
 
-  -- and the others have their clones, where none was there before
+  -- and the others have their clones, if none was there before
   there : (ps : List (Stored K V)) (cs : List (K × V)) → AreApart eq (λ p. p.key) ps → AllZip (Clones CK CV) (map entry_of ps) cs → (m : Entries K V)
       → HasNoneOf ps m → (k : K) (p : Stored K V) → lookup eq (λ q. q.key) ps k ≡ Some p → (c : K × V) × (put_all eq (λ d. d) m cs k ≡ Some c)
       × Clones CK CV (entry_of p) c

@@ -59,7 +59,7 @@ use Rattle.papaya_seq.proofs.Ending.{left_of}
 use Rattle.papaya_seq.proofs.KeyCalls.{keyed_compute}
 use Rattle.papaya_seq.proofs.Steps.{HasCome, made_more, made_nears}
 
--- a call that is to make a pair goes on
+-- a call that is to make a pair continues
 pairing_going : (made : Made) (purpose : Purpose) (reply : Reply) → reply_in (asked.Call (pair_ask made (in_place_of purpose))) ≡ Some reply → ⊥
 pairing_going made purpose =
     pair_holds (λ ask. (reply : Reply) → reply_in (asked.Call ask) ≡ Some reply → ⊥)
@@ -74,13 +74,13 @@ pairing_going made purpose =
     })
     made (in_place_of purpose)
 
--- a call that shows a closure something has not replied
+-- a call that calls its closure has not replied
 unreplied : {K V A : Type 0} (r : Running K V A) (ask : Call_ask) → reply_in (asked.Call ask) ≡ None → ask_of r.machine ≡ asked.Call ask
     → (reply : Reply) → reply_in (ask_of r.machine) ≡ Some reply → ⊥
 unreplied r ask going e reply told = let f : None ≡ Some reply = sym going ∙ ap reply_in (sym e) ∙ told in cc f
 
 module _ {K V S A T : Type 0} (s : MapState K V S) (store : StoreState K V S) (r : Running K V A) where
-  -- a closure that was shown that there is none is not shown it again
+  -- a closure that was called with `None` is not called with it again
   pub not_offered : (o : Operation V T) (held : Option (Stored K V)) → held ≡ None → IsAsked s held o store r → ask_of r.machine ≡ asked.Call ShowNone → ⊥
   not_offered (ops.Insert v) held none now e =
       let (gap, is) = offering r.machine.call.made r.machine.call.hash r.machine.call.state (call_asks r.machine ShowNone e).1 in
@@ -88,7 +88,7 @@ module _ {K V S A T : Type 0} (s : MapState K V S) (store : StoreState K V S) (r
   not_offered ops.Remove held none now e = unreplied r ShowNone refl e (Reply_refused RemoveNothing) (subst (λ h. IsToRemove h r.machine) none now)
   not_offered (ops.Abort t) held none now e = unreplied r ShowNone refl e (Aborted 0) now
 
-  -- nor is one a pair that was shown it
+  -- nor is one called again with a pair
   pub not_showing : (o : Operation V T) (held : Option (Stored K V)) (q : Stored K V) → held ≡ Some q → (n : ℕ) → IsAsked s held o store r
       → ask_of r.machine ≡ asked.Call (ShowPair n) → ⊥
   not_showing (ops.Insert v) held q there n now e =
@@ -100,20 +100,20 @@ module _ {K V S A T : Type 0} (s : MapState K V S) (store : StoreState K V S) (r
   not_showing (ops.Abort t) held q there n now e = unreplied r (ShowPair n) refl e (Aborted 0) now
 
 module _ {K V S A : Type 0} (s : MapState K V S) (store : StoreState K V S) (r : Running K V A) where
-  -- the call whose closure answered
+  -- the call after its closure returned a value
   abbrev at_pairing : Made → Purpose → Running K V A
   at_pairing made purpose = record r {
     machine =
         record (bare_at r.machine (Pairing purpose)) { call = record (bare_at r.machine (Pairing purpose)).call { made = made } };
   }
 
-  -- it stands on nothing but the value
+  -- it acts on nothing but the value
   pairing_only : (made : Made) (purpose : Purpose) (said : ClosureResult) → ActsOn (at_pairing made purpose).machine.call said → result_for purpose ≡ Some said
   pairing_only made purpose said (inl e) = e
   pairing_only made purpose said (inr (inl e)) = absurd (cc e)
   pairing_only made purpose said (inr (inr e)) = absurd (cc e)
 
-  -- which is at hand
+  -- which it has
   pairing_inserts : (made : Made) (purpose : Purpose) (shown : Option ℕ) → result_for purpose ≡ Some (Inserts shown) → (held : Option (Stored K V))
       → IsShown held shown → (v : V) → r.value ≡ Some (Own v) → IsOnWay held (at_pairing made purpose).machine
       → IsInserting s held v store (at_pairing made purpose)
@@ -128,14 +128,14 @@ module _ {K V S A : Type 0} (s : MapState K V S) (store : StoreState K V S) (r :
       only said stands = let both : Some said ≡ Some (Inserts shown) = sym (pairing_only made purpose said stands) ∙ is in cc both
 
 module _ {K V S A T : Type 0} (s : MapState K V S) (store : StoreState K V S) (r : Running K V A) where
-  -- what holds where a closure answered that was shown that there is none
+  -- the facts after the closure returned, if it was called with `None`
   none_asked : (o : Operation V T) (gap : Gap) (left : Option (Part V)) → r.value ≡ value_answered (as_number o) left
       → IsAsked s None o store (record r { machine = after (bare_at r.machine (Offering gap)) (answers.Call (Op (op_kind (as_number o)))) })
   none_asked (ops.Insert v) gap left value = pairing_inserts s store r (record r.machine.call.made { valued = false }) (Fill gap) None refl None refl v value tt
   none_asked ops.Remove gap left value = refl
   none_asked (ops.Abort t) gap left value = refl
 
-  -- or a pair
+  -- or with a pair
   pair_asked : (o : Operation V T) (q : Stored K V) (removal : Removal) (left : Option (Part V)) → 0 < removal.word
       → number_of removal.word ≡ q.number → r.value ≡ value_answered (as_number o) left
       → IsAsked s (Some q) o store (record r { machine = after (bare_at r.machine (Showing removal)) (answers.Call (Op (op_kind (as_number o)))) })
@@ -157,15 +157,15 @@ module _ {K V S A F T H : Type 0} (eq : K → K → Bool) (input : K → List (L
   keys : IsLawfulKeys eq (hash_of input build write finish s.store.hasher)
   keys = keys_lawful eq input build write finish classes respects s.store.hasher
 
-  -- it came here
+  -- it came there by steps of the core
   came : HasCome eq (hash_of input build write finish) s (keyed_compute k) store (asking r)
   came = now.steps keys lawful fits
 
-  -- it shows none where the map has none
+  -- its closure is called with `None` if the map has none
   pub none_held : ask_of r.machine ≡ asked.Call ShowNone → map_in eq s.store k ≡ None
   none_held e = shows_none eq input build write finish classes respects s lawful k fits store r came e
 
-  -- and else the pair that the map has
+  -- and otherwise with the pair that the map has
   pub pair_held : (n : ℕ) → ask_of r.machine ≡ asked.Call (ShowPair n) → (q : Stored K V) × (map_in eq s.store k ≡ Some q) × (q.number ≡ n)
       × (pair_of store n ≡ Some q)
   pair_held n e = shows_pair eq input build write finish classes respects s lawful k fits store r came n e
@@ -187,7 +187,7 @@ module _ {K V S A F T H : Type 0} (eq : K → K → Bool) (input : K → List (L
       absurd (not_showing s store r d.operation (map_in eq s.store k) q here n d.asked e))
       now.phase
 
-  -- what is shown is of what the map holds
+  -- the argument is the entry that the map holds
   pub none_are : (entry : Option (Bor K × Bor V)) → entry ≡ None → ask_of r.machine ≡ asked.Call ShowNone → AreOf entry (map_in eq s.store k)
   none_are entry none e = ap (option_map deref_pair) none ∙ sym (ap (option_map entry_of) (none_held e))
 
@@ -214,7 +214,7 @@ module _ {K V S A F T H : Type 0} (eq : K → K → Bool) (input : K → List (L
 
   module _ (told : Call_answer) (value' : Option (Part V)) (closure' : Option F) (aborted' : Option T) (entry : Option (Bor K × Bor V)) (f' : F)
       (o : Operation V T) (taken : closure ≡ Some f') (says : post f' entry o) (kept : IsKept o told r.value value' aborted aborted') where
-    -- what is kept
+    -- the part of the result that is kept
     kept_is : (told ≡ Op (op_kind (as_number o))) × (value' ≡ value_answered (as_number o) r.value) × IsLeft o aborted'
     kept_is = kept_as o told r.value value' aborted aborted' kept
 
@@ -231,14 +231,14 @@ module _ {K V S A F T H : Type 0} (eq : K → K → Bool) (input : K → List (L
     later_is : asking later ≡ record (asking r) { value = value_answered (as_number o) r.value; answers = Some tt }
     later_is = ap (λ (v : Option (Part V)). record (asking r) { value = v; answers = Some tt }) kept_is.1
 
-    -- it was said
+    -- the closure returned it
     said : closure ≡ Some f → AreOf entry (map_in eq s.store k) → Says (post f) (map_in eq s.store k) o
     said there are =
         let g : Some f' ≡ Some f = sym taken ∙ there in
         let same : f' ≡ f = cc g in
         (entry, are, subst (λ (y : F). post y entry o) same says)
 
-    -- what holds after it, of the machine as it is
+    -- the facts after it, for the machine as it is
     asked_now : (held : Option (Stored K V)) (state : State) → r.machine ≡ bare_at r.machine state
         → IsAsked s held o store (record later { machine = after (bare_at r.machine state) (answers.Call (Op (op_kind (as_number o)))) })
         → IsAsked s held o store then
@@ -249,7 +249,7 @@ module _ {K V S A F T H : Type 0} (eq : K → K → Bool) (input : K → List (L
     module _ (going : reply_in (ask_of r.machine) ≡ None)
         (performs : PerformsAsk eq whatever (hash_of input build write finish) false (ask_of r.machine) store (asking r) (answers.Call told) store
         (asking later)) where
-      -- so it goes on
+      -- so it continues
       goes_on : IsValid (after r.machine (answers.Call told)) → Waits → AreOf entry (map_in eq s.store k) → (shown' : Option ℕ)
           → shown' ≡ option_map (λ p. p.number) (map_in eq s.store k) → IsAsked s (map_in eq s.store k) o store then
           → IsComputing eq (hash_of input build write finish) s k post f store then closure' shown' aborted'

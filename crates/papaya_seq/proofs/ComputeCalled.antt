@@ -21,7 +21,7 @@ use Rattle.papaya_words_keys.specs.declared.results.Computed.{Computed}
 use Rattle.papaya_words_keys.specs.declared.results.Computed.TheVariants.{Inserted, Updated, Removed, Aborted}
 use Rattle.papaya_seq.proofs.Answered.{update_leaves, write_cause}
 
--- no compute replies as a call does that resizes the map
+-- the reply of a compute is none of a call that resizes the map
 undone : (answer : Result (Computed ℕ ℕ) Refused) → reply_of answer ≡ replies.Done → ⊥
 undone (Ok (Inserted n)) e = cc e
 undone (Ok (Updated m n)) e = cc e
@@ -30,31 +30,31 @@ undone (Ok (Aborted t)) e = cc e
 undone (Err refused) e = cc e
 
 module _ {K V S A : Type 0} (eq : K → K → Bool) (classes : IsEquivalence eq) (s s' : MapState K V S) (k : K) (a : A) (says : Answers_say K V A) where
-  -- what is replied of a compute that did this
+  -- the reply of a compute that did this
   abbrev Called : Reply → Type 0
   Called reply = IsCalled eq says s (Compute k a) reply s'
 
-  -- a cause is no want of a pair to be removed
+  -- such a cause is not the absence of a pair to be removed
   caused : (refused : Refused) → IsWriteCause s refused s' → refused ≡ RemoveNothing → ⊥
   caused refused (inl e) f = let g : Memory ≡ RemoveNothing = sym e ∙ f in cc
   caused refused (inr (inl (e, full))) f = let g : Capacity ≡ RemoveNothing = sym e ∙ f in cc
   caused refused (inr (inr (e, spent))) f = let g : Limit ≡ RemoveNothing = sym e ∙ f in cc
 
-  -- it stands beside what the class of the key has, while pairs are being moved
+  -- the cause holds for any pair of the key's class, while pairs are being moved
   caused_moving : (held : Option (Stored K V)) (refused : Refused) → IsResizing s → IsWriteCause s refused s' → IsWriteCauseAt s held refused s'
   caused_moving held refused resizing (inl e) = inl e
   caused_moving held refused resizing (inr (inl (e, inl full))) = inr (inl (e, inl full))
   caused_moving held refused resizing (inr (inl (e, inr none))) = inr (inl (e, inr (inr resizing, none)))
   caused_moving held refused resizing (inr (inr spent)) = inr (inr spent)
 
-  -- and nothing need be answered then
+  -- and the closure need not have returned then
   moving_said : (held : Option (Stored K V)) (refused : Refused) → IsResizing s → IsWriteCause s refused s'
       → IsOperated says a s held s'.store (replies.Refused refused)
   moving_said held refused resizing (inl e) = subst (λ r. IsOperated says a s held s'.store (replies.Refused r)) (sym e) (inr resizing)
   moving_said held refused resizing (inr (inl (e, full))) = subst (λ r. IsOperated says a s held s'.store (replies.Refused r)) (sym e) (inr resizing)
   moving_said held refused resizing (inr (inr (e, spent))) = subst (λ r. IsOperated says a s held s'.store (replies.Refused r)) (sym e) (inr resizing)
 
-  -- and an insertion was answered then
+  -- or the closure returned a value
   insertion_said : (held : Option (Stored K V)) (v : V) (refused : Refused) → IsWriteCause s refused s' → Answers says a held (ops.Insert v)
       → IsOperated says a s held s'.store (replies.Refused refused)
   insertion_said held v refused (inl e) answers = subst (λ r. IsOperated says a s held s'.store (replies.Refused r)) (sym e) (inl (v, answers))
@@ -190,7 +190,7 @@ module _ {K V S A : Type 0} (eq : K → K → Bool) (classes : IsEquivalence eq)
   called keeps (Some p) (ops.Abort t) (Ok (Removed old)) next answers o update = absurd o
   called keeps (Some p) (ops.Abort t) (Err refused) next answers o update = absurd o
 
-  -- where the call was refused before its closure was called
+  -- if the call was refused before its closure was called
   called_first : (done : Result (Computed (Stored K V) ℕ) Refused) → IsRefusedFirst eq k s done s' → Called (reply_of (answer_map (λ p. p.number) done))
   called_first done (resizing, (refused, is, (cause, same, kept))) =
       subst (λ (d : Result (Computed (Stored K V) ℕ) Refused). Called (reply_of (answer_map (λ p. p.number) d))) (sym is) (record {

@@ -1,4 +1,4 @@
--- A compute that has replied did to the finite map what its reply says.
+-- The effect of a compute that has replied on the finite map is the one of its reply.
 use Rattle.std.proofs.Common.{◌≡◌, inl, inr, ⊎_elim, IfOk, option_map, ℕ, Bool, Option, None, Some, Result, Ok, Err, refl, sym, ◌∙◌, ap, subst}
 use denote.Ref.{Bor}
 use Rattle.std.specs.Cmp.{IsEquivalence}
@@ -27,24 +27,24 @@ use Rattle.papaya_seq.proofs.ComputeRun.{HasPair, IsAsked, IsComputing, IsDoing,
 use Rattle.papaya_seq.proofs.ComputeShown.{compute_of}
 use Rattle.papaya_seq.proofs.ComputeStages.{IsRemoving}
 
--- what a compute replies whose closure would have a pair removed
+-- the reply of a compute whose closure would have a pair removed
 abbrev IsRemoveEnd : Reply → Type 0
 IsRemoveEnd (replies.Removed n) = Unit {0}
 IsRemoveEnd (replies.Refused refused) = refused ≡ RemoveNothing
 IsRemoveEnd _ = ⊥
 
--- or ends it
+-- or whose closure aborts
 abbrev IsAbortEnd : Reply → Type 0
 IsAbortEnd (replies.Aborted n) = Unit {0}
 IsAbortEnd _ = ⊥
 
--- and where it answered so
+-- and for each result of the closure
 abbrev pub IsEnd : {K V S T : Type 0} → MapState K V S → Option (Stored K V) → Operation V T → StoreState K V S → Reply → Type 0
 IsEnd s held (ops.Insert v) store reply = IsInsertEnd s held v store reply
 IsEnd s held ops.Remove store reply = IsRemoveEnd reply
 IsEnd s held (ops.Abort t) store reply = IsAbortEnd reply
 
--- a deletion ends so
+-- a deletion ends with such a reply
 removing_end : (reply : Reply) → IsRemoving (Ended reply) → IsRemoveEnd reply
 removing_end (replies.Removed n) there = tt
 removing_end reply there = absurd there
@@ -65,7 +65,7 @@ module _ {K V S A : Type 0} (s : MapState K V S) (store : StoreState K V S) (r :
   asked_end held ops.Remove now = remove_end held now
   asked_end held (ops.Abort t) e = told_so IsAbortEnd (replies.Aborted 0) e tt
 
--- what no compute replies
+-- a reply that no compute gives
 abbrev pub IsOther : Reply → Type 0
 IsOther replies.Absent = Unit {0}
 IsOther (replies.Found n) = Unit {0}
@@ -101,11 +101,11 @@ module _ {K V S : Type 0} (eq : K → K → Bool) (k : K) (s store : StoreState 
 
 module _ {K V S T : Type 0} (eq : K → K → Bool) (classes : IsEquivalence eq) (k : K) (said : Option (Stored K V) → Operation V T → Type 0)
     (s s' : MapState K V S) (keeps : KeepsAndGrows s s') where
-  -- what is answered of a compute that did this
+  -- the result of a compute that did this
   abbrev Answers : Result (Computed ℕ T) Refused → Type 0
   Answers answer = ComputesBy eq k (λ p. p.number) said s answer s'
 
-  -- a class that has what it had
+  -- a class that keeps its pair
   kept_update : (o : Option (Stored K V)) → map_in eq s.store k ≡ o → Same (map_in eq s.store) (map_in eq s'.store)
       → IsUpdate eq k o o (map_in eq s.store) (map_in eq s'.store)
   kept_update o here same = record {
@@ -114,7 +114,7 @@ module _ {K V S T : Type 0} (eq : K → K → Bool) (classes : IsEquivalence eq)
     others = λ j e. same j;
   }
 
-  -- the pair that was made is new, and of the value that was answered
+  -- the pair that was made is new, and has the value that the closure returned
   new_pair : (j : K) (v : V) (n : ℕ) (q : Stored K V) → IsMadeWith j n q → pair_of s.store n ≡ None → map_in eq s'.store k ≡ Some q
       → HasPair v s'.store n → IsNew j v s.store s'.store q
   new_pair j v n q (w, made) fresh here (p, logged, value) =
@@ -128,7 +128,7 @@ module _ {K V S T : Type 0} (eq : K → K → Bool) (classes : IsEquivalence eq)
         logged = subst (λ i. pair_of s'.store i ≡ Some q) (sym made.number) there;
       }
 
-  -- where the key was absent
+  -- if the key was absent
   inserted : (v : V) (n : ℕ) (went came : Option (Stored K V)) → said (map_in eq s.store k) (ops.Insert v)
       → IsUpdate eq k went came (map_in eq s.store) (map_in eq s'.store) → Does (compute_of k) went (replies.Inserted n) came → pair_of s.store n ≡ None
       → HasPair v s'.store n → Answers (Ok (Inserted n))
@@ -148,7 +148,7 @@ module _ {K V S T : Type 0} (eq : K → K → Bool) (classes : IsEquivalence eq)
       )
   inserted v n (Some p) came says update does fresh paired = absurd does
 
-  -- where it had a pair
+  -- if it had a pair
   replaced : (v : V) (m n : ℕ) (went came : Option (Stored K V)) → said (map_in eq s.store k) (ops.Insert v)
       → IsUpdate eq k went came (map_in eq s.store) (map_in eq s'.store) → Does (compute_of k) went (replies.Replaced m n) came
       → pair_of s.store n ≡ None → HasPair v s'.store n → Answers (Ok (Updated m n))
@@ -168,7 +168,7 @@ module _ {K V S T : Type 0} (eq : K → K → Bool) (classes : IsEquivalence eq)
       )
   replaced v m n None came says update does fresh paired = absurd does
 
-  -- where it was removed
+  -- if the pair was removed
   removed : (n : ℕ) (went came : Option (Stored K V)) → said (map_in eq s.store k) ops.Remove
       → IsUpdate eq k went came (map_in eq s.store) (map_in eq s'.store) → Does (compute_of k) went (replies.Removed n) came → Answers (Ok (Removed n))
   removed n (Some p) came says update (number, next) = (
@@ -186,7 +186,7 @@ module _ {K V S T : Type 0} (eq : K → K → Bool) (classes : IsEquivalence eq)
   )
   removed n None came says update does = absurd does
 
-  -- where its closure ended it
+  -- if its closure aborted
   aborted : (t u : T) (n : ℕ) (went came : Option (Stored K V)) → u ≡ t → said (map_in eq s.store k) (ops.Abort t)
       → IsUpdate eq k went came (map_in eq s.store) (map_in eq s'.store) → Does (compute_of k) went (replies.Aborted n) came → Answers (Ok (Aborted u))
   aborted t u n None came same says update next = (
@@ -216,7 +216,7 @@ module _ {K V S T : Type 0} (eq : K → K → Bool) (classes : IsEquivalence eq)
     }),
   )
 
-  -- where an insertion was refused
+  -- if an insertion was refused
   refused_insertion : (v : V) (refused : Refused) (o : Option (Stored K V)) → map_in eq s.store k ≡ o → said o (ops.Insert v)
       → Same (map_in eq s.store) (map_in eq s'.store) → IsWriteCauseAt s o refused s' → Answers (Err refused)
   refused_insertion v refused None here says same cause = (
@@ -246,7 +246,7 @@ module _ {K V S T : Type 0} (eq : K → K → Bool) (classes : IsEquivalence eq)
     }),
   )
 
-  -- and where nothing is there to be removed
+  -- and if there is nothing to remove
   refused_removal : (refused : Refused) (o : Option (Stored K V)) → map_in eq s.store k ≡ o → said o ops.Remove
       → Same (map_in eq s.store) (map_in eq s'.store) → refused ≡ RemoveNothing → Does (compute_of k) o (replies.Refused RemoveNothing) o → Answers (Err refused)
   refused_removal refused None here says same cause does = (
@@ -264,7 +264,7 @@ module _ {K V S T : Type 0} (eq : K → K → Bool) (classes : IsEquivalence eq)
   )
   refused_removal refused (Some p) here says same cause does = absurd does
 
-  -- what a call ends with that its closure ended
+  -- the value with which the closure ended the call
   left_with : (t u : T) (left : Option T) → left ≡ Some t → left ≡ Some u → u ≡ t
   left_with t u left is e = let f : Some t ≡ Some u = sym is ∙ e in cc
 
@@ -295,7 +295,7 @@ module _ {K V S T : Type 0} (eq : K → K → Bool) (classes : IsEquivalence eq)
       (aborted t u n done.went done.came (left_with t u left kept e) says done.update done.does)
   replied_so (ops.Abort t) reply left answer says end kept done fresh is = absurd end
 
-  -- where its closure was not called
+  -- if its closure was not called
   pub first_so : (reply : Reply) (left : Option T) (answer : Result (Computed ℕ T) Refused) → IsFirstEnd s s'.store reply
       → IsAnswered eq (compute_of k) (map_in eq s.store) reply (map_in eq s'.store) → IsComputed reply left answer → Answers answer
   first_so (replies.Refused refused) left answer end done is = subst Answers (sym is)
@@ -308,7 +308,7 @@ module _ {K V S T : Type 0} (eq : K → K → Bool) (classes : IsEquivalence eq)
 
 module _ {K V S T : Type 0} (eq : K → K → Bool) (k : K) (s : MapState K V S) (store : StoreState K V S) (reply : Reply) (left : Option T)
     (done : IsAnswered eq (compute_of k) (map_in eq s.store) reply (map_in eq store)) where
-  -- it replies what `computed` takes, where it isn't what no compute replies
+  -- it gives a reply that `computed` takes, unless that is a reply that no compute gives
   replies_or : (other : Reply) → (IsOther other → ⊥) → (IsAbortEnd other → (t : T) × (left ≡ Some t)) → Replies other left
   replies_or (replies.Inserted n) none abort = tt
   replies_or (replies.Replaced m n) none abort = tt
@@ -317,7 +317,7 @@ module _ {K V S T : Type 0} (eq : K → K → Bool) (k : K) (s : MapState K V S)
   replies_or (replies.Aborted u) none abort = abort tt
   replies_or other none abort = none tt
 
-  -- only a closure aborts, and what it aborts with is left
+  -- only a closure aborts, and its value is left
   insert_aborts : (held : Option (Stored K V)) (v : V) (other : Reply) → IsInsertEnd s held v store other → IsAbortEnd other → ⊥
   insert_aborts held v (replies.Aborted t) end abort = end
   insert_aborts held v other end abort = abort
@@ -346,7 +346,7 @@ module _ {K V S A F T : Type 0} (eq : K → K → Bool) (classes : IsEquivalence
     (shown : Option ℕ) (left : Option T) (reply : Reply) (told : reply_in (ask_of r.machine) ≡ Some reply)
     (now : IsComputing eq hash s k post f s'.store r closure shown left)
     (done : IsAnswered eq (compute_of k) (map_in eq s.store) reply (map_in eq s'.store)) where
-  -- one that has replied, so
+  -- so a compute that has replied
   pub over_replies : Replies reply left
   over_replies =
       ⊎_elim
@@ -356,7 +356,7 @@ module _ {K V S A F T : Type 0} (eq : K → K → Bool) (classes : IsEquivalence
       (asked_end s s'.store r reply told (map_in eq s.store k) does.operation does.asked) does.kept)
       now.phase
 
-  -- did what it answers
+  -- has the effect of its result
   pub over_computes : IsNewIn s.store reply → (answer : Result (Computed ℕ T) Refused) → IsComputed reply left answer
       → ComputesBy eq k (λ p. p.number) (Says (post f)) s answer s'
   over_computes fresh answer is =
@@ -382,7 +382,7 @@ module _ {K V S A F T : Type 0} (eq : K → K → Bool) (classes : IsEquivalence
   shown_so (Ok done) is = is
   shown_so (Err refused) is = tt
 
-  -- where its closure was shown what the map held
+  -- if its closure was called with the pair that the map held
   pub over_shown : (answer : Result (Computed ℕ T) Refused) → IsComputed reply left answer
       → IfOk answer (λ _. shown ≡ option_map (λ p. p.number) (map_in eq s.store k))
   over_shown answer is =

@@ -1,4 +1,4 @@
--- A compute of a map for one caller: what holds of it between two answers.
+-- A compute of a map for one caller: the facts that hold between two answers.
 use Rattle.std.proofs.Common.{◌≡◌, ◌⊎◌, ℕ, ◌<◌, Bool, Option, None, Some, option_map, inl, inr, refl, sym, ◌∙◌, ap, subst}
 use denote.Ref.{Bor}
 use Rattle.papaya_words.specs.declared.refused.Refused.TheVariants.{RemoveNothing}
@@ -44,19 +44,19 @@ ended_by m reply told =
     let own = call_asks m (Ask_done reply) (reply_asked (ask_of m) reply told) in
     (own.0, ended_in m.call.made m.call.hash m.call.state reply own.1)
 
--- an answer without what it ends a call with
+-- an operation without the value with which it ends a call
 abbrev pub as_number : {V T : Type 0} → Operation V T → Operation V ℕ
 as_number (ops.Insert v) = ops.Insert v
 as_number ops.Remove = ops.Remove
 as_number (ops.Abort t) = ops.Abort 0
 
--- what a call is ended with is left
+-- the value with which a call is ended is left
 abbrev pub IsLeft : {V T : Type 0} → Operation V T → Option T → Type 0
 IsLeft (ops.Insert v) aborted = Unit {0}
 IsLeft ops.Remove aborted = Unit {0}
 IsLeft (ops.Abort t) aborted = aborted ≡ Some t
 
--- what is kept of an answer
+-- the part of a result that is kept
 pub kept_as : {V T : Type 0} (o : Operation V T) (answer : Answer) (value value' : Option (Part V)) (aborted aborted' : Option T)
     → IsKept o answer value value' aborted aborted' → (answer ≡ Op (op_kind (as_number o))) × (value' ≡ value_answered (as_number o) value) × IsLeft o aborted'
 kept_as (ops.Insert v) answer value value' aborted aborted' (e, has, stays) = (e, has, tt)
@@ -72,7 +72,8 @@ module _ {K V S : Type 0} where
   abbrev pub map_at : MapState K V S → StoreState K V S → MapState K V S
   map_at s store = record { store = store; mode = s.mode; initial = s.initial }
 
-  -- what is replied where the closure was not called: it was refused, for a cause, and pairs are being moved
+  -- the reply if the closure was not called: the call was refused, for a cause, and pairs are being
+  -- moved
   abbrev pub IsFirstEnd : MapState K V S → StoreState K V S → Reply → Type 0
   IsFirstEnd s store (Reply_refused refused) = IsResizing s × IsWriteCause s refused (map_at s store)
   IsFirstEnd s store (Inserted n) = ⊥
@@ -81,7 +82,8 @@ module _ {K V S : Type 0} where
   IsFirstEnd s store (Aborted t) = ⊥
   IsFirstEnd s store _ = Unit {0}
 
-  -- and where it answered a value, shown this: a pair of it was stored, or it was refused for a cause
+  -- and if it was called with this and returned a value: a pair of it was stored, or it was refused
+  -- for a cause
   abbrev pub IsInsertEnd : MapState K V S → Option (Stored K V) → V → StoreState K V S → Reply → Type 0
   IsInsertEnd s held v store (Inserted n) = HasPair v store n
   IsInsertEnd s held v store (Replaced m n) = HasPair v store n
@@ -91,22 +93,24 @@ module _ {K V S : Type 0} where
   IsInsertEnd s held v store _ = Unit {0}
 
 module _ {K V : Type 0} where
-  -- its closure was shown this
+  -- its closure was called with this
   abbrev pub IsShown : Option (Stored K V) → Option ℕ → Type 0
   IsShown held shown = shown ≡ option_map (λ p. p.number) held
 
-  -- its closure is shown no more: it was shown that there is none, or the call is at the place of the pair
+  -- its closure is not called again: it was called with `None`, or the call is at the place of the
+  -- pair
   abbrev pub IsOnWay : Option (Stored K V) → Machine → Type 0
   IsOnWay None m = HasCalledNone m.call.remembered.fill m.call.state
   IsOnWay (Some p) m = (m.phase ≡ Calling) × IsReplacing m.call.state
 
-  -- where it would have a pair removed
+  -- if it would have a pair removed
   abbrev pub IsToRemove : Option (Stored K V) → Machine → Type 0
   IsToRemove None m = reply_in (ask_of m) ≡ Some (Reply_refused RemoveNothing)
   IsToRemove (Some p) m = (m.phase ≡ Calling) × IsRemoving m.call.state
 
 module _ {K V S A : Type 0} where
-  -- what the machine stands on then: nothing else until a pair is made of the value, and then that the pair has it
+  -- the only result on which the machine acts then: until a pair is made, the value; then a pair
+  -- that has it
   abbrev pub IsInsertSaid : Option (Stored K V) → V → StoreState K V S → Running K V A → ClosureResult → Type 0
   IsInsertSaid held v store r (Inserts shown) = IsShown held shown × ((other : ClosureResult) → ActsOn r.machine.call other → other ≡ Inserts shown)
   IsInsertSaid held v store r (Makes shown n) = IsShown held shown × HasPair v store n
@@ -119,13 +123,13 @@ module _ {K V S A : Type 0} where
     pub ends : (reply : Reply) → reply_in (ask_of r.machine) ≡ Some reply → IsInsertEnd s held v store reply
     pub way : IsOnWay held r.machine
 
-  -- what holds where it answered so
+  -- the facts for each result of the closure
   abbrev pub IsAsked : {T : Type 0} → MapState K V S → Option (Stored K V) → Operation V T → StoreState K V S → Running K V A → Type 0
   IsAsked s held (ops.Insert v) store r = IsInserting s held v store r
   IsAsked s held ops.Remove store r = IsToRemove held r.machine
   IsAsked s held (ops.Abort t) store r = reply_in (ask_of r.machine) ≡ Some (Aborted 0)
 
--- a machine that begins stands on nothing
+-- a machine that begins acts on no result
 begins_silent : (mode : ResizeMode) (initial number hashed : ℕ) (limit : Option ℕ) (said : ClosureResult)
     → ActsOn (started Compute hashed mode initial number limit).call said → ⊥
 begins_silent mode initial number hashed limit said (inl e) = cc e
@@ -142,7 +146,7 @@ module _ {K V S A F T : Type 0} (eq : K → K → Bool) (hash : S → K → ℕ)
     pub ends : (reply : Reply) → reply_in (ask_of r.machine) ≡ Some reply → IsFirstEnd s store reply
     pub rooted : next_of s.store ≡ 0 → (store ≡ s.store) × (r.machine.phase ≡ Calling) × IsInRoot store.words.root r.machine.call.state
 
-  -- its closure was called at what the map held, and answered
+  -- its closure was called with the pair that the map held, and returned
   pub record IsDoing (store : StoreState K V S) (r : Running K V A) (shown : Option ℕ) (aborted : Option T) : Type 0 where
     pub operation : Operation V T
     pub said : Says (post f) (map_in eq s.store k) operation
@@ -150,7 +154,7 @@ module _ {K V S A F T : Type 0} (eq : K → K → Bool) (hash : S → K → ℕ)
     pub kept : IsLeft operation aborted
     pub asked : IsAsked s (map_in eq s.store k) operation store r
 
-  -- Where a compute is between two answers: it came there by steps of the core.
+  -- A compute between two answers: it came there by steps of the core.
   pub record IsComputing (store : StoreState K V S) (r : Running K V A) (closure : Option F) (shown : Option ℕ) (aborted : Option T) : Type 0 where
     pub steps : IsMade eq hash s (keyed_compute k) store (asking r)
     pub silence : r.answers ≡ None
@@ -189,7 +193,7 @@ module _ {K V S A F T : Type 0} (eq : K → K → Bool) (hash : S → K → ℕ)
     pub nears : left_of store' (after m answer) < left_of store m
     pub goes : IsValid (after m answer) → IsComputing store' (record later { machine = after m answer }) closure shown aborted
 
-  -- the same, told in other words
+  -- the same in other words
   pub went_so : (store : StoreState K V S)
       (m : Machine) {answer told : Chain_answer} {store' store1 : StoreState K V S} {r r1 : Running K V A} {closure closure1 : Option F} {shown shown1 :
       Option ℕ} {aborted aborted1 : Option T}

@@ -1,5 +1,5 @@
--- The closure of a compute is called with what the map holds: the same call could also go on with a
--- removal, whose reply would say so.
+-- The closure of a compute is called with the pair that the map holds: the same call could also
+-- continue with a removal, whose reply would name that pair.
 use Rattle.std.proofs.Common.{◌≡◌, ℕ, ◌^◌, ◌<◌, negsuc, Bool, true, Option, None, Some, List, inr, refl, ◌∙◌, ap, subst}
 use Rattle.std.specs.Cmp.{IsEquivalence}
 use Rattle.papaya_words.specs.Counter.{added}
@@ -54,22 +54,22 @@ use Rattle.papaya_seq.proofs.Exchanging.{exchange_made}
 use Rattle.papaya_seq.proofs.KeyCalls.{keyed_compute}
 use Rattle.papaya_seq.proofs.Steps.{HasCome, came_more, made_alone, made_unchanged, stepped}
 
--- the compute of a key, whatever a closure answers
+-- the compute of a key, for any result of a closure
 abbrev pub compute_of : {K V : Type 0} → K → Call K V (Unit {0})
 compute_of k = Compute_call k tt
 
--- a call under way, whatever its closure answers
+-- a call under way, for any result of its closure
 abbrev pub asking : {K V A : Type 0} → Running K V A → Running K V (Unit {0})
 asking r = answering (Some tt) r
 
--- a call that makes a pair shows nothing
+-- a call that makes a pair calls no closure
 pair_offers : HoldsOfPairAsks (λ ask. ask ≡ ShowNone → ⊥)
 pair_offers = record { loads = λ e. cc e; takes = λ count e. cc e; key = λ e. cc e; value = λ e. cc e; pair = λ e. cc e; pair_of = λ i e. cc e }
 
 pair_shows : (n : ℕ) → HoldsOfPairAsks (λ ask. ask ≡ ShowPair n → ⊥)
 pair_shows n = record { loads = λ e. cc e; takes = λ count e. cc e; key = λ e. cc e; value = λ e. cc e; pair = λ e. cc e; pair_of = λ i e. cc e }
 
--- only where it would fill a gap a machine shows that there is none
+-- a machine calls its closure with `None` only if it would fill a gap
 pub offering : (made : Made) (h : ℕ) (state : State) → asks made h state ≡ ShowNone → (gap : Gap) × (state ≡ Offering gap)
 offering made h (Searching (Sizing t)) e = absurd cc
 offering made h (Searching (Looking at)) e = absurd cc
@@ -80,7 +80,7 @@ offering made h (Offering gap) e = (gap, refl)
 offering made h (Pairing purpose) e = absurd (pair_holds (λ ask. ask ≡ ShowNone → ⊥) pair_offers made (in_place_of purpose) e)
 offering made h state e = absurd cc
 
--- and only where it found a pair it shows one
+-- and with a pair only if it found that pair
 pub showing : (made : Made) (h n : ℕ) (state : State) → asks made h state ≡ ShowPair n → (removal : Removal) × (state ≡ Showing removal)
     × (number_of removal.word ≡ n)
 showing made h n (Searching (Sizing t)) e = absurd cc
@@ -104,19 +104,19 @@ module _ {K V S H : Type 0} (eq : K → K → Bool) (input : K → List (List �
   keys : IsLawfulKeys eq (hash_of input build write finish s.store.hasher)
   keys = keys_lawful eq input build write finish classes respects s.store.hasher
 
-  -- what it replied is what it did
+  -- its effect is the one of its reply
   pub came_answered : (store : StoreState K V S) (r : Running K V (Unit {0})) (reply : Reply) → reply_in (ask_of r.machine) ≡ Some reply
       → Came store r → IsAnswered eq (compute_of k) (map_in eq s.store) reply (map_in eq store)
   came_answered store r reply told came =
       map_answered eq input build write finish classes respects s (compute_of k) reply store lawful
       (made_alone eq (hash_of input build write finish) s (keyed_compute k) keys lawful fits store r reply told (λ _ _ _. came))
 
-  -- a removal that is refused where nothing is was shown that there is none
+  -- a removal that is refused for an absent entry called its closure with `None`
   none_there : (o : Option (Stored K V)) → Does (compute_of k) o (Reply_refused RemoveNothing) o → o ≡ None
   none_there None does = refl
   none_there (Some p) does = absurd does
 
-  -- and where a pair is removed, it is there
+  -- and if a pair is removed, it is there
   pair_went : (n : ℕ) (went came : Option (Stored K V)) → Does (compute_of k) went (Removed n) came → (p : Stored K V) × (went ≡ Some p) × (p.number ≡ n)
   pair_went n None came does = absurd does
   pair_went n (Some p) came does = (p, refl, does.0)
@@ -148,7 +148,7 @@ module _ {K V S H : Type 0} (eq : K → K → Bool) (input : K → List (List �
         none_there (map_in eq s.store k) ((came_answered store (stepped r r.machine (answers.Call (Op kinds.Remove))) (Reply_refused RemoveNothing)
         refl refused).1 refl)
 
-    -- the pair that is shown is logged
+    -- the pair with which the closure is called is in the arena
     shown_logged : (removal : Removal) → Came store (at_state (Showing removal)) → (p : Stored K V) × (pair_of store (number_of removal.word) ≡ Some p)
     shown_logged removal came =
         let lone = came.lone refl in
@@ -186,7 +186,7 @@ module _ {K V S H : Type 0} (eq : K → K → Bool) (input : K → List (List �
         (q, here, number, keeps n q (logged_there eq classes s.store k n q here number))
 
   module _ {A : Type 0} (store : StoreState K V S) (r : Running K V A) (came : Came store (asking r)) where
-    -- the same of a call that is known to be in this state
+    -- the same for a call that is known to be in this state
     fast_path : (state : State) → r.machine.phase ≡ Calling → r.machine.call.state ≡ state
         → Came store (at_state store r.machine.call r.machine.number r.machine.helped r.key r.value state)
     fast_path state phase is =
@@ -201,14 +201,14 @@ module _ {K V S H : Type 0} (eq : K → K → Bool) (input : K → List (List �
         }) is)
         came
 
-    -- its closure is shown none where the map has none
+    -- its closure is called with `None` if the map has none
     pub shows_none : ask_of r.machine ≡ asked.Call ShowNone → map_in eq s.store k ≡ None
     shows_none e =
         let own = call_asks r.machine ShowNone e in
         let (gap, is) = offering r.machine.call.made r.machine.call.hash r.machine.call.state own.1 in
         none_shown store r.machine.call r.machine.number r.machine.helped r.key r.value gap (fast_path (Offering gap) own.0 is)
 
-    -- or the pair that the map has
+    -- or with the pair that the map has
     pub shows_pair : (n : ℕ) → ask_of r.machine ≡ asked.Call (ShowPair n) → (q : Stored K V) × (map_in eq s.store k ≡ Some q) × (q.number ≡ n)
         × (pair_of store n ≡ Some q)
     shows_pair n e =

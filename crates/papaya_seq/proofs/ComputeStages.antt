@@ -1,5 +1,5 @@
--- Where a compute is: in the root, while its closure was not called and no pairs are being moved;
--- or at the place of the pair with which its closure was called.
+-- The states of a compute: in the root, while its closure was not called and no pairs are being
+-- moved; or at the place of the pair with which its closure was called.
 use Rattle.std.proofs.Common.{◌≡◌, inl, inr, ℕ, ◌<◌, ◌==◌, Bool, false, Option, None, Some, refl, sym, ◌∙◌, ap, subst, arith}
 use Rattle.std.proofs.lemmas.Bool.{cond_both, eqb-true}
 use Rattle.papaya_words.specs.Table.{TableWords}
@@ -53,7 +53,7 @@ use Rattle.papaya_core_store.specs.Tables.{hint_at, table_of, word_at}
 use Rattle.papaya_core_store.specs.declared.pairs.Running.{Running}
 use Rattle.papaya_seq.proofs.TableSearch.{IsSearchIn, IsSeenIn, IsSettledKind, compared_in, hinted_in, loaded_in, settled_kind, settled_live}
 
--- a value that was answered, of which a pair is yet to be made
+-- a returned value of which a pair is yet to be made
 abbrev pub IsYetToMake : ClosureResult → Type 0
 IsYetToMake (Inserts shown) = Unit {0}
 IsYetToMake _ = ⊥
@@ -65,7 +65,7 @@ remembered_none (Some n) choice filled chosen = absurd (filled (Makes None n) re
 remembered_none None (Some (To_replace old new)) filled chosen = absurd (chosen (Makes (Some old) new.pair) refl)
 remembered_none None (Some (To_remove old)) filled chosen = absurd (chosen (Removes old) refl)
 
--- a machine that stands on nothing else remembers nothing
+-- a machine that acts on nothing else remembers nothing
 pub remembers_nothing : (m : Call_machine) → ((said : ClosureResult) → ActsOn m said → IsYetToMake said) → m.remembered ≡ nothing
 remembers_nothing m only = remembered_none m.remembered.fill m.remembered.choice (λ said e. only said (inr (inl e))) (λ said e. only said (inr (inr e)))
 
@@ -78,7 +78,7 @@ IsInRoot root (Offering gap) = Unit {0}
 IsInRoot root (Showing removal) = Unit {0}
 IsInRoot root _ = ⊥
 
--- what its search saw there leads on
+-- the next state after its search there
 goes_in : (root : ℕ) (mode : ResizeMode) (saw : ProbeStep) → IsSeenIn (λ word. IsSettledKind (kind_of word)) root saw
     → IsInRoot root (goes_as Compute mode nothing saw)
 goes_in root mode (seen.On search) there = there
@@ -88,7 +88,7 @@ goes_in root mode (seen.Here place word) (there, settled, uncopied) = subst (λ 
 goes_in root (Incremental chunk) (seen.Over t) there = there
 goes_in root Blocking (seen.Over t) there = tt
 
--- a compute that goes on for itself and remembers nothing
+-- a compute that continues for itself and remembers nothing
 abbrev pub bare_at : Machine → State → Machine
 bare_at m state = record { call = record m.call { task = Compute; remembered = nothing; state = state }; number = m.number; helped = m.helped; phase = Calling }
 
@@ -166,7 +166,7 @@ module _ {K V S A : Type 0} (eq : K → K → Bool) (says : Says K V A) (hash : 
     root_stays (Showing removal) answer there no_none no_pair performs = absurd (no_pair (number_of removal.word) refl)
     root_stays state answer there no_none no_pair performs = absurd there
 
--- shown a pair, its closure answered a value: the pair that is made of it takes the place of that one
+-- called with a pair, its closure returned a value: the pair that is made of it replaces that one
 abbrev pub IsReplacing : State → Type 0
 IsReplacing (Pairing (Replace write)) = 0 < write.old
 IsReplacing (Putting put) = 0 < put.write.old
@@ -197,7 +197,7 @@ module _ {K V S A : Type 0} (eq : K → K → Bool) (says : Says K V A) (store :
   abbrev pub compute_at : Made → State → Call_machine
   compute_at made state = record m { task = Compute; made = made; state = state }
 
-  -- the pair that is made of its value leads to the exchange
+  -- the pair that is made of its value is followed by the exchange
   pairing_stable : (made : Made) (purpose : Purpose) (told : Call_answer) → IsReplacing (Pairing purpose)
       → IsReplacing (calls.after (compute_at made (Pairing purpose)) told).state
   pairing_stable made (Fill gap) told there = absurd there

@@ -1,4 +1,4 @@
--- A compute of a map for one caller, over one answer that is not that of its closure.
+-- A compute of a map for one caller, over one answer that is not the result of its closure.
 use Rattle.std.proofs.Common.{◌≡◌, ◌⊎◌, inl, inr, ⊎_elim, ℕ, ◌^◌, ◌<◌, Bool, false, Option, None, Some, [], option_map, refl, sym, ◌∙◌, ap, subst}
 use denote.Ref.{Bor}
 use Rattle.papaya_words.specs.Word.{kind_of, pair_of as number_of}
@@ -82,7 +82,7 @@ module _ {K V S A : Type 0} (eq : K → K → Bool) (hash : S → K → ℕ) (s 
     (going : reply_in (ask_of r.machine) ≡ None) (no_none : ask_of r.machine ≡ asked.Call ShowNone → ⊥)
     (no_pair : (n : ℕ) → ask_of r.machine ≡ asked.Call (ShowPair n) → ⊥)
     (performed : PerformsAsk eq says hash false (ask_of r.machine) store r answer store' later) (same : later.machine ≡ r.machine) where
-  -- whatever its closure answers
+  -- for any result of its closure
   performs : PerformsAsk eq whatever hash false (ask_of r.machine) store (asking r) answer store' (asking later) × (later.answers ≡ r.answers)
   performs = answering_performs eq says (Some tt) hash false (ask_of r.machine) store r answer store' later
       (λ own is. unshown own (λ e. no_none (is ∙ ap asked.Call e)) (λ n e. no_pair n (is ∙ ap asked.Call e))) performed
@@ -91,11 +91,11 @@ module _ {K V S A : Type 0} (eq : K → K → Bool) (hash : S → K → ℕ) (s 
   abbrev next : Machine
   next = after r.machine answer
 
-  -- it was not asked for its reply
+  -- the ask was not its reply
   unreplied : (reply : Reply) → ask_of r.machine ≡ asked.Call (Ask_done reply) → ⊥
   unreplied reply e = let f : None ≡ Some reply = sym going ∙ ap reply_in e in absurd cc
 
-  -- no closure is shown anything
+  -- no closure is called
   not_shown : (shown : Option ℕ) → ask_of r.machine ≡ asked.Call (show shown) → ⊥
   not_shown None e = no_none e
   not_shown (Some n) e = no_pair n e
@@ -107,7 +107,7 @@ module _ {K V S A : Type 0} (eq : K → K → Bool) (hash : S → K → ℕ) (s 
     lawful_now = subst (λ h. IsLawfulCore eq (hash h) store (seated store (Some (asking r)) s.mode s.initial).callers s.mode) came.hasher
         (came.lone going).lawful
 
-    -- the logs keep their pairs
+    -- the arena keeps its pairs
     keeps : KeepsPairs store store'
     keeps =
         let (es, (call_traces, kept)) = lawful_now.law in
@@ -122,7 +122,7 @@ module _ {K V S A : Type 0} (eq : K → K → Bool) (hash : S → K → ℕ) (s 
     abbrev HasMade : ClosureResult → Type 0
     HasMade said = (own : IsOwnStep r.machine answer) × (shown : Option ℕ) × (n : ℕ) × (said ≡ Makes shown n) × IsResultBy r.machine.call own.told (Makes shown n)
 
-    -- what it stands on it stood on, or a pair was made
+    -- it acted on the same result before, or a pair was made
     said_now : (said : ClosureResult) → (own : IsOwnStep r.machine answer) → IsResultBy r.machine.call own.told said → HasMade said
     said_now (Agrees n agrees) own (asks_it, is) = absurd (no_pair n (asks_own r.machine own.phase ∙ ap asked.Call asks_it))
     said_now (Inserts shown) own (asks_it, is) = absurd (not_shown shown (asks_own r.machine own.phase ∙ ap asked.Call asks_it))
@@ -136,7 +136,7 @@ module _ {K V S A : Type 0} (eq : K → K → Bool) (hash : S → K → ℕ) (s 
         (λ (by : (own : IsOwnStep r.machine answer) × IsResultBy r.machine.call own.told said). inr (said_now said by.0 by.1))
         (made_says eq hash s (keyed_compute k) store (asking r) answer store' (asking later) going performs.0 same keys came said stands)
 
-    -- and of a value of which a pair was made none is yet to be made
+    -- after a pair was made of the value, the machine has no value left without a pair
     unpaired : (own : IsOwnStep r.machine answer) (shown' : Option ℕ) (n : ℕ) → IsResultBy r.machine.call own.told (Makes shown' n) → (shown : Option ℕ)
         → ActsOn next.call (Inserts shown) → ⊥
     unpaired own shown' n (was, makes, told) shown stands =
@@ -165,7 +165,7 @@ module _ {K V S A : Type 0} (eq : K → K → Bool) (hash : S → K → ℕ) (s 
         let value : v ≡ made.pair.value = cc both in
         (made.pair, made.there, sym value)
 
-    -- and so has the call still
+    -- and so has the call
     value_kept : (v : V) → own_value store r ≡ Some v → own_value store' later ≡ Some v
     value_kept v has =
         let (es, (call_traces, kept)) = lawful_now.law in
@@ -198,7 +198,7 @@ module _ {K V S A : Type 0} (eq : K → K → Bool) (hash : S → K → ℕ) (s 
     came_after : HasCome eq hash s (keyed_compute k) store' (asking then)
     came_after = came_more eq hash s (keyed_compute k) store (asking r) answer store' (asking later) going performs.0 same keys came
 
-    -- where it has replied, it stands on what the reply stands on
+    -- if it has replied, it acts on the result in the reply
     told_stands : (reply : Reply) → reply_in (ask_of next) ≡ Some reply → (said : ClosureResult) → result_of_compute reply ≡ Some said → ActsOn next.call said
     told_stands reply told said is = inl (ap (result_in next.call.task) (ended_by next reply told).1 ∙ ap (λ t. result_in_reply t reply) came_after.task ∙ is)
 
@@ -218,7 +218,7 @@ module _ {K V S A : Type 0} (eq : K → K → Bool) (hash : S → K → ℕ) (s 
           | inr (inr removes) ↦ absurd (no_none removes.1)
         ]
 
-    -- the call went a step for itself where it was not set aside, and was answered what it asked
+    -- the call made a step for itself if it was not set aside, and its ask was answered
     abbrev own_goes : ((t : ℕ) → left_by r.machine.call.state ≡ Some t → ⊥) → IsOwnStep r.machine answer
     own_goes = own_step r.machine answer goes
 
@@ -226,7 +226,7 @@ module _ {K V S A : Type 0} (eq : K → K → Bool) (hash : S → K → ℕ) (s 
         → Performs eq whatever false (calls.ask_of r.machine.call) store (asking r) own.told store' (asking later)
     told_performs own = own_performs eq whatever hash store (asking r) answer store' (asking later) own.told own.phase own.is performs.0
 
-    -- what it has read stands there
+    -- a word that it has read is unchanged
     read_now : r.machine.phase ≡ Calling → IsRead (word_at store.words) r.machine.call.state
     read_now phase = (subst (λ p. IsPhaseRead r.machine.call.mode (word_at store.words) r.machine.call.state p) phase (came.lone going).current.read).0
 
@@ -234,7 +234,7 @@ module _ {K V S A : Type 0} (eq : K → K → Bool) (hash : S → K → ℕ) (s 
     as_compute : (Holds : Call_machine → Type 0) → Holds (record r.machine.call { task = Compute }) → Holds r.machine.call
     as_compute Holds = subst (λ t. Holds (record r.machine.call { task = t })) (sym came.task)
 
-    -- its closure answered a value, where it was shown a pair
+    -- if its closure was called with a pair and returned a value, the call still replaces that pair
     replacing_more : (r.machine.phase ≡ Calling) × IsReplacing r.machine.call.state → (next.phase ≡ Calling) × IsReplacing next.call.state
     replacing_more (phase, there) =
         let own = own_goes (replacing_stands r.machine.call.state there) in (
@@ -261,7 +261,7 @@ module _ {K V S A : Type 0} (eq : K → K → Bool) (hash : S → K → ℕ) (s 
       insert_value : own_value store' then ≡ Some v
       insert_value = value_kept v now.value
 
-      -- the closure was shown what was shown before
+      -- the closure was called with the same argument before
       was_shown : (shown : Option ℕ) → WasReturned r.machine.call shown → IsShown held shown
       was_shown shown (inl stands) = (now.said (Inserts shown) stands).0
       was_shown shown (inr (n, stands)) = (now.said (Makes shown n) stands).0
@@ -342,7 +342,7 @@ module _ {K V S A : Type 0} (eq : K → K → Bool) (hash : S → K → ℕ) (s 
       inserting_more : IsInserting s held v store' then
       inserting_more = record { value = insert_value; said = insert_said; ends = insert_ends; way = insert_way held now.way }
 
-    -- what holds where its closure answered stays so
+    -- the facts after its closure returned still hold
     asked_more : {T : Type 0} (held : Option (Stored K V)) (o : Operation V T) → IsAsked s held o store r → IsAsked s held o store' then
     asked_more held (ops.Insert v) now = inserting_more held v now
     asked_more held ops.Remove now = to_remove held now
@@ -354,7 +354,7 @@ module _ {K V S A : Type 0} (eq : K → K → Bool) (hash : S → K → ℕ) (s 
 
     module _ {F T : Type 0} (post : F → Option (Bor K × Bor V) → Operation V T → Type 0) (f : F) (closure : Option F) (shown : Option ℕ)
         (lawful : IsLawfulMap eq (hash s.store.hasher) s.store s.mode s.initial) (now : IsWaiting {T = T} eq hash s k post f store r closure shown) where
-      -- one whose closure was not called stands on nothing
+      -- one whose closure was not called acts on no result
       wait_silent : (said : ClosureResult) → ActsOn next.call said → ⊥
       wait_silent said stands = elim (said_goes said stands) [
         | inl before ↦ now.silent said before
@@ -401,7 +401,7 @@ module _ {K V S A : Type 0} (eq : K → K → Bool) (hash : S → K → ℕ) (s 
   module _ {F T : Type 0} (post : F → Option (Bor K × Bor V) → Operation V T → Type 0) (f : F) (closure : Option F) (shown : Option ℕ)
       (aborted : Option T) (keys : IsLawfulKeys eq (hash s.store.hasher)) (lawful : IsLawfulMap eq (hash s.store.hasher) s.store s.mode s.initial)
       (fits : hash s.store.hasher k < 2 ^ 64) (now : IsComputing eq hash s k post f store r closure shown aborted) where
-    -- it goes on
+    -- it continues
     computing_more : IsValid next → IsComputing eq hash s k post f store' (record later { machine = next }) closure shown aborted
     computing_more valid =
         let came = now.steps keys lawful fits in

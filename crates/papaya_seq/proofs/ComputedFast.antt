@@ -1,4 +1,4 @@
--- A compute on the fast path: what it stores and writes are answers to the asks of its machine.
+-- A compute on the fast path: its stores and writes are answers to the asks of its machine.
 use Rattle.std.proofs.Common.{◌≡◌, ◌≢◌, ℕ, ◌<◌, ◌==◌, slice_get, Bool, true, false, cond, List, []}
 use Rattle.std.proofs.Common.{◌∷◌, Option, None, Some, IsSome, Result, Ok, Err, option_map, length}
 use Rattle.std.proofs.Common.{inl, inr, refl, sym, ◌∙◌, ap, subst}
@@ -64,7 +64,7 @@ use Rattle.papaya_seq.specs.declared.search.ProbeHit.TheVariants as turns
 use Rattle.papaya_seq.proofs.FastPath.{driven, logging, under_way}
 use Rattle.papaya_seq.proofs.Exchanging.{exchange_made}
 
--- what is shown of a pair that is there is of that pair
+-- the entry of a pair that is there is that pair's
 pub shown_pair : {K V S : Type 0} (s : StoreState K V S) (n : ℕ) (entry : Option (Bor K × Bor V))
     → MatchOption entry (pair_of s n ≡ None) (λ p. pair_of s n ≡ Some (record { number = n; key = p.0.now; value = p.1.now })) → IsSome (pair_of s n)
     → (p : Stored K V) × (p.number ≡ n) × (pair_of s n ≡ Some p) × AreOf entry (Some p)
@@ -77,11 +77,11 @@ live_some word live none = let f : kinds.Empty ≡ kinds.Live = ap kind_of (sym 
 
 module _ {K V S : Type 0} (eq : K → K → Bool) (hash : S → K → ℕ) (s : StoreState K V S) (key : K) (hashed : ℕ) (place : Place) (mode : ResizeMode)
     (initial : ℕ) where
-  -- the compute stands here, and has made and remembers so much
+  -- the compute in this state, with the pairs that it made and remembers
   abbrev stands_at : Made → Remembered → State → Machine
   stands_at made held state = record (started Compute hashed mode initial None) { made = made; remembered = held; state = state }
 
-  -- nothing was made, and its closure has answered nothing
+  -- nothing was made, and its closure has returned nothing
   abbrev bare : State → Machine
   bare state = stands_at (nothing_made None) nothing state
 
@@ -133,7 +133,7 @@ module _ {K V S : Type 0} (eq : K → K → Bool) (hash : S → K → ℕ) (s : 
       value = refl;
     }
 
-    -- it is logged, put, counted, and its hint written
+    -- it is stored in the arena, put, counted, and its hint written
     abbrev own_logged : State → Running K V (Unit {0})
     own_logged state = having (Logged (length s.pairs)) (Logged (length s.pairs)) own_valued (with_pair nothing fill (length s.pairs)) state
 
@@ -217,7 +217,7 @@ module _ {K V S : Type 0} (eq : K → K → Bool) (hash : S → K → ℕ) (s : 
       grows_pair : grown of_valued old ≡ Whole of_valued
       grows_pair = ap (λ b. cond b (own_grown false true of_valued) (of_grown true of_valued)) some
 
-      -- the call goes on when something was made
+      -- the call continues after something was made
       abbrev goes_on : Grown → ℕ → Machine
       goes_on grew n = stands_at (made_to_pair grew) (paired_held grew nothing take_place n) (paired grew take_place n)
 
@@ -248,7 +248,7 @@ module _ {K V S : Type 0} (eq : K → K → Bool) (hash : S → K → ℕ) (s : 
         value = refl;
       }
 
-      -- it is logged, and put there
+      -- it is stored in the arena, and put there
       abbrev of_logged : State → Running K V (Unit {0})
       of_logged state = having (Own key) (Logged (length s.pairs)) of_valued (with_pair nothing take_place (length s.pairs)) state
 
@@ -339,7 +339,7 @@ module _ {K V S : Type 0} (eq : K → K → Bool) (hash : S → K → ℕ) (s : 
     value = refl;
   }
 
-  -- it ends at once with what its closure said
+  -- it ends at once with the result of its closure
   ended : (m : Machine) (reply : Reply) (s' : StoreState K V S) → s' ≡ s → m.state ≡ Ended reply → IsReplied eq hash s (at_hand m key None) reply None s'
   ended m reply s' is at_end =
       subst (λ (x : StoreState K V S). IsReplied eq hash s (at_hand m key None) reply None x) (sym is)
@@ -353,14 +353,15 @@ module _ {K V S : Type 0} (eq : K → K → Bool) (hash : S → K → ℕ) (s : 
       })
 
   module _ {T : Type 0} where
-    -- A call whose closure was shown what it found and answered so has replied, and this is answered of it.
+    -- A call has replied with this result after its closure was called with what the call found,
+    -- and returned this operation.
     pub record Operated (shows : Machine) (operation : Operation V T) (result : Result (Computed ℕ T) Refused) (s' : StoreState K V S) : Type 0 where
       pub reply : Reply
       pub left : Option V
       pub replied : IsReplied eq hash s (at_hand (after shows (Op (told_by operation))) key (value_by operation)) reply left s'
       pub computed : IsComputed reply (ended_by operation) result
 
-    -- where it was shown that there is none
+    -- if it was called with `None`
     pub none_operated : word_at s.words (slot_of place) ≡ 0
         → (operation : Operation V T) (result : Result (Computed ℕ T) Refused) (s' : StoreState K V S)
         → IsOperated s hashed (at_place 0) key operation result s' → Operated (bare (Offering (At place))) operation result s'
@@ -401,7 +402,7 @@ module _ {K V S : Type 0} (eq : K → K → Bool) (hash : S → K → ℕ) (s : 
       abbrev Computes : Option ℕ → Type 0
       Computes shown = IsComputedFrom eq hash key said s (started Compute hashed mode initial None) shown result s'
 
-      -- so the compute is made whose search of the root saw an empty place
+      -- so the compute is made if its search of the root found an empty place
       pub none_computed : IsRootHit (eq key) s hashed (turns.Empty place) → word_at s.words (slot_of place) ≡ 0 → said None operation
           → IsOperated s hashed (at_place 0) key operation result s' → Computes None
       none_computed root stands answered operated =

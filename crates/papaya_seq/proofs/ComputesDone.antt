@@ -1,4 +1,4 @@
--- What a compute did to the map, by its result.
+-- The effect of a compute on the map, by its result.
 use Rattle.std.proofs.Common.{◌≡◌, ◌⊎◌, inl, inr, ℕ, Bool, Option, Some, None, Result, Ok, Err, refl, sym, ◌∙◌, ap, subst}
 use denote.Ref.{Bor}
 use Rattle.std.specs.Cmp.{IsEquivalence}
@@ -21,7 +21,7 @@ use Rattle.papaya_words_keys.specs.declared.results.Computed.TheVariants.{Insert
 use Rattle.papaya_seq.proofs.Answered.{logged_there, update_leaves}
 
 module _ {K V T : Type 0} (post : Option (Bor K × Bor V) → Operation V T → Type 0) where
-  -- what a closure answered of a pair, it answered of references to it
+  -- a result of a closure for a pair is a result for references to it
   pub said_some : (P : V → Type 0) (p : Stored K V) (o : Operation V T) → Says post (Some p) o → ((q : Bor K × Bor V) → post (Some q) o → P q.1.now) → P p.value
   said_some P p o (Some q, are, said) law =
       let e : deref_pair q ≡ entry_of p = cc in
@@ -29,14 +29,14 @@ module _ {K V T : Type 0} (post : Option (Bor K × Bor V) → Operation V T → 
       subst P v (law q said)
   said_some P p o (None, are, said) law = let f : None ≡ Some (entry_of p) = are in absurd cc
 
-  -- what it answered of nothing, it answered of None
+  -- a result for an absent entry is a result for `None`
   pub said_none : (o : Operation V T) → Says post None o → post None o
   said_none o (None, are, said) = said
   said_none o (Some q, are, said) = let f : Some (deref_pair q) ≡ None = are in absurd cc
 
 module _ {K V S T : Type 0} (post : Option (Bor K × Bor V) → Operation V T → Type 0) (eq : K → K → Bool) (law : IsEquivalence eq) (k : K)
     (s s' : MapState K V S) where
-  -- the class of the key had `held`, and has this value now, which the closure answered
+  -- the class of the key had `held`, and has this value now, which the closure returned
   pub record StoresValue (held : Option (Stored K V)) (v : V) : Type 0 where
     pub before : map_in eq s.store k ≡ held
     pub says : Says post held (Insert v)
@@ -49,25 +49,25 @@ module _ {K V S T : Type 0} (post : Option (Bor K × Bor V) → Operation V T �
     pub logged : pair_of s'.store n ≡ Some pair
     pub stores : StoresValue held pair.value
 
-  -- the map is as it was, where the closure answered so
+  -- the map is as it was, and the closure returned this
   pub record Leaves (held : Option (Stored K V)) (operation : Operation V T) : Type 0 where
     pub before : map_in eq s.store k ≡ held
     pub says : Says post held operation
     pub same : Unchanged eq s.store s'.store
     pub keeps : KeepsAndGrows s s'
 
-  -- the pair that the class had, by its number in the log
+  -- the pair that the class had, by its number in the arena
   pub record Held (p : Stored K V) (n : ℕ) : Type 0 where
     pub there : map_in eq s.store k ≡ Some p
     pub logged : pair_of s.store n ≡ Some p
 
-  -- what may refuse the closure's answer, where the class had `held`
+  -- the refusals of the closure's result, if the class had `held`
   abbrev pub Refuses : Option (Stored K V) → Operation V T → Refused → Type 0
   Refuses held (Insert v) refused = IsWriteCauseAt s held refused s'
   Refuses held Remove refused = refused ≡ RemoveNothing
   Refuses held (Abort t) refused = ⊥
 
-  -- the closure's answer was refused
+  -- the closure's result was refused
   pub record IsRefused (refused : Refused) : Type 0 where
     pub held : Option (Stored K V)
     pub operation : Operation V T
@@ -78,7 +78,7 @@ module _ {K V S T : Type 0} (post : Option (Bor K × Bor V) → Operation V T �
   abbrev pub IsFirst : Refused → Type 0
   IsFirst refused = IsResizing s × IsComputeRefusal eq s refused s'
 
-  -- what each answer says
+  -- the facts of each result
   abbrev pub Facts : Result (Computed ℕ T) Refused → Type 0
   Facts (Ok (Inserted n)) = StoresPair None n
   Facts (Ok (Updated m n)) = (p : Stored K V) × Held p m × StoresPair (Some p) n
@@ -86,7 +86,7 @@ module _ {K V S T : Type 0} (post : Option (Bor K × Bor V) → Operation V T �
   Facts (Ok (Aborted t)) = (held : Option (Stored K V)) × Leaves held (Abort t)
   Facts (Err refused) = IsRefused refused ⊎ IsFirst refused
 
-  -- each pair of what was done is in the log
+  -- each pair of the result is in the arena
   abbrev pub Logged : Result (Computed (Stored K V) T) Refused → Type 0
   Logged (Ok (Inserted q)) = pair_of s'.store q.number ≡ Some q
   Logged (Ok (Updated p q)) = (pair_of s'.store p.number ≡ Some p) × (pair_of s'.store q.number ≡ Some q)
@@ -120,7 +120,7 @@ module _ {K V S T : Type 0} (post : Option (Bor K × Bor V) → Operation V T �
       (map_in eq s'.store) = subst (λ (o : Option (Stored K V)). IsUpdate eq k held o (map_in eq s.store) (map_in eq s'.store)) is u in
       record { before = u.before; says = says; same = update_leaves eq law s.store s'.store k held update; keeps = keeps }
 
-  -- the pair of before is logged under its number
+  -- the pair of before is in the arena under its number
   held_by : (p : Stored K V) → map_in eq s.store k ≡ Some p → Held p p.number
   held_by p there = record { there = there; logged = logged_there eq law s.store k p.number p there refl }
 
@@ -179,21 +179,21 @@ module _ {K V S T : Type 0} (post : Option (Bor K × Bor V) → Operation V T �
   facts_all done (inl c) = facts done c.held c.operation c.next c.answered c.operates c.update c.keeps
   facts_all done (inr first) = facts_first done first
 
-  -- what the answer of a compute says that is known to be this one
+  -- the facts of a compute's result that is known to be this one
   pub facts_of : (result answer : Result (Computed ℕ T) Refused) → result ≡ answer → ComputesBy eq k (λ p. p.number) (Says post) s result s' → Facts answer
   facts_of result answer is (done, names, c) =
       subst (λ (a : Result (Computed ℕ T) Refused). Facts a) (sym names ∙ is) (facts_all done c).0
 
-  -- the value that is shown of the pair that was stored is the one that was stored
+  -- the value in the entry of the stored pair is the one that was stored
   pub value_stored : (held : Option (Stored K V)) (n : ℕ) (w : V) → StoresPair held n → ((p : Stored K V) → pair_of s'.store n ≡ Some p → w ≡ p.value)
       → StoresValue held w
   value_stored held n w stores shows = subst (λ (v : V). StoresValue held v) (sym (shows stores.pair stores.logged)) stores.stores
 
-  -- the entry of a pair that is in the log
+  -- the entry of a pair that is in the arena
   abbrev pub IsEntry : ℕ → K × V → Type 0
   IsEntry n e = pair_of s'.store n ≡ Some (record { number = n; key = e.0; value = e.1 })
 
-  -- the same answer with entries in the place of numbers
+  -- the same result with entries in the place of numbers
   abbrev pub Shows : Result (Computed ℕ T) Refused → Result (Computed (K × V) T) Refused → Type 0
   Shows (Ok (Inserted n)) (Ok (Inserted e)) = IsEntry n e
   Shows (Ok (Updated m n)) (Ok (Updated d e)) = IsEntry m d × IsEntry n e
@@ -237,7 +237,7 @@ module _ {K V S T : Type 0} (post : Option (Bor K × Bor V) → Operation V T �
   shown_as (Err refused) (Ok (Removed d)) l is = absurd is
   shown_as (Err refused) (Ok (Aborted u)) l is = absurd is
 
-  -- a compute that shows the entries of its pairs
+  -- a compute that returns the entries of its pairs
   pub computes_shown : (result named : Result (Computed ℕ T) Refused) (shown : Result (Computed (K × V) T) Refused) → result ≡ named
       → ComputesBy eq k (λ p. p.number) (Says post) s result s' → Shows named shown → ComputesBy eq k entry_of (Says post) s shown s'
   computes_shown result named shown is (done, names, c) shows =
@@ -245,7 +245,7 @@ module _ {K V S T : Type 0} (post : Option (Bor K × Bor V) → Operation V T �
       let told : Shows (answer_map (λ p. p.number) done) shown = subst (λ (a : Result (Computed ℕ T) Refused). Shows a shown) (sym is ∙ names) shows in
       (done, shown_as done shown logged told, c)
 
--- the answer that was parted, by what is shown of it and what is left
+-- the whole result, from its part for the caller and the value that is left
 abbrev pub IsWhole : {R T : Type 0} → Result (Computed R (Unit {0})) Refused → Option T → Result (Computed R T) Refused → Type 0
 IsWhole (Ok (Inserted q)) left answer = answer ≡ Ok (Inserted q)
 IsWhole (Ok (Updated p q)) left answer = answer ≡ Ok (Updated p q)
@@ -253,7 +253,7 @@ IsWhole (Ok (Removed p)) left answer = answer ≡ Ok (Removed p)
 IsWhole {T = T} (Ok (Aborted u)) left answer = (t : T) × (left ≡ Some t) × (answer ≡ Ok (Aborted t))
 IsWhole (Err refused) left answer = answer ≡ Err refused
 
--- what was parted makes it whole
+-- the two parts make the result whole
 pub parted_whole : {R T : Type 0} (answer : Result (Computed R T) Refused) (shown known : Result (Computed R (Unit {0})) Refused) (left : Option T)
     → shown ≡ known → IsParted answer shown None left → IsWhole known left answer
 parted_whole (Ok (Inserted q)) shown known left is (e, was) = subst (λ x. IsWhole x left (Ok (Inserted q))) (sym e ∙ is) refl
@@ -262,7 +262,7 @@ parted_whole (Ok (Removed p)) shown known left is (e, was) = subst (λ x. IsWhol
 parted_whole (Ok (Aborted t)) shown known left is (e, was) = subst (λ x. IsWhole x left (Ok (Aborted t))) (sym e ∙ is) (t, was, refl)
 parted_whole (Err refused) shown known left is (e, was) = subst (λ x. IsWhole x left (Err refused)) (sym e ∙ is) refl
 
--- a machine that was refused replied so
+-- a machine that was refused has this reply
 pub told_refused : {T : Type 0} (reply : Reply) (aborted : Option T) (answer : Result (Computed ℕ T) Refused) → IsComputed reply aborted answer
     → (refused : Refused) → answer ≡ Err refused → reply ≡ Refused_reply refused
 told_refused (Refused_reply other) aborted answer is refused e = let same : other ≡ refused = let f : Err other ≡ Err refused = sym is ∙ e in cc f in

@@ -1,4 +1,4 @@
--- A compute that is set aside goes on while a loop copies.
+-- A compute that is set aside continues while a loop copies.
 use Rattle.std.proofs.Common.{◌≡◌, ℕ, ◌^◌, ◌<◌, ◌≤◌, Bool, false, List, [], ◌∷◌, Option, None, refl, sym, ◌∙◌, ap, subst, arith}
 use denote.Ref.{Bor}
 use Rattle.papaya_call.specs.declared.ask.Ask.TheVariants.{ShowNone, ShowPair}
@@ -33,7 +33,7 @@ module _ {K V S A F T : Type 0} (eq : K → K → Bool) (hash : S → K → ℕ)
   pub computing_sized : (store : StoreState K V S) (r : Running K V A) → IsGoing store r → IsSized store
   computing_sized store r now = (now.steps keys lawful fits).lawful.core.sizes
 
-  -- each answer leads it on, and brings it nearer to its end
+  -- it continues after each answer, and comes nearer its end
   pub computing_copies : (told : List Answer) (store : StoreState K V S) (r : Running K V A) (store' : StoreState K V S) (m' : Machine)
       → Copies eq hash copy_of after told store r.machine store' m' → IsGoing store r → IsGoing store' (record r { machine = m' })
       × (left_of store' m' ≤ left_of store r.machine)

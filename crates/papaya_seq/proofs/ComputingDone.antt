@@ -1,5 +1,4 @@
--- What a compute that has replied leaves, and that a compute on the fast path is a run of its
--- machine.
+-- The map after a compute that has replied; and a compute on the fast path is a run of its machine.
 use Rattle.std.proofs.Common.{◌≡◌, ℕ, ◌^◌, ◌<◌, Bool, true, List, [], ◌∷◌, Option, None, Some, Result, IfOk, option_map, refl, sym, ◌∙◌, ap, subst}
 use Rattle.std.specs.Prelude.{MatchOption}
 use denote.Ref.{Bor}
@@ -59,13 +58,13 @@ use Rattle.papaya_seq.proofs.KeyCalls.{keyed_compute}
 use Rattle.papaya_seq.proofs.Steps.{made_alone, made_tables}
 use Rattle.papaya_seq.proofs.Turns.{IsOver}
 
--- what is kept of a closure's answer
+-- the part of a closure's result that is kept
 kept_by : {V T : Type 0} (o : Operation V T) → IsKept o (Op (told_by o)) None (option_map (λ v. Own v) (value_by o)) None (ended_by o)
 kept_by (ops.Insert v) = (refl, refl, refl)
 kept_by ops.Remove = (refl, refl, refl)
 kept_by (ops.Abort t) = (refl, refl, refl)
 
--- what a closure is shown where there is none, and of a pair of the log
+-- the argument of a closure for an absent entry, and for a pair of the arena
 shown_none : {K V : Type 0} (entry : Option (Bor K × Bor V)) → AreOf entry None → entry ≡ None
 shown_none None are = refl
 shown_none (Some entry) are = absurd (cc are)
@@ -78,7 +77,8 @@ shown_of {K} {V} s p (Some entry) logged are =
     let same : deref_pair entry ≡ entry_of p = cc are in
     logged ∙ ap (λ (e : K × V). Some (record { number = p.number; key = e.0; value = e.1 })) (sym same)
 
--- What a compute leaves, with the number of the pair that its closure was shown, and its answer.
+-- The map after a compute, with the number of the pair with which its closure was called, and the
+-- closure's result.
 pub record ComputationDone {K V S T : Type 0} (eq : K → K → Bool) (hash : S → K → ℕ) (s : MapState K V S) (k : K)
     (said : Option (Stored K V) → Operation V T → Type 0) (shown : Option ℕ) (result : Result (Computed ℕ T) Refused) (s' : MapState K V S) : Type 0 where
   pub shown_is : IfOk result (λ _. shown ≡ option_map (λ p. p.number) (map_in eq s.store k))
@@ -117,12 +117,12 @@ module _ {K V S H F T : Type 0} (eq : K → K → Bool) (input : K → List (Lis
       made_tables eq hash s (keyed_compute k) keys lawful fits store (asking r) now.steps,
     )
 
-    -- it replies what is answered of a compute
+    -- its reply has the result of the compute
     pub computation_replies : Replies reply aborted
     computation_replies = over_replies eq classes hash s left keeps k post f r closure shown aborted reply told now
         (map_answered eq input build write finish classes respects s (compute_of k) reply store lawful over)
 
-    -- and leaves this
+    -- and leaves this map
     pub computation_over : (result : Result (Computed ℕ T) Refused) → IsComputed reply aborted result
         → ComputationDone eq hash s k (Says (post f)) shown result left
     computation_over result is =
@@ -135,7 +135,7 @@ module _ {K V S H F T : Type 0} (eq : K → K → Bool) (input : K → List (Lis
           orderly = map_lawful eq input build write finish classes respects s (compute_of k) reply store lawful over;
         }
 
-  -- each answer of the store leads a compute on
+  -- a compute continues after each answer of the store
   computing_drives : (told : List Answer) (store : StoreState K V S) (r : Running K V (Unit {0})) (store' : StoreState K V S)
       (r' : Running K V (Unit {0})) → Drives eq hash told store r store' r' → (closure : Option F) (shown : Option ℕ) (aborted : Option T)
       → IsComputing eq hash s k post f store r closure shown aborted → IsComputing eq hash s k post f store' r' closure shown aborted
@@ -149,7 +149,7 @@ module _ {K V S H F T : Type 0} (eq : K → K → Bool) (input : K → List (Lis
       computing_drives rest middle (record later { machine = after r.machine answer }) store' r' more closure shown aborted
       (went.goes (chain_stands r.machine now.valid answer went.fit))
 
-  -- a compute that goes on for itself: nothing was shown, or its closure was shown this
+  -- a compute that continues for itself: no closure was called, or its closure was called with this
   abbrev Waits : Machine → Type 0
   Waits m = IsComputing eq hash s k post f s.store (at_hand {A = Unit {0}} m k None) (Some f) None None
 
@@ -188,7 +188,7 @@ module _ {K V S H F T : Type 0} (eq : K → K → Bool) (input : K → List (Lis
     searches loads m comes = computing_drives (call_answers loads) s.store (at_hand begun k None) s.store (at_hand m k None)
         (comes_drives eq hash s.store k None 0 loads begun m comes) (Some f) None None begins
 
-    -- its closure may be called at what the search found
+    -- its closure may be called with the pair that the search found
     pub computation_takes : (pre : Option (Bor K × Bor V) → Type 0) → Takes pre (map_in eq s.store k) → (turn : ProbeHit)
         → IsRootHit (eq k) s.store (hash s.store.hasher k) turn → TakesAt pre s.store turn
     computation_takes pre takes (turns.Empty place) root =

@@ -1,4 +1,4 @@
--- A copy by a loop: its turns bring the machine of a copy on.
+-- A copy by a loop: each iteration advances the machine of a copy.
 use Rattle.std.proofs.Common.{le-ltb, lt-ltb, ◌≡◌, ℕ, zero, suc, ◌+◌, ◌^◌, ◌<◌, ◌≤◌, ◌==◌, nat_lt, Bool, true}
 use Rattle.std.proofs.Common.{false, cond, List, [], ◌∷◌, ◌++◌, Option, Some, refl, sym, ◌∙◌, ap}
 use Rattle.std.proofs.Common.{subst}
@@ -57,7 +57,7 @@ use Rattle.papaya_seq.specs.Copies.{Comes, Copies, IsSized, Settles, asked_in, c
 use Rattle.papaya_seq.specs.Searches.{passed_by, passed_on, seen_at}
 use Rattle.papaya_seq.proofs.Exchanging.{exchange_done, exchange_made}
 
--- where a hint leads the search for a place, it leads a search for a key
+-- if the search for a place passes by a hint, so does a search for a key
 pub looks_on : (hash : ℕ) (at next : Place) (mode : ResizeMode) (hint : ℕ) → search_specs.hinted at hash hint ≡ seen.On (searches.Looking next)
     → carries.hinted hash at mode hint ≡ Carry_on (Looking hash next)
 looks_on hash at next mode hint = go (may_hold hint hash) (nat_lt at.probe.len at.limit)
@@ -148,7 +148,7 @@ module _ {K V S : Type 0} (eq : K → K → Bool) (hash : S → K → ℕ) where
         told_size len limit performs = one (Call (Size len limit)) (λ y. On (at_size settle len limit)) performs (λ aim chunk initial number. refl)
 
       module _ (s : StoreState K V S) (marked : ℕ) where
-        -- the carry of a pair
+        -- the move of a pair
         abbrev pub carried : Carry → Settled
         carried carry = On (settles.Carrying marked carry)
 
@@ -182,7 +182,7 @@ module _ {K V S : Type 0} (eq : K → K → Bool) (hash : S → K → ℕ) where
               → Settles eq hash mode slot s (carried (Looking hashed at)) s (carried (Reading hashed other))
           reads other is = hinted_so (Reading hashed other) (reads_on hashed at other mode (hint_at s.words at.table at.probe.i) is)
 
-          -- and its word, where the place is empty
+          -- and its word, if the place is empty
           pub finds : word_at s.words (Slot_at at.table at.probe.i) ≡ 0
               → Settles eq hash mode slot s (carried (Reading hashed at)) s (carried (Placing hashed at))
           finds empty =
@@ -220,7 +220,7 @@ module _ {K V S : Type 0} (eq : K → K → Bool) (hash : S → K → ℕ) where
         looks_at word kind is says = subst (λ x. Settles eq hash mode slot s (On settles.Looking) s (settle_look x slot word)) says (looks word is)
 
       module _ (s s' : StoreState K V S) (told : Call_answer) where
-        -- an exchange whose old word stands there
+        -- an exchange that finds its expected word
         made : (settle : Settle) (at : At) (old new : ℕ) → settle_ask settle slot ≡ Exchange at old new → word_at s.words at ≡ old
             → Exchanges (word_at s.words at) old (put s.words at new) told s s' → Settles eq hash mode slot s (On settle) s' (at_exchanged settle slot mode)
         made settle at old new asks stands exchanges =
@@ -246,7 +246,7 @@ module _ {K V S : Type 0} (eq : K → K → Bool) (hash : S → K → ℕ) where
             told s s' → Settles eq hash mode slot s (On (settles.Carrying marked (Placing hashed at))) s' (On (settles.Carrying marked (Placed hashed at)))
         places marked hashed at = made (settles.Carrying marked (Placing hashed at)) (Slot_at at.table at.probe.i) 0 (live_word (number_of marked)) refl
 
-        -- a word that was to be finished is settled, whatever stands there
+        -- a slot whose word was to be finished has been migrated, whatever word is in it
         pub finishes : (marked : ℕ) → Exchanges (word_at s.words (Slot_at slot.from slot.index)) marked
             (put s.words (Slot_at slot.from slot.index) (copied_as marked)) told s s' → Settles eq hash mode slot s (On (settles.Finishing marked)) s' Was_settled
         finishes marked exchanges =
@@ -278,7 +278,7 @@ pub copy_asked : (ask : Ask) (copy : CopyAsk) → copy_in ask ≡ Some copy → 
 copy_asked (asks.Call call) copy e = absurd (cc e)
 copy_asked (asks.Copy other) copy e = let same : other ≡ copy = cc e in ap asks.Copy same
 
--- where a copy leads a call does not depend on who asks
+-- the next state of a call after a copy does not depend on who asks
 same_copied : (m : Machine) (copying : Copying) (to : Copied) → after_copied (record m { phase = Copying_root copying }) to ≡ after_copied m to
 same_copied m copying (copied_to.On other) = refl
 same_copied m copying (copied_to.Search table) = refl
@@ -316,7 +316,7 @@ module _ {K V S : Type 0} (eq : K → K → Bool) (hash : S → K → ℕ) where
   calls_so m (answer ∷ rest) s copied_to.Chunk s' to (ask, is, middle, performs, more) = absurd (cc is)
   calls_so m (answer ∷ rest) s (copied_to.Refused refused) s' to (ask, is, middle, performs, more) = absurd (cc is)
 
-  -- and so of one that resizes the map
+  -- the same for a call that resizes the map
   pub resizes_so : (z : Resizer) (root : ℕ) (told : List Answer) (s : StoreState K V S) (from : Copied) (s' : StoreState K V S) (to : Copied)
       → Copies eq hash asked_in (led_on z.mode z.initial z.number) told s from s' to
       → Copies eq hash resizers.ask_of resizers.after told s (record z { state = resizers.copied z.resize root from }) s'

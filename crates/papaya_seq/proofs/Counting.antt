@@ -19,7 +19,7 @@ module _ {K V S : Type 0} (eq : K → K → Bool) (store : StoreState K V S) (co
       let same : store.count.sum +ℤ pos 0 ≡ store.count.sum = omega (arith, ints) in
       sym (int_wrap_fits w64 store.count.sum fits) ∙ ap (int_wrap w64) (sym same) ∙ counted
 
-  -- where it is 0 there is no pair
+  -- if the count is 0, there is no pair
   pub counted_none : store.count.sum ≡ pos 0 → content eq store ≡ []
   counted_none none =
       let same : int_wrap w64 (pos 0) ≡ pos 0 = int_wrap_fits w64 (pos 0) (fits_signed_from_abs w64 (pos 0) (omega arith)) in

@@ -11,7 +11,7 @@ use Rattle.papaya_seq.specs.Computing.{reply_of}
 use Rattle.papaya_seq.specs.MadeAlone.{IsDoneAlone, IsMadeAlone, IsRemovalAlone, IsRemovalMade, IsRepliedAlone}
 use Rattle.papaya_seq.specs.Map.{MapState}
 
--- a compute that replies a refusal was refused so
+-- a compute whose reply is a refusal was refused for that cause
 refused_as : (computed : Result (Computed ℕ ℕ) Refused) (refused : Refused) → reply_of computed ≡ Reply_refused refused → computed ≡ Err refused
 refused_as (Ok (Inserted n)) refused e = absurd (cc e)
 refused_as (Ok (Updated m n)) refused e = absurd (cc e)
@@ -34,7 +34,7 @@ module _ {K V S : Type 0} (eq : K → K → Bool) (hash : S → K → ℕ) (s s'
   }
 
   module _ {R : Type 0} (result : Result R Refused) (made : IsDoneAlone eq hash s call result s') where
-    -- what was done is answered in another form
+    -- an effect in another form
     pub alone_done : {Q : Type 0} (done : Q) → IsDoneAlone eq hash s call (Ok done) s'
     alone_done done = made_done made.reply made.alone done
 
@@ -46,7 +46,7 @@ module _ {K V S : Type 0} (eq : K → K → Bool) (hash : S → K → ℕ) (s s'
   pub made_replied : (reply : Reply) → IsMadeAlone eq hash s call reply s' → IsRepliedAlone eq hash s call reply s'
   made_replied reply made = record { told = reply; alone = made; refused = λ refused e. e }
 
-  -- what was done, or refused, is given as a reply
+  -- an effect, or a refusal, as a reply
   pub done_replied : (done : Result (Unit {0}) Refused) → IsDoneAlone eq hash s call done s' → (reply : Reply)
       → MatchResult done (λ _. reply ≡ Reply_done) (λ e. reply ≡ Reply_refused e) → IsRepliedAlone eq hash s call reply s'
   done_replied (Ok u) made reply is = record {
@@ -63,7 +63,7 @@ module _ {K V S : Type 0} (eq : K → K → Bool) (hash : S → K → ℕ) (s s'
         made.refused other (ap Err same);
   }
 
-  -- so is what a compute did
+  -- the same for the effect of a compute
   pub computed_replied : (computed : Result (Computed ℕ ℕ) Refused) → IsDoneAlone eq hash s call computed s' → (reply : Reply)
       → reply ≡ reply_of computed → IsRepliedAlone eq hash s call reply s'
   computed_replied computed made reply is = record {
@@ -73,7 +73,7 @@ module _ {K V S : Type 0} (eq : K → K → Bool) (hash : S → K → ℕ) (s s'
   }
 
 module _ {K V S : Type 0} (eq : K → K → Bool) (hash : S → K → ℕ) (matches : K → Bool) (s s' : MapState K V S) where
-  -- the same of a removal
+  -- the same for a removal
   pub removal_done : {Q : Type 0} (reply : Reply) → IsRemovalMade eq hash matches s reply s' → (done : Q) → IsRemovalAlone eq hash matches s (Ok done) s'
   removal_done reply made done = λ k matched. made_done eq hash s s' (RemoveIf k tt) reply (made k matched) done
 

@@ -1,4 +1,4 @@
--- A call that is never set aside: its machine over a chain goes through the states of the call
+-- A call that is never set aside: its machine over a chain passes through the states of the call
 -- itself.
 use Rattle.std.proofs.Common.{◌≡◌, ℕ, ◌==◌, ◌⊎◌, false, cond, Option, inl, inr, refl, ◌∙◌, ap}
 use Rattle.papaya_call.specs.declared.ask.Ask.{Ask}
@@ -23,7 +23,7 @@ use Rattle.papaya_call.specs.declared.chain.machine.Phase.TheVariants.{Calling}
 use Rattle.papaya_call.specs.ChainMachine as chain
 use Rattle.papaya_core_timeline.specs.Advances as advances
 
--- the machine of a call that goes on for itself, with this number
+-- the machine of a call that continues for itself, with this number
 abbrev pub calling_by : ℕ → Call_machine → Machine
 calling_by n m = record { call = m; number = n; helped = false; phase = Calling }
 
@@ -31,7 +31,7 @@ calling_by n m = record { call = m; number = n; helped = false; phase = Calling 
 abbrev pub calling : Call_machine → Machine
 calling m = calling_by 0 m
 
--- the reply in what a call asks
+-- the reply in an ask of a call
 abbrev pub reply_in : Ask → Option Reply
 reply_in ask = advances.reply_in (chain_asks.Call ask)
 
@@ -46,7 +46,7 @@ last_left n m RemoveIf word none = ap (λ b. cond b (chain.stepped (calling_by n
 last_left n m Compute word none = ap (λ b. cond b (chain.stepped (calling_by n m) (Word_read word)) (chain.onward (calling_by n m) word))
     (ap (λ x. x == 0) none)
 
--- a call goes on for itself that needs no next table, and is told of none
+-- a call that needs no next table, and is given none, continues for itself
 pub goes_itself : (n : ℕ) (m : Call_machine) (answer : Answer) → ((need : Need) → m.state ≡ Growing need → ⊥)
     → ((t : ℕ) → m.state ≡ Leaving t → (m.task ≡ Get) ⊎ (answer ≡ Word_read 0))
     → chain.after (calling_by n m) (answers.Call answer) ≡ calling_by n (after m answer)

@@ -13,6 +13,6 @@ abbrev pub left_to : Option Reply → ℕ → ℕ
 left_to None n = suc n
 left_to (Some reply) n = 0
 
--- at most so many answers are left to a call alone
+-- at most this many answers are left to a call alone
 abbrev pub left_of : {K V S : Type 0} → StoreState K V S → Machine → ℕ
 left_of store m = left_to (reply_in (ask_of m)) (measure (budget_of store) store.words.root m)

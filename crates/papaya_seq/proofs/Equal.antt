@@ -26,7 +26,7 @@ module _ {K P : Type 0} (eq : K → K → Bool) (law : IsEquivalence eq) (key : 
       go true rest e = refl
       go false rest e = ap suc (rest e)
 
-  -- where the key is equal to k, another that is not equal to k is not equal to it
+  -- if x is equal to k, a key that is not equal to k is not equal to x
   differs : (k l x : K) → eq l k ≡ false → eq k x ≡ true → eq l x ≡ false
   differs k l x n y = law.symm l x ∙ sym (law.congr k x l y) ∙ law.symm k l ∙ n
 
@@ -93,11 +93,11 @@ module _ {K P : Type 0} (eq : K → K → Bool) (law : IsEquivalence eq) (key : 
   )
 
   module _ (R : P → Type 0) where
-    -- what holds of each pair of a list of different keys that is found there
+    -- a fact about each pair of a list of distinct keys that is found there
     pub each_found : (ps : List P) → AreApart eq key ps → ((p : P) → lookup eq key ps (key p) ≡ Some p → R p) → AllByRecursion R ps
     each_found ps apart f = each_from R ps ps apart (λ p is. is) f
 
-    -- what holds of each pair holds of one that is found
+    -- a fact about each pair holds of one that is found
     pub at_found : (ps : List P) (k : K) (p : P) → lookup eq key ps k ≡ Some p → AllByRecursion R ps → R p
     at_found [] k p e all = absurd cc
     at_found (q ∷ qs) k p e (here, rest) = go (eq k (key q)) (λ on. at_found qs k p on rest) e
@@ -106,7 +106,7 @@ module _ {K P : Type 0} (eq : K → K → Bool) (law : IsEquivalence eq) (key : 
         go true on e = let same : q ≡ p = cc e in subst R same here
         go false on e = on e
 
--- what holds of each item
+-- a fact about each item
 module _ {A B : Type 0} (R : B → Type 0) (view : A → B) where
   pub all_map : (xs : List A) → AllByRecursion (λ x. R (view x)) xs → AllByRecursion R (map view xs)
   all_map [] all = tt

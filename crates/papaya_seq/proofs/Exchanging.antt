@@ -1,4 +1,4 @@
--- An exchange whose old word is there.
+-- An exchange that finds its expected word.
 use Rattle.std.proofs.Common.{◌≡◌, ℕ, ◌==◌, true, MatchBool, refl, sym, subst, eq-eqb}
 use Rattle.papaya_call.specs.declared.ask.Answer.{Answer}
 use Rattle.papaya_call.specs.declared.ask.Answer.TheVariants.{Exchanged, Found as Found_instead}

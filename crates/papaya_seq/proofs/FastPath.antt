@@ -1,4 +1,4 @@
--- An insertion on the fast path: what it stores and writes are answers to the asks of its machine.
+-- An insertion on the fast path: its stores and writes are answers to the asks of its machine.
 use Rattle.std.proofs.Common.{◌≡◌, ℕ, ◌<◌, ◌==◌, slice_get, Bool, true, false}
 use Rattle.std.proofs.Common.{cond, List, [], ◌∷◌, ◌++◌, Option, None, Some, option_map}
 use Rattle.std.proofs.Common.{length, inl, inr, refl, sym, ◌∙◌, ap, subst}
@@ -60,7 +60,7 @@ abbrev pub call_answers : List Answer → List Chain_answer
 call_answers [] = []
 call_answers (answer ∷ rest) = answers.Call answer ∷ call_answers rest
 
--- a call that goes on for itself, with this number, and this of its key and its value
+-- a call that continues for itself, with this number, its key and its value
 abbrev pub under_way_by : {K V : Type 0} → ℕ → Machine → Part K → Option (Part V) → Running K V (Unit {0})
 under_way_by n m key value = record { machine = calling_by n m; key = key; value = value; answers = None }
 
@@ -78,7 +78,7 @@ module _ {K V S : Type 0} (eq : K → K → Bool) (hash : S → K → ℕ) where
   drives_on (answer ∷ first) rest s r s' r' s'' r'' (middle, later, step, led)
       more = (middle, later, step, drives_on first rest middle (record later { machine = chain.after r.machine answer }) s' r' s'' r'' led more)
 
-  -- so a call that was driven on replies as from there
+  -- so a call that was driven there has the reply that it has from there
   pub replied_on : (told : List Chain_answer) (s : StoreState K V S) (r r' : Running K V (Unit {0})) (reply : Reply) (left : Option V)
       (s' : StoreState K V S) → Drives eq hash told s r s r' → IsReplied eq hash s r' reply left s' → IsReplied eq hash s r reply left s'
   replied_on told s r r' reply left s' before
@@ -109,11 +109,11 @@ module _ {K V S : Type 0} (eq : K → K → Bool) (hash : S → K → ℕ) where
   driven m k v ask is told asked fit s s' later performs same = driven_by 0 m k v ask is told asked fit s s' later performs same
 
   module _ (s : StoreState K V S) (key : K) (value : Option V) where
-    -- a call of this number, with its key and value at hand
+    -- a call of this number, with its own key and value
     abbrev pub begun_by : ℕ → Machine → Running K V (Unit {0})
     begun_by n m = under_way_by n m (Own key) (option_map (λ v. Own v) value)
 
-    -- the search of the root leads a call on
+    -- a call continues with the answers to the search of the root
     same_matches : (o : Option (Stored K V)) → matches_in (eq key) o ≡ same_stored eq key o
     same_matches None = refl
     same_matches (Some p) = refl
@@ -159,7 +159,7 @@ module _ {K V S : Type 0} (eq : K → K → Bool) (hash : S → K → ℕ) where
 
   module _ (s : StoreState K V S) (key : K) (value : V) where
     module _ (hashed : ℕ) (place : Place) (m : Machine) where
-      -- the call stands here, and has made so much
+      -- the call in this state, with the pairs that it made
       abbrev stands_at : Made → State → Machine
       stands_at made state = record m { hash = hashed; made = made; state = state }
 
@@ -169,15 +169,15 @@ module _ {K V S : Type 0} (eq : K → K → Bool) (hash : S → K → ℕ) where
       abbrev pub begun : ℕ → Running K V (Unit {0})
       begun old = at_hand (stands_at (nothing_made None) (Writing (at_place old))) key (Some value)
 
-      -- with the key and the value at hand, or logged
+      -- with its own key and value, or with those in the arena
       abbrev having : Part K → Part V → Made → State → Running K V (Unit {0})
       having k v made state = under_way (stands_at made state) k (Some v)
 
-      -- the log with one pair more
+      -- the arena with one pair more
       abbrev pub logging : Pair K V → StoreState K V S
       logging p = record s { pairs = s.pairs ++ p ∷ [] }
 
-      -- a pair of this key for an empty place: what is logged before it, and with it
+      -- a pair of this key for an empty place: before it is stored in the arena, and when it is
       abbrev keyed : Made
       keyed = record (nothing_made None) { keyed = true }
 
@@ -218,7 +218,7 @@ module _ {K V S : Type 0} (eq : K → K → Bool) (hash : S → K → ℕ) where
         value = refl;
       }
 
-      -- or logged, written, counted, and its hint written
+      -- or stored in the arena, written, counted, and its hint written
       abbrev own_logged : State → Running K V (Unit {0})
       own_logged state = having (Logged (length s.pairs)) (Logged (length s.pairs)) own_paired state
 
@@ -274,7 +274,7 @@ module _ {K V S : Type 0} (eq : K → K → Bool) (hash : S → K → ℕ) where
       abbrev of_valued : Made
       of_valued = record (nothing_made None) { valued = true }
 
-      -- where a pair is replaced
+      -- if a pair is replaced
       module _ (old : ℕ) (some : (old == 0) ≡ false) where
         abbrev nothing : Made
         nothing = nothing_made None
@@ -327,7 +327,7 @@ module _ {K V S : Type 0} (eq : K → K → Bool) (hash : S → K → ℕ) where
           value = refl;
         }
 
-        -- it serves where it was made
+        -- the call after its pair was stored in the arena, in this state
         abbrev of_logged : State → Running K V (Unit {0})
         of_logged state = having (Own key) (Logged (length s.pairs)) of_paired state
 
@@ -371,7 +371,7 @@ module _ {K V S : Type 0} (eq : K → K → Bool) (hash : S → K → ℕ) where
           value = refl;
         }
 
-      -- so a write of such a pair is what the call does
+      -- so the call writes such a pair
       pub written_replied : (old : ℕ) → word_at s.words (slot_of place) ≡ old → (reply : Reply) (left : Option V) (s' : StoreState K V S)
           → IsWritten s hashed (at_place old) key value reply left s' → IsReplied eq hash s (begun old) reply left s'
       written_replied old stands (Inserted n) left s' (empty, stored, is) =
@@ -396,7 +396,7 @@ module _ {K V S : Type 0} (eq : K → K → Bool) (hash : S → K → ℕ) where
           by_old false some = of_refused old some refused cause
       written_replied old stands reply left s' written = absurd written
 
-  -- An insertion whose search of the root saw this: its machine replies as is written.
+  -- The reply of an insertion whose search of the root found this, as its machine gives it.
   module _ (s : StoreState K V S) (key : K) (value : V) (hashed : ℕ) (place : Place) (mode : ResizeMode) (initial : ℕ) where
     -- the insertion in this state
     abbrev inserts : Bool → State → Running K V (Unit {0})

@@ -14,7 +14,7 @@ use Rattle.papaya_words_law.specs.Content.{lookup}
 use Rattle.papaya_seq.specs.Entries.{Entries, Fills, HasJust, IsCut, IsPut, entries_in, kept, nothing, put, put_all}
 use Rattle.papaya_seq.specs.Map.{Inserts, Keeps, MapState, core_of, entry_of, kept_key, slots_of}
 
--- what stays through two calls
+-- a fact that two calls keep
 pub keeps_on : {K V S : Type 0} (a b c : MapState K V S) → Keeps a b → Keeps b c → Keeps a c
 keeps_on a b c first next = record {
   hasher = next.hasher ∙ first.hasher;
@@ -43,7 +43,7 @@ pub new_with_own : {K V S : Type 0} (mode : ResizeMode) (capacity shards : ℕ) 
     → IsNew {A = Unit {0}} mode capacity shards hasher (core_of s) → IsNew {A = Unit {0}} mode capacity shards s.store.hasher (core_of s)
 new_with_own mode capacity shards hasher s new = subst (λ h. IsNew {A = Unit {0}} mode capacity shards h (core_of s)) (sym new.store_is.hasher_is) new
 
--- what comes into a class has the key that is there
+-- a pair that is put into a class has the key that is there
 kept_entry : {K V : Type 0} (k : K) (v : V) (old : Option (Stored K V)) → (kept_key k old, v) ≡ kept (option_map entry_of old) (k, v)
 kept_entry k v None = refl
 kept_entry k v (Some p) = refl
@@ -89,7 +89,7 @@ module _ {K V S : Type 0} (eq : K → K → Bool) where
             → IsCut eq shows s items item refused s'
         cut refused s' (cause, unchanged, keeps) = record { at = at; fills = fills; cause = cause; unchanged = unchanged; keeps = keeps }
 
-      -- a new map that was filled has just what it was filled with
+      -- a new map that was filled has only the entries with which it was filled
       pub just : (hasher : S) → content eq s.store ≡ [] → IsNew {A = Unit {0}} (Incremental DEFAULT_CHUNK) 0 1 hasher (core_of s) → HasJust eq shows items at
       just hasher none new = record {
         entries = λ k. fills.entries k ∙ put_all_alike eq shows items (entries_in eq s.store) nothing (empty_entries s.store none) k;

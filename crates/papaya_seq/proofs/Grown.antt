@@ -1,4 +1,4 @@
--- What an answered ask leaves of the arena of pairs and of the shards of the count: an insertion
+-- The effect of an answered ask on the arena of pairs and on the shards of the count: an insertion
 -- stores at most one pair.
 use Rattle.std.proofs.Common.{◌≡◌, inl, inr, ℕ, ◌+◌, ◌≤◌, ◌==◌, length, ◌∙◌, ap, arith, Bool}
 use Rattle.std.proofs.lemmas.List.{length_push}
@@ -36,7 +36,7 @@ module _ {K V S : Type 0} where
   same_pairs : (s s' : StoreState K V S) → s' ≡ s → SamePairs s s'
   same_pairs s s' same = (ap (λ (y : StoreState K V S). y.pairs) same, ap (λ (y : StoreState K V S). y.count.shards) same)
 
-  -- so no pair is logged
+  -- so no pair is stored
   pub logs_none : (s s' : StoreState K V S) → SamePairs s s' → PushesOne s s'
   logs_none s s' same =
       let long : length s'.pairs ≡ length s.pairs = ap length same.0 in
@@ -48,7 +48,7 @@ module _ {K V S : Type 0} where
       let most : length b.pairs ≤ length a.pairs + 1 = logs.pairs in
       record { pairs = omega (arith, long, most); shards = logs.shards ∙ shards }
 
-  -- and where no pair came since
+  -- and if no pair was stored since
   pub logs_still : (s a b : StoreState K V S) → PushesOne s a → SamePairs a b → PushesOne s b
   logs_still s a b logs same =
       let long : length b.pairs ≡ length a.pairs = ap length same.0 in
@@ -56,7 +56,7 @@ module _ {K V S : Type 0} where
       record { pairs = omega (arith, long, most); shards = same.1 ∙ logs.shards }
 
   module _ (eq : K → K → Bool) where
-    -- a copy logs none
+    -- a copy stores none
     pub copy_pairs : (hash : S → K → ℕ) (refuse : Bool) (ask : CopyAsk) (s : StoreState K V S) (a : _) (s' : StoreState K V S)
         → PerformsCopy eq hash refuse ask s a s' → SamePairs s s'
     copy_pairs hash refuse (copies.Load at) s a s' (is, same) = same_pairs s s' same
@@ -79,7 +79,7 @@ module _ {K V S : Type 0} where
         ])
 
 module _ {K V S A : Type 0} (eq : K → K → Bool) (says : Says K V A) (refuse : Bool) where
-  -- such an ask logs none
+  -- such an ask stores none
   plain_pairs : (ask : Call_ask) (s : StoreState K V S) (r : Running K V A) (a : Call_answer) (s' : StoreState K V S) (r' : Running K V A)
       → IsPlain ask → Performs eq says refuse ask s r a s' r' → SamePairs s s'
   plain_pairs (Load at) s r a s' r' plain (e, stays) = same_pairs s s' stays.0
@@ -108,14 +108,14 @@ module _ {K V S A : Type 0} (eq : K → K → Bool) (says : Says K V A) (refuse 
       (e, (number, same), moved) = (ap (λ (y : StoreState K V S). y.pairs) same, ap (λ (y : StoreState K V S). y.count.shards) same)
   plain_pairs (Ask_done reply) s r a s' r' plain (e, stays) = same_pairs s s' stays.0
 
-  -- one for a pair logs one at most
+  -- one for a pair stores at most one
   logs_one : (s : StoreState K V S) (r : Running K V A) (a : Call_answer) (s' : StoreState K V S) (r' : Running K V A) → LogsOrNot s r a s' r' → PushesOne s s'
   logs_one s r a s' r' (inl (none, stays)) = logs_none s s' (same_pairs s s' stays.0)
   logs_one s r a s' r' (inr (key, left, (value, has, is, few, more, later))) =
       let long : length s'.pairs ≡ length s.pairs + 1 = ap (λ (y : StoreState K V S). length y.pairs) more ∙ length_push s.pairs (pair_with key value) in
       record { pairs = omega (arith, long); shards = ap (λ (y : StoreState K V S). y.count.shards) more }
 
-  -- so an insertion logs one pair at most, which has logged none until it asks for its pair
+  -- so an insertion stores at most one pair; it has stored none until it asks for its pair
   pub insertion_logs : (ask : Call_ask) (first s : StoreState K V S) (r : Running K V A) (a : Call_answer) (s' : StoreState K V S)
       (r' : Running K V A) → (MakesPair ask → length s.pairs ≡ length first.pairs) → Performs eq says refuse ask s r a s' r' → PushesOne first s → PushesOne first s'
   insertion_logs MakePair first s r a s' r' none h before = logs_from first s s' (none tt) before.shards (logs_one s r a s' r' (own_logs s r a s' r' refuse h))

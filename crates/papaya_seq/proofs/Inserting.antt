@@ -1,4 +1,4 @@
--- The states to which the machine of an insertion goes from the root, and from its write.
+-- The states of an insertion's machine after the root, and after its write.
 use Rattle.std.proofs.Common.{◌≡◌, ℕ, ◌==◌, Bool, true, false, Option, None, Some, refl, sym, subst}
 use Rattle.std.proofs.lemmas.Bool.{cond_both}
 use Rattle.papaya_words.specs.Word.{kind_of, pair_of}
@@ -82,7 +82,7 @@ module _ (t : ℕ) where
   found_in true held at word is = replaces_in (kind_of word) at word is
   found_in false held at word is = occupies_in (kind_of word) at word is
 
-  -- what an insertion's search saw leads here
+  -- the state after an insertion's search
   goes_in : (replace : Bool) (mode : ResizeMode) (held : Remembered) (saw : ProbeStep) → IsSeenIn Anything t saw → IsIn t (goes_as (Insert replace) mode held saw)
   goes_in replace mode held (seen.On search) is = is.0
   goes_in replace mode held (seen.Here at word) is = found_in replace held at word is.0
@@ -129,7 +129,7 @@ module _ (m : Machine) (made : Made) where
       by_served served is Ok_done unbeaten = tt
       by_served served is (Was_refused refused) unbeaten = refuses_leads HasWritten write refused tt tt served
 
-  -- what was claimed is counted, and its hint written
+  -- the claim is counted, and its hint written
   pub counts_on : (claimed : Claimed) (told : Answer) → HasWritten (after (in_state (Counting claimed)) told).state
   counts_on claimed (Word_read word) = tt
   counts_on claimed Exchanged = tt

@@ -1,4 +1,4 @@
--- An insertion that is set aside goes on while a loop copies.
+-- An insertion that is set aside continues while a loop copies.
 use Rattle.std.proofs.Common.{◌≡◌, ℕ, ◌^◌, ◌<◌, ◌≤◌, Bool, false, List, [], ◌∷◌, refl, sym, ◌∙◌, subst, arith}
 use Rattle.papaya_call.specs.declared.ask.Ask.TheVariants.{Done as Ask_done}
 use Rattle.papaya_call.specs.declared.call.Reply.{Reply}
@@ -26,7 +26,7 @@ module _ {K V S A : Type 0} (eq : K → K → Bool) (hash : S → K → ℕ) (s 
   pub inserting_sized : (store : StoreState K V S) (r : Running K V A) → IsInserting eq hash s replace k value store r → IsSized store
   inserting_sized store r now = (now.steps keys lawful fits).lawful.core.sizes
 
-  -- each answer leads it on, and brings it nearer to its end
+  -- it continues after each answer, and comes nearer its end
   pub inserting_copies : (told : List Answer) (store : StoreState K V S) (r : Running K V A) (store' : StoreState K V S) (m' : Machine)
       → Copies eq hash copy_of after told store r.machine store' m' → IsInserting eq hash s replace k value store r
       → IsInserting eq hash s replace k value store' (record r { machine = m' }) × (left_of store' m' ≤ left_of store r.machine)

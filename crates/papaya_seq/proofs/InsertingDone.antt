@@ -32,11 +32,11 @@ use Rattle.papaya_seq.proofs.InsertingRun.{inserting_cause, inserting_fit, inser
 use Rattle.papaya_seq.proofs.InsertingRun.{inserting_more, inserting_tables, IsInserting}
 use Rattle.papaya_seq.proofs.Turns.{IsOver}
 
--- what the store answers is no reply
+-- an ask that the store answers is no reply
 still_asks : (ask : Ask) → IsOfStore ask → (reply : replies.Reply) → ask ≡ asks.Call (Ask_done reply) → ⊥
 still_asks ask asked reply e = subst IsOfStore e asked
 
--- What an insertion leaves, with its reply and the value that is left.
+-- The map after an insertion, with its reply and the value that is left.
 pub record InsertionDone {K V S : Type 0} (eq : K → K → Bool) (hash : S → K → ℕ) (s : MapState K V S) (replace : Bool) (k : K) (value : V)
     (reply : replies.Reply) (left : Option V) (s' : MapState K V S) : Type 0 where
   pub answers : IsAnswered {A = Unit {0}} eq (insertion replace k value) (map_in eq s.store) reply (map_in eq s'.store)
@@ -52,7 +52,7 @@ pub record InsertionDone {K V S : Type 0} (eq : K → K → Bool) (hash : S → 
 module _ {K V S : Type 0} (eq : K → K → Bool) (hash : S → K → ℕ) (s : MapState K V S) (replace : Bool) (k : K) (value : V)
     (keys : IsLawfulKeys eq (hash s.store.hasher)) (lawful : IsLawfulMap eq (hash s.store.hasher) s.store s.mode s.initial)
     (fits : hash s.store.hasher k < 2 ^ 64) where
-  -- each answer leads it on
+  -- it continues after each answer
   inserting_drives : (told : List Answer) (store : StoreState K V S) (r : Running K V (Unit {0})) (store' : StoreState K V S)
       (r' : Running K V (Unit {0})) → Drives eq hash told store r store' r' → IsInserting eq hash s replace k value store r
       → IsInserting eq hash s replace k value store' r'
@@ -66,7 +66,7 @@ module _ {K V S : Type 0} (eq : K → K → Bool) (hash : S → K → ℕ) (s : 
       (inserting_more eq hash s replace k value keys lawful fits whatever store r answer middle later (ask_of r.machine) refl open_still step.performs
       step.same now (chain_stands r.machine now.valid answer fit))
 
-  -- whatever answers its closures would give
+  -- for any answers of its closures
   inserting_as : {A : Type 0} (store : StoreState K V S) (m : Machine)
       → IsInserting {A = Unit {0}} eq hash s replace k value store (record { machine = m; key = Own k; value = Some (Own value); answers = None })
       → IsInserting {A = A} eq hash s replace k value store (record { machine = m; key = Own k; value = Some (Own value); answers = None })
@@ -82,7 +82,7 @@ module _ {K V S : Type 0} (eq : K → K → Bool) (hash : S → K → ℕ) (s : 
     caused = now.caused;
   }
 
-  -- it begins where the search of the root has led it
+  -- it begins in the state after the search of the root
   pub inserting_led : {A : Type 0} (m : Machine) (hashed number : ℕ) (state : State)
       → m ≡ chain.started (Insert replace) hashed s.mode.resize s.initial number s.mode.limit → hashed ≡ hash s.store.hasher k → IsValid m
       → IsLedTo (eq k) s.store (hash s.store.hasher k) replace state

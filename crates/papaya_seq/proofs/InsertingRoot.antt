@@ -60,7 +60,7 @@ use Rattle.papaya_seq.proofs.NoPlace as places
 use Rattle.papaya_seq.proofs.StepsOfOwn.{leaves_none, own_performs, own_step}
 use Rattle.papaya_seq.proofs.Steps.{HasCome, came_more, made_goes, made_unchanged, seated, stepped, still}
 
--- a machine that asks for itself goes on, in these states
+-- a machine that asks for itself continues, in these states
 asking : (m : Machine) (state : State) → m.phase ≡ Calling → m.call.state ≡ state
     → reply_in (ask_of m) ≡ reply_in (asks_in (record m.call { state = state }) Calling)
 asking m state calling e = ap (λ p. reply_in (asks_in m.call p)) calling ∙ ap (λ x. reply_in (asks_in (record m.call { state = x }) Calling)) e
@@ -73,7 +73,8 @@ module _ {K V S : Type 0} (eq : K → K → Bool) (hash : S → K → ℕ) (s : 
   abbrev call : KeyCall K V
   call = keyed_insertion replace k value
 
-  -- The insertion is at the root, which has no next table, or searches it, or writes where it may replace; from there it is refused for want of room in a log alone, and only where it may replace.
+  -- The insertion is at the root, which has no next table, or searches it, or writes if it may
+  -- replace. From there it is refused only if the arena has no room, and only if it may replace.
   abbrev pub IsRootStage : StoreState K V S → State → Type 0
   IsRootStage store AtRoot = next_of store ≡ 0
   IsRootStage store (Searching search) = (table_of search ≡ store.words.root) × (next_of store ≡ 0)
@@ -91,7 +92,7 @@ module _ {K V S : Type 0} (eq : K → K → Bool) (hash : S → K → ℕ) (s : 
   abbrev pub IsRelying : StoreState K V S → Machine → Type 0
   IsRelying store m = (map_in eq s.store k ≡ None) ⊎ IsInRoot store m
 
-  -- what has written in the root is still there
+  -- a write that was made in the root is still there
   written_stage : (store : StoreState K V S) (state : State) → replace ≡ true → HasWritten state
       → ((refused : Refused) → state ≡ Ended (Reply_refused refused) → IsLogRefusal s refused) → IsRootStage store state
   written_stage store (Writing write) only written caused = only
@@ -120,7 +121,7 @@ module _ {K V S : Type 0} (eq : K → K → Bool) (hash : S → K → ℕ) (s : 
   written_stage store (Leaving t) only written caused = absurd written
   written_stage store (Growing need) only written caused = absurd written
 
-  -- what is counted is no refusal
+  -- an insertion that counts is not refused
   counted_stage : (store : StoreState K V S) (m : Call_machine) (n : Claimed) (told : Call_answer)
       → IsRootStage store (calls.after (record m { state = Counting n }) told).state
   counted_stage store m n (Word_read word) = tt
@@ -133,7 +134,7 @@ module _ {K V S : Type 0} (eq : K → K → Bool) (hash : S → K → ℕ) (s : 
   counted_stage store m n Ok_done = tt
   counted_stage store m n (Was_refused refused) = tt
 
-  -- nor is what has its hint written
+  -- nor is one that writes its hint
   noted_stage : (store : StoreState K V S) (m : Call_machine) (n : Claimed) (told : Call_answer)
       → IsRootStage store (calls.after (record m { state = Noting n }) told).state
   noted_stage store m n (Word_read word) = tt
@@ -169,7 +170,7 @@ module _ {K V S : Type 0} (eq : K → K → Bool) (hash : S → K → ℕ) (s : 
           was_absent (ap change_in state) own.key own.own
           (places.rootless_absent eq (hash s.store.hasher) keys now_core came.lawful.core es call_traces kept 0 r goes none)
 
-      -- what a write looks for stands there
+      -- a write finds its expected word
       has_read : (write : Write) → r.machine.phase ≡ Calling → r.machine.call.state ≡ Writing write
           → word_at store.words (Slot write.place.table write.place.probe.i) ≡ write.old
       has_read write calling state = subst (IsRead (word_at store.words)) state
@@ -218,7 +219,7 @@ module _ {K V S : Type 0} (eq : K → K → Bool) (hash : S → K → ℕ) (s : 
         led : (state : State) → r.machine.call.state ≡ state → next.machine.call.state ≡ (calls.after (record r.machine.call { state = state }) own.told).state
         led state e = ap (λ (y : Call_machine). y.state) own.call ∙ ap (λ x. (calls.after (record r.machine.call { state = x }) own.told).state) e
 
-        -- a search of the root goes on there, or the key is absent
+        -- a search of the root continues there, or the key is absent
         searched : (state : State) → next.machine.call.state ≡ state → store' ≡ store → next_of store ≡ 0 → IsIn store.words.root state
             → IsRelying store' next.machine
         searched (Searching search) e stays last here = inr
@@ -272,7 +273,7 @@ module _ {K V S : Type 0} (eq : K → K → Bool) (hash : S → K → ℕ) (s : 
         wrote state e only written refuses = inr
             (record { calling = own.goes_on; stage = subst (IsRootStage store') (sym e) (written_stage store' state only written refuses) })
 
-      -- no other word stands where it writes
+      -- no other word is in the slot where it writes
       pub unbeaten : (write : Write) → r.machine.phase ≡ Calling → r.machine.call.state ≡ Writing write → (told : Call_answer)
           → answer ≡ answers.Call told → (n word : ℕ) → serves r.machine.call.made write ≡ Some n → told ≡ Found_instead word → ⊥
       unbeaten write calling e told is n word serves_so found =
@@ -280,7 +281,7 @@ module _ {K V S : Type 0} (eq : K → K → Bool) (hash : S → K → ℕ) (s : 
           (subst (λ x. Performs eq whatever false (calls.asks r.machine.call.made r.machine.call.hash x) store r told store' later) e
           (own_performs eq whatever hash store r answer store' later told calling is performs)) word found
 
-      -- a write goes on, is made or refused
+      -- a write continues, is made or refused
       pub written_more : (state : State) → r.machine.phase ≡ Calling → r.machine.call.state ≡ state → HasWritten state
           → (next.machine.phase ≡ Calling) × HasWritten next.machine.call.state
       written_more (Writing write) calling e written =

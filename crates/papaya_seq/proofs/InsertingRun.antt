@@ -58,7 +58,7 @@ use Rattle.papaya_seq.proofs.Steps.{HasCome, IsMade, came_nears, made_alone, mad
 use Rattle.papaya_seq.proofs.KeyCalls.{keyed_insertion}
 use Rattle.papaya_seq.proofs.Turns.{IsOver}
 
--- the value is at hand until the call writes
+-- the call has its own value until it writes
 abbrev pub IsAtHand : {V : Type 0} → V → Machine → Option (Part V) → Type 0
 IsAtHand value m left = (left ≡ Some (Own value)) ⊎ ((m.phase ≡ Calling) × HasWritten m.call.state)
 
@@ -67,7 +67,8 @@ abbrev pub left_in : {K V S : Type 0} → MapState K V S → StoreState K V S �
 left_in s store = record s { store = store }
 
 module _ {K V S A : Type 0} (eq : K → K → Bool) (hash : S → K → ℕ) (s : MapState K V S) (replace : Bool) (k : K) (value : V) where
-  -- Where an insertion is between two answers: it came there by steps of the core, has its value at hand until it writes, and is in the root, where no pairs are being moved, or its key is absent.
+  -- An insertion between two answers: it came there by steps of the core, has its own value until
+  -- it writes, and is in the root while no pairs are being moved, or its key is absent.
   pub record IsInserting (store : StoreState K V S) (r : Running K V A) : Type 0 where
     pub steps : IsMade eq hash s (keyed_insertion replace k value) store (answering None r)
     pub silence : r.answers ≡ None
@@ -77,18 +78,18 @@ module _ {K V S A : Type 0} (eq : K → K → Bool) (hash : S → K → ℕ) (s 
     pub unlogged : IsNotStored eq hash s (keyed_insertion replace k value) store (answering None r)
     -- it makes one pair
     pub served : IsServed r.machine.call.made r.machine.call.state
-    -- one pair was logged at most
+    -- one pair was stored at most
     pub logs : PushesOne s.store store
-    -- where it was refused there is a cause
+    -- if it was refused, there is a cause
     pub caused : (refused : Refused) → reply_in (ask_of r.machine) ≡ Some (Reply_refused refused) → IsWriteCause s refused (left_in s store)
 
--- what makes a pair is asked for one
+-- an ask that makes a pair is an ask for one
 pair_asked : (ask : Call_ask) → MakesPair ask → IsPairAsk ask
 pair_asked MakePair makes = tt
 pair_asked (MakePairOf n) makes = tt
 pair_asked ask makes = absurd makes
 
--- a machine that asks on has not replied
+-- a machine whose ask is no reply has not replied
 unreplied : (ask : Ask) → ((reply : Reply) → ask ≡ asks.Call (Ask_done reply) → ⊥) → reply_in ask ≡ None
 unreplied (asks.Call (Ask_done reply)) open_still = absurd (open_still reply refl)
 unreplied (asks.Call (Load at)) open_still = refl
@@ -147,7 +148,7 @@ module _ {K V S A : Type 0} (eq : K → K → Bool) (hash : S → K → ℕ) (s 
       performs : PerformsAsk eq says hash false (ask_of r.machine) store r answer store' later
       performs = subst (λ y. PerformsAsk eq says hash false y store r answer store' later) is performed
 
-      -- nothing is shown to a closure
+      -- no closure is called
       silent : PerformsAsk eq whatever hash false (ask_of r.machine) store (answering {B = Unit {0}} None r) answer store' (answering None later)
           × (later.answers ≡ r.answers)
       silent = silent_performs eq says hash false replace (ask_of r.machine) store r answer store' later now.silence task performs
@@ -162,14 +163,14 @@ module _ {K V S A : Type 0} (eq : K → K → Bool) (hash : S → K → ℕ) (s 
       inserting_nears = came_nears eq hash s (keyed_insertion replace k value) store (answering None r) answer store' (answering None later) going
           silent.0 same keys came
 
-      -- a write goes on
+      -- a write continues
       writes_more : (state : State) → r.machine.phase ≡ Calling → r.machine.call.state ≡ state → HasWritten state
           → IsAtHand value (after r.machine answer) later.value
       writes_more state calling e written = inr
           (written_more eq hash s replace k value keys lawful fits store (answering None r) answer store' (answering None later) going silent.0 same
           came state calling e written)
 
-      -- the value is at hand until the call writes
+      -- the call has its own value until it writes
       hand_more : IsAtHand value r.machine r.value → IsAtHand value (after r.machine answer) later.value
       hand_more (inr (calling, written)) = writes_more r.machine.call.state calling refl written
       hand_more (inl has) = by_phase (copy_stays eq says store r hash answer store' later)
@@ -188,7 +189,7 @@ module _ {K V S A : Type 0} (eq : K → K → Bool) (hash : S → K → ℕ) (s 
               by_value calling (inl written) = writes_more r.machine.call.state calling refl written
               by_value calling (inr stays) = inl (stays ∙ has)
 
-      -- nothing is offered to a closure
+      -- no closure is called with `None`
       unoffered : (refused : Refused) → IsRemoveNothing r.machine answer refused → ⊥
       unoffered refused (none, asked, removes) = by_answer
           (subst (λ y. PerformsAsk {A = Unit {0}} eq whatever hash false y store (answering None r) answer store' (answering None later)) asked silent.0)
@@ -198,7 +199,7 @@ module _ {K V S A : Type 0} (eq : K → K → Bool) (hash : S → K → ℕ) (s 
               ∙ ap answers.Call e in absurd cc
           by_answer (told, told_is, inr (a, op, after_it, has, said, e, same, stays)) = let f : None ≡ Some a = has in absurd cc
 
-      -- a refusal is of a log, or of a table
+      -- a refusal comes from the arena, or from a table
       refusal : (refused : Refused) → reply_in (ask_of (after r.machine answer)) ≡ Some (Reply_refused refused) → IsLogRefusal s refused
           ⊎ (IsTableAsk r.machine × IsNoTableRefusal (left_in s store') refused)
       refusal refused e = elim (refused_so eq hash s (keyed_insertion replace k value) store (answering None r) answer store' (answering None later)
@@ -216,7 +217,7 @@ module _ {K V S A : Type 0} (eq : K → K → Bool) (hash : S → K → ℕ) (s 
         | inr table ↦ let making : Writing write ≡ Making = sym writes ∙ table.0 calling in absurd cc
       ]
 
-      -- one pair is logged at most
+      -- one pair is stored at most
       logs_more : (phase : Phase) → PerformsAsk eq says hash false (asks_in r.machine.call phase) store r answer store' later → PushesOne s.store store'
       logs_more Calling (told, told_is, own) =
           insertion_logs eq says false (call_ask r.machine.call) s.store store r told store' later
@@ -244,7 +245,7 @@ module _ {K V S A : Type 0} (eq : K → K → Bool) (hash : S → K → ℕ) (s 
           (aside_served begins.from begins.left (at_root r.machine.call.task r.machine.call.remembered.fill begins.root))
       served_more (inr (inr (inr (inr ends)))) = served_call ends.call tt
 
-      -- and it goes on
+      -- and it continues
       pub inserting_more : IsValid (after r.machine answer)
           → IsInserting eq hash s replace k value store' (record later { machine = after r.machine answer })
       inserting_more valid = record {
@@ -279,7 +280,7 @@ module _ {K V S A : Type 0} (eq : K → K → Bool) (hash : S → K → ℕ) (s 
           let asked : asks.Call (Ask_done reply) ≡ asks.Call (call_ask r.machine.call) = e ∙ ap (asks_in r.machine.call) calling in
           ended_in r.machine.call.made r.machine.call.hash r.machine.call.state reply (let f : Ask_done reply ≡ call_ask r.machine.call = cc asked in sym f)
 
-      -- where the key is in the map, the value is left
+      -- if the key is in the map, the value is left
       pub inserting_left : (n : ℕ) → reply ≡ Occupied n → r.value ≡ Some (Own value)
       inserting_left n is = at_hand now.hand
         where
@@ -288,7 +289,8 @@ module _ {K V S A : Type 0} (eq : K → K → Bool) (hash : S → K → ℕ) (s 
           at_hand (inr (calling, written)) =
               absurd (subst HasWritten (ended calling ∙ ap Ended is) written)
 
-      -- Where no pairs are being moved, a refusal is of a log, and of a call that may replace, or the key is absent.
+      -- While no pairs are being moved, a refusal comes from the arena, in a call that may replace,
+      -- or the key is absent.
       refused_where : (refused : Refused) → reply ≡ Reply_refused refused
           → (((map_in eq s.store k ≡ None) ⊎ IsResizing s) ⊎ ((replace ≡ true) × IsLogRefusal s refused))
       refused_where refused is = elim (cases_eq (next_of s.store) 0) [
@@ -304,7 +306,7 @@ module _ {K V S A : Type 0} (eq : K → K → Bool) (hash : S → K → ℕ) (s 
       caused_end : (refused : Refused) → reply ≡ Reply_refused refused → IsWriteCause s refused (left_in s store)
       caused_end refused is = now.caused refused (sym (ap reply_in e) ∙ ap Some is)
 
-      -- so a refusal has a cause for what the key has
+      -- so a refusal has a cause, with the pair that the key has
       pub inserting_cause : (refused : Refused) → reply ≡ Reply_refused refused → IsWriteCauseAt s (map_in eq s.store k) refused (left_in s store)
       inserting_cause refused is = at (refused_where refused is) (caused_end refused is)
         where
@@ -318,7 +320,8 @@ module _ {K V S A : Type 0} (eq : K → K → Bool) (hash : S → K → ℕ) (s 
           at (inl away) (inr (inl (capacity, inr none))) = inr (inl (capacity, inr (away, none)))
           at (inl away) (inr (inr spent)) = inr (inr spent)
 
-      -- and one that replaces nothing is refused only where the key is absent, or pairs are being moved
+      -- and one that replaces nothing is refused only if the key is absent, or pairs are being
+      -- moved
       pub inserting_absent : replace ≡ false → (refused : Refused) → reply ≡ Reply_refused refused
           → IsTryCause s (map_in eq s.store k) refused (left_in s store)
       inserting_absent never refused is = (by_where (refused_where refused is), caused_end refused is)

@@ -52,7 +52,7 @@ module _ {K V S A : Type 0} (eq : K → K → Bool) (says : Says K V A) (store :
     search_stays (Reading at) (e, (same, stays)) = same
     search_stays (Comparing at word) (e, (same, stays)) = same
 
-    -- the word that a write looks for stands there
+    -- the write finds its expected word
     pub write_unbeaten : (made : Made) (write : Write) → word_at store.words (Slot write.place.table write.place.probe.i) ≡ write.old → (n : ℕ)
         → serves made write ≡ Some n → Performs eq says false (write_ask write made) store r told store' later → (word : ℕ) → told ≡ Found_instead word → ⊥
     write_unbeaten made write read n serves_so performs word found =
@@ -61,7 +61,7 @@ module _ {K V S A : Type 0} (eq : K → K → Bool) (says : Says K V A) (store :
         let f : Exchanged ≡ Found_instead word = sym done.0 ∙ found in
         absurd cc
 
-    -- an insertion logs its value only where it writes
+    -- an insertion stores its value only if it writes
     pub value_stays : (replace : Bool) (made : Made) (hash : ℕ) (state : State) → IsValidState (Insert replace) state
         → Performs eq says false (asks made hash state) store r told store' later → HasWritten state ⊎ (later.value ≡ r.value)
     value_stays replace made hash AtRoot valid (e, (same, stays)) = inr (ap (λ q. q.value) stays)

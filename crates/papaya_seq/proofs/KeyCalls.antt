@@ -1,4 +1,4 @@
--- A call on one key as a value, with what it begins with.
+-- A call on one key as a value, with the state in which it begins.
 use Rattle.std.proofs.Common.{◌≡◌, ℕ, ◌^◌, ◌<◌, Bool, true, false, Option, None, Some, refl, subst}
 use Rattle.papaya_core_store.specs.declared.store.Mode.{Mode}
 use Rattle.papaya_call.specs.declared.call.Call.{Call}
@@ -11,7 +11,7 @@ use Rattle.papaya_core_timeline.specs.Begins.{begun, begun_work}
 use Rattle.papaya_core_timeline.specs.Maps.{key_of}
 use Rattle.papaya_seq.specs.Map.{insertion}
 
--- A call on this key, which begins so.
+-- A call on this key, with the state in which it begins.
 pub record KeyCall (K V : Type 0) : Type 0 where
   pub call : Call K V (Unit {0})
   pub key : K
@@ -26,7 +26,7 @@ pub record KeyCall (K V : Type 0) : Type 0 where
 abbrev pub first_of : {K V : Type 0} → (K → ℕ) → Mode → (initial number : ℕ) → KeyCall K V → Running K V (Unit {0})
 first_of hash mode initial number call = begun hash mode initial number call.task call.key call.value call.answers
 
--- the hash of its key, where that of this key has 64 bits
+-- the hash of its key, if that of this key has 64 bits
 pub key_fits : {K V : Type 0} (hash : K → ℕ) (call : KeyCall K V) → hash call.key < 2 ^ 64 → (k : K) → key_of call.call ≡ Some k → hash k < 2 ^ 64
 key_fits hash call fits k e = let same : call.key ≡ k = cc (call.key_is, e) in subst (λ x. hash x < 2 ^ 64) same fits
 
@@ -51,7 +51,7 @@ keyed_insertion replace k value = record {
     begins true k value hash mode initial number = refl
     begins false k value hash mode initial number = refl
 
--- a removal, and a compute, whatever a closure answers
+-- a removal, and a compute, for any result of a closure
 abbrev pub keyed_removal : {K V : Type 0} → K → KeyCall K V
 keyed_removal k = record {
   call = calls.RemoveIf k tt;

@@ -1,4 +1,4 @@
--- What is known of the words and the arena of a map whose invariant holds.
+-- Facts about the words and the arena of a map whose invariant holds.
 use Rattle.std.proofs.Common.{◌≡◌, ◌⊎◌, ⊎_elim, inl, inr, ℕ, zero, suc, ◌<◌, ◌≤◌, Bool, true, false}
 use Rattle.std.proofs.Common.{List, [], ◌∷◌, length, Option, Some, None, refl, sym, ◌∙◌, ap, subst}
 use Rattle.std.proofs.Common.{arith}
@@ -94,11 +94,11 @@ module _ {K V S : Type 0} (eq : K → K → Bool) (hash : K → ℕ) (mode : Mod
   sized = lawful.lawful.core.sizes
 
 module _ {K V S : Type 0} (store : StoreState K V S) where
-  -- a pair that was found by a number is logged under its own
+  -- a pair that was found by a number is in the arena under its own
   pub logged_itself : (n : ℕ) (p : Stored K V) → pair_of store n ≡ Some p → pair_of store p.number ≡ Some p
   logged_itself n p e = ap (pair_of store) (pair_number store n p e) ∙ e
 
-  -- each pair of these words' is logged
+  -- each pair of these words is in the arena
   abbrev AreInArena : List (Stored K V) → Type 0
   AreInArena ps = All (λ p. pair_of store p.number ≡ Some p) ps
 
@@ -140,7 +140,7 @@ module _ {K V S : Type 0} (store : StoreState K V S) where
         All-append (λ p. pair_of store p.number ≡ Some p) (pairs_of_slots store t.slots) (missing_in eq (λ p. p.key) (pairs_of_slots store t.slots) further)
         (slots_logged t.slots) (missing_logged (pairs_of_slots store t.slots) further (from_logged n (table_of store.words.tables t.next)))
 
-    -- the content's pairs are logged
+    -- the content's pairs are in the arena
     pub all_logged : All (λ p. pair_of store p.number ≡ Some p) (content eq store)
     all_logged = from_logged (length store.words.tables) (table_of store.words.tables store.words.root)
 
@@ -148,17 +148,17 @@ module _ {K V S : Type 0} (store : StoreState K V S) where
     logged_content p (k, within, is) = subst (λ q. pair_of store q.number ≡ Some q) is (all_logged k p within)
 
   module _ (matches : K → Bool) where
-    -- a pair of the log that matches
+    -- a pair of the arena that matches
     pub record IsMatched : Type 0 where
       pub pair : Stored K V
       pub there : pair_of store pair.number ≡ Some pair
       pub matched : matches pair.key ≡ true
 
-    -- no pair of the log matches
+    -- no pair of the arena matches
     abbrev pub MatchesNone : Type 0
     MatchesNone = (n : ℕ) (p : Stored K V) → pair_of store n ≡ Some p → matches p.key ≡ false
 
-    -- the same of the pairs below a number
+    -- the same for the pairs below a number
     abbrev MatchesBelow : ℕ → Type 0
     MatchesBelow m = (n : ℕ) (p : Stored K V) → n < m → pair_of store n ≡ Some p → matches p.key ≡ false
 
@@ -182,12 +182,12 @@ module _ {K V S : Type 0} (store : StoreState K V S) where
     decided_below zero = inr (λ n p below e. absurd (omega arith))
     decided_below (suc m) = ⊎_elim (λ (one : IsMatched). inl one) (λ (none : MatchesBelow m). decided_at m (pair_of store m) refl none) (decided_below m)
 
-    -- a pair of the log matches, or none does
+    -- a pair of the arena matches, or none does
     pub decided : IsMatched ⊎ MatchesNone
     decided = ⊎_elim (λ (one : IsMatched). inl one) (λ (none : MatchesBelow (length store.pairs)). inr (λ n p e. none n p (pair_below store n p e) e))
         (decided_below (length store.pairs))
 
-    -- where no pair of the log matches, none of the map's does
+    -- if no pair of the arena matches, none of the map's does
     pub none_held : (eq : K → K → Bool) → MatchesNone → HasNone eq matches store
     none_held eq none k d within = none (slice_index_or (content eq store) k d).number (slice_index_or (content eq store) k d) (all_logged eq k d within)
 
@@ -201,7 +201,7 @@ lookup_none {K} {V} eq (q ∷ ps) k e =
     (lookup_none eq ps k (sym (cond-false (eq k q.key) (Some q) (lookup eq (λ (p : Stored K V). p.key) ps k) n) ∙ e)))
     (cases_Bool (eq k q.key))
 
--- what is found in a list stands in it, and its key is equal
+-- a pair that is found in a list is in it, and its key is equal
 pub lookup_some : {K V : Type 0} (eq : K → K → Bool) (ps : List (Stored K V)) (k : K) (p : Stored K V) → lookup eq (λ q. q.key) ps k ≡ Some p
     → Contains ps p × (eq k p.key ≡ true)
 lookup_some eq [] k p e = let f : None ≡ Some p = e in cc

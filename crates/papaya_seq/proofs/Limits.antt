@@ -31,7 +31,7 @@ allowed_most {K} {P} g n is (e ∷ es) s le (may, all) = allowed_most g n is es 
     step (Abort t) may = le
     step (Take m) (here, below) = let less : m < n = subst (λ o. MatchOption o (Unit {0}) (λ k. m < k)) is below in omega (arith, less)
 
--- so no more were taken than the limit says
+-- so no more were taken than the limit allows
 pub made_most : {K V S A : Type 0} (eq : K → K → Bool) (hash : K → ℕ) (callers : List (Seat K V A)) (mode : Mode) (store : StoreState K V S)
     → IsLawfulCore eq hash store callers mode → (n : ℕ) → mode.limit ≡ Some n → store.words.made ≤ n
 made_most {K} {V} eq hash callers mode store lawful n is =

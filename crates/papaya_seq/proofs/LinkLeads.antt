@@ -40,14 +40,14 @@ abbrev pub IsBegun : Link → Type 0
 IsBegun (links.Sizing behind copied unfit) = Unit {0}
 IsBegun _ = ⊥
 
--- it is told no size
+-- there is no size for it
 abbrev Never : Link → ℕ → Type 0
 Never made n = ⊥
 
 abbrev Always : Link → ℕ → Type 0
 Always made n = Unit {0}
 
--- no answer but a size leads it on
+-- only a size advances it past its begin
 begun_made : (made : Link) (n : ℕ) → IsBegun made → IsBegun (link.at_made made n)
 begun_made (links.Making behind slots limit chunks) n h = h
 begun_made other n h = h
@@ -79,7 +79,7 @@ begun_stable = record {
   finds = begun_found;
 }
 
--- where a copy makes a table, the answer goes to the making
+-- if a copy makes a table, the answer is for the making
 step_form : (initial number : ℕ) (mode : ResizeMode) (aim : Aim) (from : ℕ) (made : Link) (answer : Answer)
     → copying_after (Stepping aim (steps.Linking from made)) mode initial number answer ≡ copying.leads aim mode
     (step.linked_to from (link_after made mode initial answer))
@@ -125,7 +125,7 @@ lone_form initial number mode slot marked hash made (answers.Call (told.Refused 
 lone_form initial number mode slot marked hash made (answers.Hash other) = refl
 lone_form initial number mode slot marked hash made (answers.Count count) = refl
 
--- a carry in which a table is made
+-- a move of a pair in which a table is made
 in_carry : (goes : Carry) (made : Link) → link_in_carry goes ≡ Some made → (hash : ℕ) × (goes ≡ carries.Linking hash made)
 in_carry (carries.Linking hash link) made e = let same : link ≡ made = cc e in (hash, ap (carries.Linking hash) same)
 in_carry other made e = absurd cc
@@ -136,7 +136,7 @@ in_settle (settles.Carrying marked goes) made e = let (hash, is) = in_carry goes
 in_settle other made e = absurd cc
 
 module _ (mode : ResizeMode) (initial : ℕ) (answer : Answer) where
-  -- the making begins, or the answer led it there from this one
+  -- the making begins, or the answer advanced it from this one
   abbrev pub IsLed : Option Link → Link → Type 0
   IsLed None made' = IsBegun made'
   IsLed (Some made) made' = IsBegun made' ⊎ (link_after made mode initial answer ≡ linked.On made')
@@ -146,7 +146,7 @@ module _ (mode : ResizeMode) (initial : ℕ) (answer : Answer) where
   begun_led None (Some made') h = h
   begun_led (Some made) (Some made') h = inl h
 
-  -- so it is where a copy leads
+  -- the same for the state after a copy
   abbrev pub IsCopyLed : Link → Copied → Type 0
   IsCopyLed made (copied.On goes) = In (IsLed (Some made)) (link_in_copying goes)
   IsCopyLed made _ = Unit {0}
@@ -188,7 +188,7 @@ module _ (mode : ResizeMode) (initial : ℕ) (answer : Answer) where
         (subst (IsCopyLed made) (sym (lone_form initial number mode slot marked hash made answer))
         (lone_led slot marked hash (link_after made mode initial answer) refl))
 
-  -- where no table is made, no size is told
+  -- if no table is made, no size is loaded
   told_none : (o : Option Link) → o ≡ None → (slots : ℕ) → Of Never o slots
   told_none None e slots = tt
   told_none (Some made) e slots = absurd cc
@@ -203,7 +203,7 @@ module _ (mode : ResizeMode) (initial : ℕ) (answer : Answer) where
   copy_begins goes number e = states.copying_after IsBegun Never Always begun_stable goes mode initial number answer
       (λ slots limit is. told_none (link_in_copying goes) e slots) (λ n is. new_any (link_in_copying goes) n) (subst (In IsBegun) (sym e) tt)
 
-  -- and so of any copy
+  -- the same for any copy
   abbrev pub IsCopyLedFrom : Option Link → Copied → Type 0
   IsCopyLedFrom o (copied.On goes) = In (IsLed o) (link_in_copying goes)
   IsCopyLedFrom o _ = Unit {0}

@@ -1,5 +1,5 @@
--- The lengths by which the making of a table goes: that of the table which it is to follow, and one
--- that the new table may have.
+-- The lengths on which the making of a table relies: the length of the table which it is to follow,
+-- and a length that the new table may have.
 use Rattle.std.proofs.Common.{◌≡◌, inl, inr, ℕ, ◌==◌, ◌≤◌, ◌^◌, nat_le, Bool, cond, Option, None, Some, List, ◌*◌, ◌/◌, ◌||◌, max, refl, ap, ◌∙◌, subst, arith}
 use Rattle.std.proofs.lemmas.Bool.{cond_both}
 use Rattle.std.specs.List.{Contains}
@@ -74,16 +74,17 @@ pub copying_makes : (goes : Copying) (slots limit chunks : ℕ) → copying_ask 
 copying_makes (Stepping aim goes) slots limit chunks e = step_makes goes slots limit chunks e
 copying_makes (Lone slot goes) slots limit chunks e = settle_makes goes slot slots limit chunks e
 
--- `Good` is so of a length that may be made beside these.
+-- `Good` holds of a length that may be made beside these.
 module _ (Good : ℕ → Type 0) (lengths : List ℕ) where
-  -- the making counts by the length of a table that is there, and makes one that may be so long
+  -- the making computes from the length of a table that is there, and makes a table of a length
+  -- that is allowed
   abbrev pub IsLongLink : Link → Type 0
   IsLongLink (links.Measuring behind from unfit slots) = Contains lengths slots
   IsLongLink (links.Counting behind unfit slots copied) = Contains lengths slots
   IsLongLink (links.Making behind slots limit chunks) = Good slots
   IsLongLink _ = Unit {0}
 
-  -- a table that is asked for by a copy may be
+  -- a table for which a copy asks may be made
   pub link_good : (made : Link) (slots limit chunks : ℕ) → link_ask made ≡ copies.MakeTable slots limit chunks → IsLongLink made → Good slots
   link_good made slots limit chunks e h = let (behind, is) = link_makes made slots limit chunks e in subst IsLongLink is h
 
@@ -98,7 +99,7 @@ module _ (Good : ℕ → Type 0) (lengths : List ℕ) where
   begun_long (links.Making behind slots limit chunks) h = absurd h
   begun_long (links.Linking behind table chunks) h = absurd h
 
-  -- where an answer leads
+  -- the making after an answer
   size_long : (made : Link) (slots : ℕ) → ((behind copied : ℕ) (unfit : Bool) → made ≡ links.Sizing behind copied unfit → Contains lengths slots)
       → IsLongLink made → IsLongLink (link.at_size made slots)
   size_long (links.Sizing behind copied unfit) slots size h =
@@ -156,7 +157,7 @@ module _ (Good : ℕ → Type 0) (lengths : List ℕ) where
     after_long made (answers.Hash hash) sizes counts h = h
     after_long made (answers.Count count) sizes counts h = count_long made count (counts count refl) h
 
-    -- so it is of what an answer led to
+    -- the same for the making after an answer
     pub led_long : (answer : Answer) (o o' : Option Link) → In (IsLed mode initial answer o) o' → ((made : Link) → o ≡ Some made → Sizes answer made)
         → ((made : Link) → o ≡ Some made → Counts answer made) → In IsLongLink o → In IsLongLink o'
     led_long answer o None led sizes counts h = tt
@@ -165,7 +166,7 @@ module _ (Good : ℕ → Type 0) (lengths : List ℕ) where
     led_long answer (Some made) (Some made') (inr e) sizes counts h = subst (Linked_in IsLongLink) e
         (after_long made answer (sizes made refl) (counts made refl) h)
 
--- it is so beside more tables
+-- the same beside more tables
 pub long_beside : (Good Good' : ℕ → Type 0) (lengths lengths' : List ℕ) → ((n : ℕ) → Good n → Good' n)
     → ((n : ℕ) → Contains lengths n → Contains lengths' n) → (o : Option Link) → In (IsLongLink Good lengths) o → In (IsLongLink Good' lengths') o
 long_beside Good Good' lengths lengths' good there None h = tt

@@ -23,6 +23,6 @@ module _ {K V S : Type 0} (eq : K → K → Bool) (store : StoreState K V S) (at
   pub listed_fewer : (n : ℕ) → IsNext eq store at (Some n) at' → length (left_to eq store at') < length (left_to eq store at)
   listed_fewer n (p, there, is) = let long = ap length is in omega (arith, long)
 
-  -- where none is left all are listed
+  -- if none is left, all are listed
   pub listed_all : (list all : List ℕ) → IsNext eq store at None at' → list ++ numbers (left_to eq store at) ≡ all → list ≡ all
   listed_all list all (none, left) so_far = sym (append-nil list) ∙ ap (λ l. list ++ numbers l) (sym none) ∙ so_far

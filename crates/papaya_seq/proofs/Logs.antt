@@ -49,7 +49,7 @@ use Rattle.papaya_seq.proofs.MadeAfter.{made_after}
 abbrev pub IsUnmade : Made → Type 0
 IsUnmade made = (made.own ≡ None) × (made.of ≡ None)
 
--- The call has logged no pair yet: a compute remembers each pair that was made for it.
+-- The call has stored no pair yet: a compute remembers each pair that was made for it.
 abbrev pub IsFirst : Task → Made → Remembered → Type 0
 IsFirst tasks.Compute made held = held ≡ nothing
 IsFirst task made held = IsUnmade made
@@ -62,7 +62,7 @@ IsNumberless made = made.number ≡ Taken → ⊥
 abbrev pub IsAfter : Made → Made → Type 0
 IsAfter made made' = (made'.limit ≡ made.limit) × (IsUnmade made' → IsUnmade made)
 
--- it is that but for its number and for what was logged of its next pair
+-- it is the same but for its number and for the parts of its next pair that were stored
 abbrev pub IsLike : Made → Made → Type 0
 IsLike made made' = (made'.limit ≡ made.limit) × (made'.own ≡ made.own) × (made'.of ≡ made.of)
 
@@ -208,7 +208,7 @@ first_held tasks.RemoveIf made made' held held' unmade was h = unmade h
 pub first_before : (m : Call_machine) (told : Call_answer) → IsFirst m.task (after m told).made (after m told).remembered → IsFirst m.task m.made m.remembered
 first_before m told h = first_held m.task m.made (after m told).made m.remembered (after m told).remembered (after_made m told).1 (held_before m told) h
 
--- a call whose pair is logged has one
+-- a call whose pair is stored in the arena has one
 writer_first : (task : Task) (made : Made) (held : Remembered) → IsWriter task → IsFirst task made held → IsUnmade made
 writer_first tasks.Get made held writes h = absurd writes
 writer_first (tasks.Insert replace) made held writes h = h
@@ -222,7 +222,7 @@ computer_first tasks.RemoveIf made held computes h = absurd computes
 computer_first tasks.Compute made held computes h = h
 
 module _ (m : Call_machine) where
-  -- where the pair that is asked for is logged, the call has one
+  -- if the pair for which it asks is stored, the call has one
   first_not : (s : Stage) → IsValidState m.task s → MakesPair (asks m.made m.hash s) → (n : ℕ)
       → IsFirst m.task (made_in m.made n s) (held_in m.made m.remembered n s) → ⊥
   first_not (Writing write) stands makes n first = by_served (serves m.made write) makes
@@ -257,7 +257,7 @@ module _ (m : Call_machine) where
       → IsFirst m.task (after m (Made_number n)).made (after m (Made_number n)).remembered → ⊥
   paired_first = first_not m.state
 
--- what was logged leaves the number, unless it was the pair
+-- a part that is stored leaves the number, unless it is the pair
 abbrev HasSameNumber : Made → Grown → Type 0
 HasSameNumber made (On made') = made'.number ≡ made.number
 HasSameNumber made (Pair made') = Unit {0}
@@ -279,7 +279,7 @@ module _ (made : Made) where
       (λ _. own_number made.keyed made.valued) (λ _. of_number made.valued)
 
 module _ (m : Call_machine) (has : m.made.number ≡ Taken) where
-  -- a number that was taken is kept until the pair is logged
+  -- a number that was taken is kept until the pair is stored
   abbrev KeepsNumber : Stage → Call_answer → Made → Type 0
   KeepsNumber s a made' = (made'.number ≡ Taken) ⊎ ((n : ℕ) × (a ≡ Made_number n) × MakesPair (asks m.made m.hash s))
 
@@ -341,7 +341,7 @@ numberless_before m a stands first none has = elim (number_stable m has a) [
   | inr (n, is, makes) ↦ paired_first m stands makes n (subst (λ y. IsFirst m.task (after m y).made (after m y).remembered) is first)
 ]
 
--- what is logged takes no number
+-- an ask that stores a part takes no number
 make_takes : (ask : Call_ask) → IsMakeAsk ask → IsTakeAsk ask → ⊥
 make_takes MakeKey makes takes = takes
 make_takes MakeValue makes takes = takes

@@ -1,4 +1,4 @@
--- A lookup replies what the map has.
+-- The reply of a lookup is the pair that the map has.
 use Rattle.std.proofs.Common.{◌≡◌, ⊎_elim, ℕ, ◌<◌, ◌^◌, Bool, true, List, [], ◌∷◌, Option, Some, None, option_map, refl, sym, ◌∙◌, ap, subst}
 use Rattle.std.specs.Int.{IsPowerOfTwo}
 use Rattle.std.specs.Cmp.{IsEquivalence}
@@ -31,7 +31,7 @@ use Rattle.papaya_seq.proofs.LookSteps.{IsLooking, IsLookReply, IsLookUp, look_r
 
 module _ {K V S : Type 0} (eq : K → K → Bool) (hash : K → ℕ) (mode : Mode) (store : StoreState K V S)
     (lawful : IsLawfulCore {A = Unit {0}} eq hash store [] mode) (keys : IsLawfulKeys eq hash) (matches : K → Bool) where
-  -- where no pair of the log matches, the reply is that there is none
+  -- if no pair of the arena matches, the reply is that there is none
   unmatched_reply : MatchesNone store matches → (answers : List Answer) (m : Machine) (reply : Reply) → m.task ≡ Get_task → IsLooking store m.state
       → HasMetNone m.state → Replies matches store m answers reply → reply ≡ Absent
   unmatched_reply none [] m reply is_get looking met done = none_replies m.made m.hash m.state reply met done
@@ -53,7 +53,7 @@ module _ {K V S : Type 0} (eq : K → K → Bool) (hash : K → ℕ) (mode : Mod
     pub is_found : IsFound eq matches store found
     pub is_reply : reply_of found ≡ reply
 
-  -- what the finite map does in a lookup of an equal key
+  -- the effect on the finite map of a lookup of an equal key
   does_find : (k : K) → ((l : K) → matches l ≡ eq k l) → (reply : Reply) → IsLookReply reply → (m' : Map K V)
       → IsAnswered {A = Unit {0}} eq (Get k) (map_of {A = Unit {0}} eq (core_of (record { store = store; mode = mode; initial = 0 }))) reply m' → Finds reply
   does_find k alike Absent fit m' done = has_none done.went done.update.before done.does
@@ -99,7 +99,7 @@ module _ {K V S H : Type 0} (eq : K → K → Bool) (input : K → List (List �
   pub keys : IsLawfulKeys eq (hash_of input build write finish s.store.hasher)
   keys = keys_lawful eq input build write finish classes respects s.store.hasher
 
-  -- a lookup whose asks are answered by what stands in the tables finds the map's pair, or that there is none
+  -- a lookup whose asks are answered from the tables finds the map's pair, or that there is none
   pub looked_up : (answers : List Answer) (reply : Reply)
       → Replies matches s.store (started Get_task hashed s.mode.resize s.initial s.mode.limit) answers reply
       → Finds eq (hash_of input build write finish s.store.hasher) s.mode s.store lawful keys matches reply
@@ -125,7 +125,7 @@ module _ {K V S H : Type 0} (eq : K → K → Bool) (input : K → List (List �
           answers (started Get_task hashed s.mode.resize s.initial s.mode.limit) reply refl tt tt replies in
           record { found = None; is_found = none_held s.store matches eq none; is_reply = sym absent }
 
-  -- the pair that a lookup which was told of the tables has found when it replies
+  -- the pair that such a lookup has found when it replies
   look_up_finds : (m : Machine) → IsLookUp matches s.store (started Get_task hashed s.mode.resize s.initial s.mode.limit) m → (reply : Reply)
       → ask_of m ≡ Ask_done reply
       → (found : Option (Stored K V)) × LooksUp eq matches s.store (started Get_task hashed s.mode.resize s.initial s.mode.limit) found
@@ -145,7 +145,7 @@ module _ {K V S H : Type 0} (eq : K → K → Bool) (input : K → List (List �
         finds.is_reply,
       )
 
-  -- and so its number is what is answered
+  -- and so its number is in the reply
   pub look_up_answers : (reply : Reply) (answer : Option ℕ) → answer ≡ found_number reply
       → IsLookUp matches s.store (started Get_task hashed s.mode.resize s.initial s.mode.limit)
       (record (started Get_task hashed s.mode.resize s.initial s.mode.limit) { state = Ended reply })

@@ -1,4 +1,4 @@
--- A lookup whose asks are answered by what is in the tables is one whole call of the core.
+-- A lookup whose asks are answered from the tables is one whole call of the core.
 use Rattle.std.proofs.Common.{◌≡◌, ℕ, suc, ◌<◌, ◌^◌, Bool, false, List, [], ◌∷◌, Option, Some, None, inl, refl, sym, ◌∙◌, ap, subst}
 use Rattle.std.specs.Int.{IsPowerOfTwo}
 use Rattle.papaya_words.specs.declared.refused.Refused.{Refused}
@@ -55,12 +55,12 @@ module _ {K V S : Type 0} (eq : K → K → Bool) (hash : S → K → ℕ) (s : 
   abbrev pub core_in : Option (Running K V (Unit {0})) → CoreState K V S (Unit {0})
   core_in call = record { store = s.store; callers = record { caller = 0; work = as_work call } ∷ []; mode = s.mode; initial = s.initial }
 
-  -- the key matches what the query matches
+  -- the key matches the keys that the query matches
   matches_same : (o : Option (Stored K V)) → matches_in matches o ≡ same_stored eq k o
   matches_same None = refl
   matches_same (Some p) = alike p.key
 
-  -- what is told of the tables is what the core answers
+  -- an answer from the tables is an answer of the core
   told_performs : (m : Machine) (ask : Ask) (answer : Answer) → IsTrueOfStore matches s.store ask answer
       → Performs eq whatever false ask s.store (getting m) answer s.store (getting m)
   told_performs m (Load at) answer told = (told, (refl, refl))
@@ -79,7 +79,7 @@ module _ {K V S : Type 0} (eq : K → K → Bool) (hash : S → K → ℕ) (s : 
   told_performs m (AddToShard by) answer told = absurd told
   told_performs m (Ask_done reply) answer told = absurd told
 
-  -- what is still answered is no reply
+  -- an ask that is still answered is no reply
   told_goes : (ask : Ask) (answer : Answer) → IsTrueOfStore matches s.store ask answer → reply_in ask ≡ None
   told_goes (Load at) answer told = refl
   told_goes (SameKey n) answer told = refl
@@ -105,7 +105,7 @@ module _ {K V S : Type 0} (eq : K → K → Bool) (hash : S → K → ℕ) (s : 
   not_growing : (need : Need) (state : State) → state ≡ Growing need → IsLooking s.store state → ⊥
   not_growing need state e looking = subst (IsLooking s.store) e looking
 
-  -- a step of the core, after which the call goes on or has replied
+  -- a step of the core, after which the call continues or has replied
   told_steps : (m : Machine) (answer : Answer) (reply : Option Reply) → m.task ≡ Get_task → IsLooking s.store m.state
       → IsTrueOfStore matches s.store (ask_of m) answer → reply ≡ reply_in (ask_of (after m answer)) → ((refused : Refused) → reply ≡ Some (Reply_refused refused) → ⊥)
       → Advances eq whatever hash false (core_in (Some (getting m))) 0 (core_in (goes_on reply (getting (after m answer)))) (event_at m answer) reply
@@ -131,7 +131,7 @@ module _ {K V S : Type 0} (eq : K → K → Bool) (hash : S → K → ℕ) (s : 
         cause = λ refused e. absurd (unrefused refused e);
       }
 
-  -- the steps from the begin on led to an entry of this reply
+  -- the steps from the begin end with an entry of this reply
   pub record IsRun (begun : Machine) (reply : Reply) : Type 0 where
     pub steps : ℕ
     pub last : Entry
@@ -139,7 +139,7 @@ module _ {K V S : Type 0} (eq : K → K → Bool) (hash : S → K → ℕ) (s : 
     pub runs : StepsRun eq whatever hash 1 0 steps (core_in (Some (getting begun))) (with_event 0 0 Begun []) (core_in None) (last ∷ before)
     pub replied : last.event ≡ Replied reply
 
-  -- from the machine on the rest of the answers leads there
+  -- from this machine on the rest of the answers brings it there
   run_rest : (begun m : Machine) (so_far : History) (steps : ℕ) (answer : Answer) (rest : List Answer) (reply : Reply) → m.task ≡ Get_task
       → IsLooking s.store m.state
       → StepsRun eq whatever hash 1 0 steps (core_in (Some (getting begun))) (with_event 0 0 Begun []) (core_in (Some (getting m))) so_far

@@ -51,7 +51,7 @@ use Rattle.papaya_core_timeline.proofs.KeptTables.{table_low}
 use Rattle.papaya_seq.proofs.Numbered.{begun_number}
 use Rattle.papaya_seq.proofs.Lawful.{MatchesNone, core_bare, core_next_rises, core_next_there, core_root_there}
 
--- what a lookup replies
+-- the reply of a lookup
 abbrev pub IsLookReply : Reply → Type 0
 IsLookReply Absent = Unit {0}
 IsLookReply (Found n) = Unit {0}
@@ -64,11 +64,11 @@ IsLookReply (Aborted t) = ⊥
 IsLookReply Done = ⊥
 IsLookReply (Refused refused) = ⊥
 
--- a number that was told not to be 0
+-- a number that was tested not to be 0
 some_number : (n : ℕ) → (n == 0) ≡ false → n ≡ 0 → ⊥
 some_number n some zero = let f : true ≡ false = sym (eq-eqb n 0 zero) ∙ some in cc
 
--- a search of table t that saw this asks for no table's size next, and stays in the table
+-- a search of table t with this result asks for no table's size next, and stays in the table
 abbrev SeesPlace : ℕ → ProbeStep → Type 0
 SeesPlace t (seen.On (Sizing u)) = ⊥
 SeesPlace t (seen.On (Looking at)) = at.table ≡ t
@@ -104,7 +104,7 @@ compared_place : (at : Place) (word : ℕ) (same : Bool) → SeesPlace at.table 
 compared_place at word true = match_place (kind_of word) at word
 compared_place at word false = go_on_place at
 
--- How many tables a lookup may enter yet, where there are so many: those after the one that it
+-- How many tables a lookup may still enter, given the number of tables: those after the one that it
 -- searches or leaves, since a next table's number is greater.
 abbrev tables_ahead : ℕ → State → ℕ
 tables_ahead tables AtRoot = tables
@@ -115,7 +115,7 @@ tables_ahead tables (Searching (Comparing at word)) = tables - at.table
 tables_ahead tables (Leaving t) = tables - t
 tables_ahead tables _ = 0
 
--- the steps that are left to a lookup, at most, where there are so many tables
+-- the steps that are left to a lookup, at most, given the number of tables
 abbrev pub lookup_left : ℕ → Machine → ℕ
 lookup_left tables m = 2 ^ 41 * tables_ahead tables m.state + left_in m.made m.state
 
@@ -135,7 +135,7 @@ module _ (tables : ℕ) where
   goes_ahead mode held t (seen.Empty at) place = omega arith
   goes_ahead mode held t (seen.Over u) place = let a = passes_ahead mode held.fill u in omega (arith, place, a)
 
--- a step by which no more tables are ahead lowers what is left
+-- a step after which no more tables are ahead lowers the number of steps that are left
 stays_ahead : {tables tables' steps steps' : ℕ} → tables' ≤ tables → steps' < steps → 2 ^ 41 * tables' + steps' < 2 ^ 41 * tables + steps
 stays_ahead fewer nearer = omega (arith, fewer, nearer)
 
@@ -144,7 +144,7 @@ enters : (tables t n : ℕ) → t < n → n ≤ tables → 2 ^ 41 * (tables - n)
 enters tables t n up low = omega (arith, up, low)
 
 module _ {K V S : Type 0} (store : StoreState K V S) where
-  -- a lookup is here, and a table whose size it asks for is there
+  -- a lookup is in this state, and a table whose size it asks for is there
   abbrev pub IsLooking : State → Type 0
   IsLooking AtRoot = Unit {0}
   IsLooking (Searching (Sizing t)) = (table : TableWords) × (table_of store.words.tables t ≡ Some table)
@@ -170,7 +170,7 @@ module _ {K V S : Type 0} (store : StoreState K V S) where
   passes_looking (Incremental chunk) fill t = tt
   passes_looking Blocking fill t = tt
 
-  -- where a search leads that asks for no table's size next
+  -- the state after a search that asks for no table's size next
   goes_looking : (mode : ResizeMode) (held : Remembered) (t : ℕ) (s : ProbeStep) → SeesPlace t s → IsLooking (goes_as Get mode held s)
   goes_looking mode held t (seen.On (Sizing u)) place = absurd place
   goes_looking mode held t (seen.On (Looking at)) place = tt
@@ -209,7 +209,7 @@ module _ {K V S : Type 0} (store : StoreState K V S) where
     abbrev at_state : State → Machine
     at_state s = record { task = Get; hash = hash; mode = mode; initial = initial; made = made; remembered = held; state = s }
 
-    -- after each answer the lookup goes on, or has replied
+    -- after each answer the lookup continues, or has replied
     looks_in : (s : State) (answer : Answer) → IsLooking s → IsTrueOfStore matches store (asks made hash s) answer → IsLooking (after (at_state s) answer).state
     looks_in AtRoot answer looking told =
         subst (λ a. IsLooking (after (at_state AtRoot) a).state) (sym told)
@@ -252,7 +252,7 @@ module _ {K V S : Type 0} (store : StoreState K V S) where
   unlinked (Next t) = 0
   unlinked at = word_at store.words at
 
-  -- what was read of the numbers for pairs is so of these
+  -- a count of numbers that was read is that of these words
   unlinked_number : (number : Number) → IsNumberRead (λ at. word_at store.words at) number → IsNumberRead unlinked number
   unlinked_number Wanted known = tt
   unlinked_number (Free count) known = known
@@ -333,7 +333,7 @@ module _ {K V S : Type 0} (store : StoreState K V S) where
     lowers_in (Growing t) answer looking read told = absurd looking
 
   module _ (matches : K → Bool) (made : Made) (hash : ℕ) where
-    -- the words that it is told stand in the tables
+    -- the words in its answers are those of the tables
     prompt_in : (task : Task) (sized : (n : ℕ) (t : TableWords) → table_of store.words.tables n ≡ Some t → IsSize (length t.slots) t.limit)
         → (s : State) (answer : Answer) → IsLooking s → IsTrueOfStore matches store (asks made hash s) answer
         → IsPrompt task (λ at. word_at store.words at) (asks made hash s) answer (λ at. word_at store.words at)
@@ -358,7 +358,7 @@ module _ {K V S : Type 0} (store : StoreState K V S) where
     prompt_in task sized (Uncounting n) answer looking told = absurd looking
     prompt_in task sized (Growing t) answer looking told = absurd looking
 
-    -- no pair of the log matches, nor one that isn't there
+    -- no pair of the arena matches, nor one that isn't there
     none_matches : MatchesNone store matches → (n : ℕ) → matches_in matches (pair_of store n) ≡ false
     none_matches none n = go (pair_of store n) refl
       where
@@ -366,7 +366,7 @@ module _ {K V S : Type 0} (store : StoreState K V S) where
         go None is = refl
         go (Some p) is = none n p is
 
-    -- where no pair of the log matches, it is told of none
+    -- if no pair of the arena matches, its answers name none
     unmatched_in : MatchesNone store matches → (s : State) (answer : Answer) → IsLooking s → IsTrueOfStore matches store (asks made hash s) answer
         → IsUnmatched (asks made hash s) answer
     unmatched_in none AtRoot answer looking told = (store.words.root, told)
@@ -411,18 +411,18 @@ none_replies made hash (Noting n) reply none e = absurd none
 none_replies made hash (Uncounting n) reply none e = absurd none
 none_replies made hash (Growing t) reply none e = absurd none
 
--- What is kept of a lookup: where it stands, and how it came there from its begin.
+-- The invariant of a lookup: its state, and the answers from its begin to here.
 pub record IsLookUp {K V S : Type 0} (matches : K → Bool) (store : StoreState K V S) (begun m : Machine) : Type 0 where
   pub task : m.task ≡ Get
   pub looking : IsLooking store m.state
   pub current : IsCurrent (λ at. word_at store.words at) m
-  -- what it replies from here on, it replies from its begin
+  -- a reply from here on is a reply from its begin
   pub told : (answers : List Answer) (reply : Reply) → Replies matches store m answers reply → (all : List Answer) × Replies matches store begun all reply
 
 module _ {K V S : Type 0} (eq : K → K → Bool) (hash : K → ℕ) (mode : Mode) (store : StoreState K V S)
     (lawful : IsLawfulCore {A = Unit {0}} eq hash store [] mode) (keys : IsLawfulKeys eq hash) (matches : K → Bool)
     (m : Machine) (getting : m.task ≡ Get) (looking : IsLooking store m.state) (answer : Answer) (told : IsTrueOfStore matches store (ask_of m) answer) where
-  -- a lookup that is told what stands in the tables goes on, or has replied
+  -- a lookup that is answered from the tables continues, or has replied
   pub lookup_looks : IsLooking store (after m answer).state
   lookup_looks =
       subst (λ task. IsLooking store (after (record m { task = task }) answer).state) (sym getting)
@@ -438,18 +438,18 @@ module _ {K V S : Type 0} (eq : K → K → Bool) (hash : K → ℕ) (mode : Mod
       (lowers_in store matches lawful.core.sizes (core_next_there eq hash [] mode store lawful) (core_next_rises eq hash [] mode store lawful keys)
       m.made m.remembered m.hash m.mode m.initial current.number m.state answer looking current.read told)
 
-  -- and what it has read stands there still
+  -- and a word that it has read is unchanged
   pub lookup_current : IsCurrent (λ at. word_at store.words at) m → IsCurrent (λ at. word_at store.words at) (after m answer)
   lookup_current current =
       machine_stable (λ at. word_at store.words at) (λ at. word_at store.words at) m current.bare answer current.number current.read
       (prompt_in store matches m.made m.hash m.task lawful.core.sizes m.state answer looking told)
 
-  -- where no pair of the log matches, it meets none
+  -- if no pair of the arena matches, it meets none
   pub lookup_meets_none : MatchesNone store matches → HasMetNone m.state → HasMetNone (after m answer).state
   lookup_meets_none none met = machine_meets_none m (subst IsSeeker (sym getting) tt) answer met
       (unmatched_in store matches m.made m.hash none m.state answer looking told)
 
-  -- so what is kept of it is kept
+  -- so its invariant is kept
   pub look_up_goes : (begun : Machine) → IsLookUp matches store begun m → IsLookUp matches store begun (after m answer)
   look_up_goes begun kept =
       record {
@@ -459,7 +459,7 @@ module _ {K V S : Type 0} (eq : K → K → Bool) (hash : K → ℕ) (mode : Mod
         told = λ answers reply replies. kept.told (answer ∷ answers) reply (told, replies);
       }
 
--- and it is kept of one that begins
+-- and holds of one that begins
 pub look_up_begins : {K V S : Type 0} (eq : K → K → Bool) (hash : K → ℕ) (mode : Mode) (store : StoreState K V S)
     → IsLawfulCore {A = Unit {0}} eq hash store [] mode → (matches : K → Bool) (hashed initial : ℕ)
     → IsLookUp matches store (started Get hashed mode.resize initial mode.limit) (started Get hashed mode.resize initial mode.limit)

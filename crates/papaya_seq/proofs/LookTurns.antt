@@ -1,5 +1,5 @@
--- A lookup as a loop over tables: the state to which each turn would bring its machine, which is
--- never run.
+-- A lookup as a loop over tables: the state to which each iteration would bring its machine, which
+-- is never run.
 use Rattle.std.proofs.Common.{◌≡◌, ℕ, ◌<◌, ◌≤◌, ◌==◌, if◌then◌else◌, Bool, List, [], ◌∷◌, Option}
 use Rattle.std.proofs.Common.{Some, None, length, inl, inr, refl, sym, ◌∙◌, ap, subst, arith}
 use Rattle.std.proofs.lemmas.Bool.{cases_eq, ne_eqb}
@@ -31,14 +31,14 @@ use Rattle.papaya_seq.specs.declared.search.ProbeHit.{ProbeHit}
 use Rattle.papaya_seq.specs.declared.search.ProbeHit.TheVariants as turns
 use Rattle.papaya_seq.proofs.LookSteps.{IsLookUp, look_up_begins, look_up_goes, lookup_left, lookup_nears}
 
--- a lookup that loaded the number of a table stands here
+-- a lookup that loaded the number of a table is in this state
 abbrev pub numbered : ℕ → State
 numbered n = if n == 0 then Ended Absent else Searching (Sizing n)
 
 numbered_some : (n : ℕ) → (n ≡ 0 → ⊥) → numbered n ≡ Searching (Sizing n)
 numbered_some n some = ap (λ (b : Bool). if b then Ended Absent else Searching (Sizing n)) (ne_eqb n 0 some)
 
--- a turn that neither goes on, nor found a pair, nor passed the table
+-- a probe that neither continues, nor found a pair, nor passed the table
 pub empty_else : (turn : ProbeHit) → ((at : Place) → turn ≡ turns.Next at → ⊥) → ((at : Place) (word : ℕ) → turn ≡ turns.Here at word → ⊥)
     → ((t : ℕ) → turn ≡ turns.Over t → ⊥) → (at : Place) × (turn ≡ turns.Empty at)
 empty_else (turns.Next at) on here over = absurd (on at refl)
@@ -48,7 +48,7 @@ empty_else (turns.Over t) on here over = absurd (over t refl)
 
 module _ {K V S : Type 0} (eq : K → K → Bool) (hash : K → ℕ) (mode : Mode) (store : StoreState K V S)
     (lawful : IsLawfulCore {A = Unit {0}} eq hash store [] mode) (keys : IsLawfulKeys eq hash) (matches : K → Bool) where
-  -- each answer by what stands in the tables leads a lookup on
+  -- a lookup continues after each answer from the tables
   look_up_comes : (begun : Machine) (answers : List Answer) (m m' : Machine) → IsLookUp matches store begun m → Comes matches store m answers m'
       → IsLookUp matches store begun m' × (lookup_left (length store.words.tables) m' ≤ lookup_left (length store.words.tables) m)
   look_up_comes begun [] m m' kept is = subst (λ (x : Machine). IsLookUp matches store begun x
@@ -76,7 +76,7 @@ module _ {K V S : Type 0} (eq : K → K → Bool) (hash : K → ℕ) (mode : Mod
     abbrev pub left_at : State → ℕ
     left_at s = lookup_left (length store.words.tables) (stands_at s)
 
-    -- one answer led it on
+    -- it continued after one answer
     answered : (s : State) (answer : Answer) → IsTrueOfStore matches store (ask_of (stands_at s)) answer → HasCome s
         → IsLookUp matches store begun (after (stands_at s) answer) × (lookup_left (length store.words.tables) (after (stands_at s) answer) < left_at s)
     answered s answer told kept = (
@@ -84,7 +84,7 @@ module _ {K V S : Type 0} (eq : K → K → Bool) (hash : K → ℕ) (mode : Mod
       lookup_nears eq hash mode store lawful keys matches (stands_at s) kept.task kept.looking answer told kept.current,
     )
 
-    -- a search of the root led on
+    -- it continued after a search of the root
     pub root_led : (seen : ProbeStep) → SeesFrom matches store h AtRoot seen → HasCome (goes begun seen)
     root_led seen sees =
         let came = sees begun in
@@ -123,7 +123,7 @@ module _ {K V S : Type 0} (eq : K → K → Bool) (hash : K → ℕ) (mode : Mod
           absurd cc
     ]
 
-    -- a search of a table led on
+    -- it continued after a search of a table
     pub turned : (at : Place) (turn : ProbeHit) → IsProbeHit matches store h at turn → HasCome (Searching (Looking at)) → HasCome (goes begun (seen_by turn))
         × (left_at (goes begun (seen_by turn)) ≤ left_at (Searching (Looking at)))
     turned at turn is kept =
@@ -138,7 +138,7 @@ module _ {K V S : Type 0} (eq : K → K → Bool) (hash : K → ℕ) (mode : Mod
         let goes = answered (Leaving t) (Word_read (word_at store.words (Next t))) refl (subst HasCome leaves kept) in
         (goes.0, subst (λ s. left_at (numbered (word_at store.words (Next t))) < left_at s) (sym leaves) goes.1)
 
-    -- where no next table is searched, it has ended
+    -- if no next table is searched, it has ended
     pub passed_last : (t : ℕ) → mode.resize ≡ Blocking → HasCome (passes Get mode.resize None t) → HasCome (Ended Absent)
     passed_last t blocking kept = subst HasCome (ap (λ (x : ResizeMode). passes Get x None t) blocking) kept
 

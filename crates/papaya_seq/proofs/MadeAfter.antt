@@ -1,5 +1,5 @@
--- What a call has made, after an answer: a fact that holds after each way in which that changes
--- holds after every answer.
+-- The pairs that a call has made, after an answer: a fact that holds after each kind of change to
+-- them holds after every answer.
 use Rattle.std.proofs.Common.{ℕ, Option, None, Some}
 use Rattle.papaya_call.specs.declared.ask.Answer.{Answer as Call_answer}
 use Rattle.papaya_call.specs.declared.ask.Answer.TheVariants.{Word as Word_read, Exchanged}
@@ -22,7 +22,8 @@ use Rattle.papaya_call.specs.Machine.{after, made_at_exchanged, made_at_op, made
 use Rattle.papaya_call.specs.Write.{serves}
 
 module _ (m : Call_machine) (Holds : Call_answer → Made → Type 0) where
-  -- it stays, what was read of the count of numbers is kept, a number is taken, or a value is answered
+  -- the record stays, the count of numbers that was read is kept, a number is taken, or a value is
+  -- returned
   pub record HoldsOfMade : Type 0 where
     pub same : (a : Call_answer) → Holds a m.made
     pub told : (a : Call_answer) (count : ℕ) → Holds a (number_told (told m.made count) m.made)
@@ -98,7 +99,7 @@ module _ (m : Call_machine) (Holds : Call_answer → Made → Type 0) where
     op_answered kind (Growing need) = h.same a
     op_answered kind (Ended reply) = h.same a
 
-  -- so after each answer, where it holds of what was logged
+  -- so after each answer, if it holds of a stored part
   pub made_after : HoldsOfMade → ((n : ℕ) → Holds (Made_number n) (made_in m.made n m.state)) → (a : Call_answer) → Holds a (after m a).made
   made_after h logged (Word_read word) = word_read h (Word_read word) m.state word
   made_after h logged Exchanged = exchanged h Exchanged m.state

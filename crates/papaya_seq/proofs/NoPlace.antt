@@ -65,11 +65,11 @@ module _ {K V S A : Type 0} (eq : K → K → Bool) (hash : K → ℕ) (law : Is
   root_is : now.root ≡ s.store.words.root
   root_is = ap (λ (l : List (Exchange (Stored K V))). (run l first_state).root) call.split ∙ kept.coded Root
 
-  -- what the exchanges leave of the key is what the map has
+  -- after the exchanges the key has the pair that the map has
   left_in_map : map_in eq s.store call.key ≡ map_left g all call.key
   left_in_map = map_kept eq hash law s es call_traces core kept call.key ∙ ap (λ (l : List (Exchange (Stored K V))). map_left g l call.key) (sym call.split)
 
-  -- where there is no table, no key is in the map
+  -- if there is no table, no key is in the map
   pub rootless_absent : s.store.words.root ≡ 0 → map_in eq s.store call.key ≡ None
   rootless_absent none = left_in_map ∙ (means_map g hashed.lawful all may call.key).no_root (root_is ∙ none)
 

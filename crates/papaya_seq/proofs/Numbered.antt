@@ -45,7 +45,7 @@ pub begun_number : (limit : Option ℕ) (words : At → ℕ) → IsNumberRead wo
 begun_number None words = tt
 begun_number (Some most) words = tt
 
--- how many numbers were taken stays where another word is written
+-- how many numbers were taken stays if another word is written
 put_at_made : (at : At) (n : ℕ) (w : Tables) (word : ℕ) → (put_at at n w word).made ≡ w.made
 put_at_made at n w word = go (n == 0)
   where
@@ -89,7 +89,8 @@ module _ {K V S : Type 0} (s s' : StoreState K V S) where
             (λ (y : StoreState K V S). y.words.made) made.2
       ])
 
-  -- What an answered ask does to the arena of pairs, and to how many numbers were taken for them.
+  -- The effect of an answered ask on the arena of pairs, and on how many numbers were taken for
+  -- them.
   pub record IsLogStep (ask : Ask) (answer : Answer) : Type 0 where
     pub pairs : (length s'.pairs ≡ length s.pairs) ⊎ (IsPairMade ask answer × (length s'.pairs ≡ length s.pairs + 1))
     pub up : s.words.made ≤ s'.words.made
@@ -149,7 +150,7 @@ module _ {K V S A : Type 0} (eq : K → K → Bool) (says : Says K V A) (hash : 
       taken Exchanged plain h = plain refl
       taken told plain h = absurd h
 
-  -- a pair that was logged, or not
+  -- a pair was stored in the arena, or not
   logs : (ask : Call_ask) → (IsTakeAsk ask → ⊥) → (told : Call_answer) → ((n : ℕ) → IsPairMade (asks.Call ask) (answers.Call (Made_number n)))
       → LogsOrNot s r told s' r' → IsLogStep s s' (asks.Call ask) (answers.Call told)
   logs ask plain told pairs (inl (unlogged, same)) = stays ask plain told same.0
@@ -232,7 +233,7 @@ module _ {K V S A : Type 0} (eq : K → K → Bool) (says : Says K V A) (hash : 
       by_ask (asks.Call ask) e (told, is, h) = subst (IsLogStep s s' (asks.Call ask)) (sym is) (call_step ask e told h)
       by_ask (asks.Copy ask) e (h, same) = copy_step ask e answer h
 
--- a pair is logged where something is asked to be
+-- a pair is stored if a part was asked for
 pair_logs : (ask : Ask) (answer : Answer) → IsPairMade ask answer → IsMakingPart ask
 pair_logs (asks.Call MakePair) answer h = tt
 pair_logs (asks.Call (MakePairOf n)) answer h = tt
@@ -241,11 +242,11 @@ pair_logs (asks.Call ask) answer h = absurd h
 pair_logs (asks.Copy ask) answer h = absurd h
 
 module _ {K V S : Type 0} where
-  -- Where there is a limit, a number was taken for each pair, and for the one that a call is to log.
+  -- If there is a limit, a number was taken for each pair, and for the one that a call is to store.
   abbrev pub IsNumbered : Option ℕ → StoreState K V S → Machine → Type 0
   IsNumbered limit s m = (most : ℕ) → limit ≡ Some most → (length s.pairs ≤ s.words.made) × (HasNumber m → length s.pairs < s.words.made)
 
-  -- so it is as a call begins
+  -- this holds as a call begins
   pub numbered_begun : (s : StoreState K V S) (task : Task) (hash : ℕ) (mode : ResizeMode) (initial number : ℕ) (limit : Option ℕ)
       → ((most : ℕ) → limit ≡ Some most → length s.pairs ≤ s.words.made) → IsNumbered limit s (started task hash mode initial number limit)
   numbered_begun s task hash mode initial number limit all most e = (all most e, λ has. let none : Wanted ≡ Taken = sym (ap wanted e) ∙ has in absurd cc)

@@ -1,5 +1,6 @@
--- A map without a pair limit gets one, with some numbers taken. The exchanges that led to its words
--- also lead there without those that took numbers, and then each number is taken in turn.
+-- A map without a pair limit gets one, with some numbers taken. Without the exchanges that take
+-- numbers, the exchanges of its history still give the same words; then each number is taken in
+-- turn.
 use Rattle.std.proofs.Common.{◌≡◌, inl, inr, ℕ, zero, suc, ◌+◌, ◌<◌, ◌≤◌, Bool, List, [], ◌∷◌, ◌++◌}
 use Rattle.std.proofs.Common.{length, MatchOption, Option, None, Some, pos, refl, sym, ◌∙◌, ap}
 use Rattle.std.proofs.Common.{subst, arith}
@@ -29,7 +30,7 @@ use Rattle.papaya_core_timeline.specs.Kept.{IsConsistent, coding_of, low, settin
 use Rattle.papaya_seq.specs.Map.{IsLawfulMap}
 use Rattle.papaya_seq.proofs.RetainLists.{slots_same}
 
--- the same state, but that so many numbers were taken
+-- the same state with `m` numbers taken
 abbrev with_made : {P : Type 0} → ℕ → State P → State P
 with_made m s = record s { made = m }
 
@@ -39,7 +40,7 @@ stripped [] = []
 stripped (Take m ∷ es) = stripped es
 stripped (e ∷ es) = e ∷ stripped es
 
--- so many numbers are taken, from this one on
+-- `count` numbers are taken, from this one on
 abbrev taken_from : {P : Type 0} → (count from : ℕ) → List (Exchange P)
 taken_from zero from = []
 taken_from (suc count) from = Take from ∷ taken_from count (from + 1)
@@ -50,7 +51,7 @@ module _ {K P : Type 0} (g : Setting K P) (limit : Option ℕ) where
   limited = record g { most = limit }
 
   module _ (m : ℕ) (s : State P) where
-    -- the state with so many numbers taken
+    -- the state with `m` numbers taken
     abbrev there : State P
     there = with_made m s
 
@@ -123,7 +124,7 @@ module _ {K P : Type 0} (g : Setting K P) (limit : Option ℕ) where
     allows_there (Abort n) may = record { before = may.before; mode = may.mode; pair = may.pair; source = copied_there n may.pair may.source; full = may.full }
     allows_there (Take n) may = tt
 
-  -- so are all of them
+  -- all of them are allowed there
   all_there : (m : ℕ) (es : List (Exchange P)) (s : State P) → AllAllowed g s es → AllAllowed limited (with_made m s) (stripped es)
   all_there m [] s all = tt
   all_there m (Open t ∷ es) s (may, all) = (allows_there m s (Open t) may, all_there m es (after s (Open t)) all)
@@ -150,7 +151,7 @@ module _ {K P : Type 0} (g : Setting K P) (limit : Option ℕ) where
       below None few = tt
       below (Some n) few = let most = few n refl in omega (arith, most)
 
--- they lead to the same words, with fewer numbers taken
+-- they give the same words, with `m` numbers taken
 stripped_run : {P : Type 0} (m : ℕ) (es : List (Exchange P)) (s : State P) → run (stripped es) (with_made m s) ≡ with_made m (run es s)
 stripped_run m [] s = refl
 stripped_run m (Open t ∷ es) s = stripped_run m es (after s (Open t))
@@ -167,13 +168,13 @@ stripped_run m (Promote t n ∷ es) s = stripped_run m es (after s (Promote t n)
 stripped_run m (Abort n ∷ es) s = stripped_run m es (after s (Abort n))
 stripped_run m (Take n ∷ es) s = stripped_run m es (after s (Take n))
 
--- and then so many are taken
+-- and then `count` more are taken
 taken_run : {P : Type 0} (count from : ℕ) (s : State P) → run (taken_from count from) (with_made from s) ≡ with_made (from + count) s
 taken_run zero from s = ap (λ n. with_made n s) (let e : from ≡ from + 0 = omega arith in e)
 taken_run (suc count) from s = taken_run count (from + 1) s ∙ ap (λ n. with_made n s) (let e : from + 1 + count ≡ from + suc count = omega arith in e)
 
 module _ {K V S : Type 0} (store : StoreState K V S) (made : ℕ) where
-  -- the store with so many numbers taken
+  -- the store with `made` numbers taken
   abbrev pub numbered_store : StoreState K V S
   numbered_store = record store { words = record store.words { made = made } }
 
@@ -260,7 +261,7 @@ module _ {K V S : Type 0} (eq : K → K → Bool) (hash : K → ℕ) (store : St
     apart = λ d e q r x. absurd cc;
   }
 
-  -- and the map is in order, where a number was taken for each pair
+  -- and the map is in order, if a number was taken for each pair
   pub numbered_lawful : length store.pairs ≤ made → IsLawfulMap eq hash store' mode' initial
   numbered_lawful each = record {
     lawful = record {

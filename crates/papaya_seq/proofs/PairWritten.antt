@@ -22,9 +22,9 @@ use Rattle.papaya_seq.specs.Writes.{IsKeyFor, IsStored, IsWritten, slot_of, stor
 use Rattle.papaya_seq.proofs.Exchanging.{exchange_done}
 
 module _ {K V S : Type 0} where
-  -- a pair of this key and this value was logged for what is at hand of a call
+  -- a pair of this key and this value was stored in the arena
   module _ (s : StoreState K V S) (key : K) (value : V) (s' : StoreState K V S) where
-    -- the pair that was logged for such a place, which is an empty one or not
+    -- the pair that was stored for such a place, which is an empty one or not
     abbrev IsPairFor : (empty : Bool) → ℕ → Pair K V → Type 0
     IsPairFor true old p = p ≡ pairs.Own key value
     IsPairFor false old p = (first : ℕ) × (key_from (number_of old) (slice_get s.pairs (number_of old)) ≡ Some first) × (p ≡ pairs.Keyed first value)
@@ -86,7 +86,7 @@ module _ {K V S : Type 0} where
           own_pair : logged.pair ≡ pairs.Own key value
           own_pair = subst (λ b. IsPairFor b write.old logged.pair) (eq-eqb write.old 0 empty) logged.is
 
-      -- or a pair took the place of the one that stood there
+      -- or a pair took the place of the one that was there
       pub was_replaced : (write.old ≡ 0 → ⊥) → (hashed gone : ℕ) → gone ≡ number_of write.old → IsWritten s hashed write key value (Replaced gone n) None s3
       was_replaced some hashed gone gone_is =
           let (first, from, is) = subst (λ b. IsPairFor b write.old logged.pair) (ne_eqb write.old 0 some) logged.is in

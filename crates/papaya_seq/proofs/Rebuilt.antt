@@ -56,7 +56,7 @@ same_power n m (a, is) ((b, is'), least, below) = ⊎_elim
     omega (arith, most, least, is, is'))
     (cases_lt a b)
 
--- a table for three quarters of so many slots has them
+-- a table for three quarters of `n` slots has `n` slots
 four_thirds : (n : ℕ) → IsPowerOfTwo n → 8 < n → n / 4 * 3 * 8 / 6 ≡ n
 four_thirds n (zero, is) more = absurd (omega (arith, is, more))
 four_thirds n (suc zero, is) more = absurd (omega (arith, is, more))
@@ -73,7 +73,7 @@ asks_for initial power more = inr (
       same_power initial entries power (subst (λ n. IsNextPowerOfTwo n entries) (four_thirds initial power more) is),
 )
 
--- so the first table of the map that is built anew is long enough
+-- so the first table of the map that is rebuilt is long enough
 pub asked_long : (initial capacity entries : ℕ) (words : Tables) → IsAskedFor initial capacity → IsEntriesFor capacity entries
     → HasCapacity capacity entries words → IsLongEnough initial words
 asked_long initial capacity entries words (inl (none, few)) is has =
@@ -82,7 +82,7 @@ asked_long initial capacity entries words (inl (none, few)) is has =
 asked_long initial capacity entries words (inr (low, same)) is has = subst (λ n. IsLongEnough n words) (same entries is)
     (new_long capacity entries words is has)
 
--- and there may be such a one
+-- and such a table is allowed
 asked_fits : (initial capacity : ℕ) → initial ≤ 2 ^ 32 → IsAskedFor initial capacity → IsTooMuch capacity → ⊥
 asked_fits initial capacity most (inl (none, few)) (inl over) = absurd (omega (arith, none, over))
 asked_fits initial capacity most (inl (none, few)) (inr (entries, (power, least, below), over)) = let half : entries / 2 < max 1
@@ -105,7 +105,7 @@ module _ {K V S : Type 0} (eq : K → K → Bool) (law : IsEquivalence eq) where
           absurd cc
 
 module _ {K V S : Type 0} (eq : K → K → Bool) (law : IsEquivalence eq) (s : StoreState K V S) where
-  -- the pairs of these numbers, where there are such
+  -- the pairs of these numbers, if there are any
   abbrev with_one : Option (Stored K V) → List (Stored K V) → List (Stored K V)
   with_one None ps = ps
   with_one (Some p) ps = p ∷ ps
@@ -146,7 +146,7 @@ module _ {K V S : Type 0} (eq : K → K → Bool) (law : IsEquivalence eq) (s : 
   abbrev ClonedAt : (K → K → Type 0) → (V → V → Type 0) → K → Option (Stored K V) → Type 0
   ClonedAt CK CV k o = MatchOption o (map_in eq s k ≡ None) (λ p. (q : Stored K V) × (map_in eq s k ≡ Some q) × (CK p.key q.key × CV p.value q.value))
 
-  -- a map of clones has logged a pair for each of them at least
+  -- a map of clones has stored at least one pair for each of them
   logged_least : {Z : Type 0} (CK : K → K → Type 0) (CV : V → V → Type 0) (from : StoreState K V Z) → AreApart eq (λ p. p.key) (content eq from)
       → IsCloned eq CK CV from s → length (content eq from) ≤ length s.pairs
   logged_least CK CV from apart cloned =
@@ -165,7 +165,7 @@ module _ {K V S : Type 0} (eq : K → K → Bool) (law : IsEquivalence eq) (s : 
           (pair_below s own.0.number own.0 there)
 
 module _ {K V S : Type 0} (eq : K → K → Bool) (law : IsEquivalence eq) (CK : K → K → Type 0) (CV : V → V → Type 0) where
-  -- a map without pairs and without a log, once clones were put into it
+  -- a map without pairs and with an empty arena, after clones were inserted
   pub rebuilt_of : ((k l : K) → CK k l → eq k l ≡ true) → (CS : S → S → Type 0) (s new made : MapState K V S)
       → AreApart eq (λ p. p.key) (content eq s.store) → content eq new.store ≡ [] → new.store.pairs ≡ [] → CS s.store.hasher new.store.hasher
       → IsCopied eq CK CV new (map entry_of (content eq s.store)) made → IsRebuilt eq CK CV CS s made
@@ -181,7 +181,7 @@ module _ {K V S : Type 0} (eq : K → K → Bool) (law : IsEquivalence eq) (CK :
         hasher = subst (CS s.store.hasher) (sym copied.fills.keeps.hasher) clones;
       }
 
-  -- a new map that was made for so many pairs
+  -- a new map that was made for `n` pairs
   pub clone_parts : (n : ℕ) (hasher : S) (new made : MapState K V S) (es : List (K × V))
       → IsNew {A = Unit {0}} (Incremental DEFAULT_CHUNK) n 1 hasher (core_of new) → IsCopied eq CK CV new es made → (len : ℕ) → n ≡ len
       → (made.mode ≡ unlimited (Incremental DEFAULT_CHUNK)) × IsEntriesFor len made.initial × (made.store.count.shards ≡ 1)
@@ -191,7 +191,7 @@ module _ {K V S : Type 0} (eq : K → K → Bool) (law : IsEquivalence eq) (CK :
     copied.shards ∙ same_power 1 new.store.count.shards (0, refl) is_new.store_is.count,
   )
 
-  -- parts stay where clones are put in
+  -- parts stay if clones are inserted
   pub parts_on : (s new made : MapState K V S) (es : List (K × V)) → HasFreeParts s new → IsCopied eq CK CV new es made → HasFreeParts s made
   parts_on s new made es parts copied = record {
     mode = copied.fills.keeps.mode ∙ parts.mode;
@@ -240,7 +240,7 @@ module _ {K V S : Type 0} (eq : K → K → Bool) (law : IsEquivalence eq) (CK :
     shards = ap (λ (n : Count). n.shards) count ∙ parts.shards;
   }
 
-  -- so it is where the numbers are set
+  -- the same if the numbers are set
   pub limited_rebuilt : (CS : S → S → Type 0) (s free : MapState K V S) (made : MapState K V S) (n : ℕ) → made.store ≡ numbered_store free.store n
       → IsRebuilt eq CK CV CS s free → IsRebuilt eq CK CV CS s made
   limited_rebuilt CS s free made n is rebuilt = record {
@@ -253,7 +253,7 @@ module _ {K V S : Type 0} (eq : K → K → Bool) (law : IsEquivalence eq) (CK :
     hasher = subst (CS s.store.hasher) (sym (ap (λ (y : StoreState K V S). y.hasher) is)) rebuilt.hasher;
   }
 
-  -- a limit is no cause where there is none
+  -- without a limit, a limit is no cause
   pub cut_below : (from : StoreState K V S) (to left : MapState K V S) → to.mode.limit ≡ None → (e : Refused) → (e ≡ Memory)
       ⊎ IsCopyCut eq CK CV from to e left → e ≡ Limit → ⊥
   cut_below from to left free e (inl memory) is = let f : Memory ≡ Limit = sym memory ∙ is in cc f
@@ -264,7 +264,7 @@ module _ {K V S : Type 0} (eq : K → K → Bool) (law : IsEquivalence eq) (CK :
         ∙ ap (λ (m : Mode). m.limit) (sym cut.cut.fills.keeps.mode) ∙ spent in cc f
   ]
 
-  -- a map has no more pairs than it has logged
+  -- a map has no more pairs than it has stored
   pub pairs_logged : (s : StoreState K V S) → AreApart eq (λ p. p.key) (content eq s) → length (content eq s) ≤ length s.pairs
   pairs_logged s apart = logged_least eq law s (λ k l. Unit {0}) (λ v w. Unit {0}) s apart (λ k. own (map_in eq s k))
     where
@@ -307,7 +307,7 @@ module _ {K V S : Type 0} (eq : K → K → Bool) (law : IsEquivalence eq) (CK :
     cause = inr (roomy, empty', parts', cut);
   }))
 
--- clones are equal where clones of values are
+-- clones are equal if clones of values are
 pub clones_equal : {K V S : Type 0} (eq : K → K → Bool) (CK : K → K → Type 0) (CV : V → V → Type 0) (same : V → V → Bool)
     → ((v w : V) → CV v w → same v w ≡ true) → (s s' : StoreState K V S) → IsCloned eq CK CV s s' → AreEqual eq same s s'
 clones_equal {K} {V} {S} eq CK CV same equal s s' cloned k = of_option (map_in eq s k) (cloned k)

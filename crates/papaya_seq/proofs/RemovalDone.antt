@@ -1,4 +1,4 @@
--- What a removal that has replied leaves.
+-- The map after a removal that has replied.
 use Rattle.std.proofs.Common.{◌≡◌, ⊎_elim, ◌⊎◌, inl, inr, ℕ, Bool, true, List, ◌∙◌, ap, refl}
 use Rattle.std.proofs.lemmas.Bool.{cases_eq}
 use denote.Ref.{Bor}
@@ -26,7 +26,7 @@ use Rattle.papaya_seq.proofs.Removing.{log_kept, removal_by}
 use Rattle.papaya_seq.proofs.SeekLaw.{seek_ends, seek_lawful}
 use Rattle.papaya_seq.proofs.Turns.{IsOver}
 
--- what it did, that it is refused for a cause alone, and what stays
+-- its effect; it is refused only for a cause; and the parts that stay
 pub record RemovalDone {K V S F : Type 0} (g : Mut F (Bor K × (Bor V × Unit {0})) Bool) (eq : K → K → Bool) (hash : S → K → ℕ) (matches : K → Bool)
     (map : MapState K V S) (agrees f : F) (reply : Reply) (s' : MapState K V S) : Type 0 where
   pub whole : IsRemovalBy eq matches (Judges g agrees) map.store reply s'.store
@@ -44,12 +44,12 @@ module _ {K V S H F : Type 0} (g : Mut F (Bor K × (Bor V × Unit {0})) Bool) (e
   abbrev hash : S → K → ℕ
   hash = hash_of input build write finish
 
-  -- where a pair matches, the removal is that by the pair's key, made alone
+  -- if a pair matches, the removal is that by the pair's key, made alone
   made : (has : HasMatch g eq hash matches hashed map agrees later f m) → IsOver eq hash map (removal_by has.one.pair.key) later reply
   made has = matched_over g eq hash matches hashed map agrees has.one.pair.key (key_of g eq hash matches hashed map agrees query has.one) later f m
       has.run reply ends
 
-  -- where it is refused, pairs were being moved
+  -- if it is refused, pairs were being moved
   moving : (refused : Refused) → ask_of m ≡ asks.Call (Ask_done (Reply_refused refused)) → IsResizing map
   moving refused told = by_next (cases_eq (next_of map.store) 0)
     where

@@ -42,7 +42,7 @@ use Rattle.papaya_seq.proofs.Initial.{chain_initial}
 use Rattle.papaya_seq.proofs.SeekTurns.{IsAnswered}
 use Rattle.papaya_seq.proofs.Sizes.{IsSizedLink, is_sized, link_asked, machine_sized, sized_as, sized_beside}
 
--- each table is as long after a write as before it, also where none has the place
+-- each table is as long after a write as before it, also if no table has the address
 put_at_grown : (w : Tables) (at : At) (n word : ℕ) → HasMoreTables w.tables (put_at at n w word).tables
 put_at_grown w at n word = by_table (table_of w.tables n) refl
   where
@@ -117,7 +117,8 @@ module _ {K V S F : Type 0} (eq : K → K → Bool) (hash : S → K → ℕ) (g 
   answered_grown (asks.Copy ask) s f answer s' f' (done, same) = copy_grown eq hash ask s answer s' done
 
   module _ (map : MapState K V S) where
-    -- What holds between two answers: by which table the length of a next one is counted, and the initial capacity.
+    -- The facts between two answers: the table by which the length of a next one is computed, and
+    -- the initial capacity.
     pub record IsCounting (s : StoreState K V S) (m : Machine) : Type 0 where
       pub sized : In (IsSizedLink (HasSlots s)) (link_in m.phase)
       pub initial : m.call.initial ≡ map.initial
@@ -128,7 +129,7 @@ module _ {K V S F : Type 0} (eq : K → K → Bool) (hash : S → K → ℕ) (g 
 
     module _ (s : StoreState K V S) (f : F) (m : Machine) (answer : Answer) (s' : StoreState K V S) (f' : F)
         (answered : IsAnswered eq hash g matches (ask_of m) s f answer s' f') (now : IsCounting s m) where
-      -- what is answered where it asks this
+      -- the answer to this ask
       answered_at : (ask : Ask) → ask_of m ≡ ask → IsAnswered eq hash g matches ask s f answer s' f'
       answered_at ask e = subst (λ (a : Ask). IsAnswered eq hash g matches a s f answer s' f') e answered
 
@@ -136,7 +137,7 @@ module _ {K V S F : Type 0} (eq : K → K → Bool) (hash : S → K → ℕ) (g 
       still_there : (behind slots : ℕ) → HasSlots s behind slots → HasSlots s' behind slots
       still_there behind slots (t, there, is) = let more = answered_grown (ask_of m) s f answer s' f' answered behind t there in (more.0, more.1, more.2 ∙ is)
 
-      -- a table's size that was answered
+      -- the size of a table in an answer
       told_size : (slots limit : ℕ) → answer ≡ answers.Call (Size slots limit) → (behind copied : ℕ) (unfit : Bool)
           → link_in m.phase ≡ Some (links.Sizing behind copied unfit) → HasSlots s' behind slots
       told_size slots limit is behind copied unfit e =
@@ -187,7 +188,7 @@ module _ {K V S F : Type 0} (eq : K → K → Bool) (hash : S → K → ℕ) (g 
             table_long map s s' refused because.capacity because.behind because.slots because.unfit
             (is_sized (HasSlots s) (link_in m.phase) now.sized because.behind because.slots because.copied because.unfit because.link) at_initial stays
 
-        -- so a refusal is one of a next table, where it asks nothing of the numbers for pairs
+        -- so a refusal is one of a next table, unless the call asks for numbers for pairs
         pub cause_table : (IsNumberAsk (calls.ask_of m.call) → ⊥) → IsCause m answer refused → IsNoTableRefusal then refused
         cause_table unnumbered (inl by) =
             let (told, is, removes) = answered_at (asks.Call (calls.ask_of m.call)) (ap (asks_in m.call) by.own.phase) in

@@ -1,4 +1,4 @@
--- A removal that has replied did to the finite map what its reply says.
+-- The effect of a removal that has replied on the finite map is the one of its reply.
 use Rattle.std.proofs.Common.{◌≡◌, ⊎_elim, ◌⊎◌, ℕ, Bool, true, false, Option, Some, None, refl, sym, ◌∙◌, ap, subst}
 use denote.Ref.{Bor}
 use Rattle.std.proofs.lemmas.Bool.{cases_Bool}
@@ -38,7 +38,7 @@ module _ {K V S F : Type 0} (g : Mut F (Bor K × (Bor V × Unit {0})) Bool) (eq 
   one_pair : (i j : K) → eq i j ≡ true → map_in eq s i ≡ map_in eq s j
   one_pair i j = lookup_alike eq classes (λ (p : Stored K V). p.key) (content eq s) i j
 
-  -- a class that has what it had
+  -- a class that keeps its pair
   unchanged : (o : Option (Stored K V)) → IsUpdate eq k o o (map_in eq s) (map_in eq s') → Unchanged eq s s'
   unchanged o update j =
       ⊎_elim
@@ -52,7 +52,7 @@ module _ {K V S F : Type 0} (g : Mut F (Bor K × (Bor V × Unit {0})) Bool) (eq 
       let holds = lookup_holds eq matches k alike s p here in
       record { held = holds; logged = ap (pair_of s) (sym number) ∙ logged_content s eq p holds.there }
 
-  -- the closure judged that very pair
+  -- the closure was called with that pair
   said : (p : Stored K V) (n : ℕ) (answered : Bool) → pair_of s n ≡ Some p → IsJudged g matches s agrees (Some (Agrees n answered)) f
       → Judges g agrees p answered
   said p n answered logged (q, there, judges) =
@@ -60,7 +60,7 @@ module _ {K V S F : Type 0} (g : Mut F (Bor K × (Bor V × Unit {0})) Bool) (eq 
       let is : Some q ≡ Some p = sym there ∙ logged in let same : q ≡ p = cc in
       subst (λ (y : Stored K V). Judges g agrees y answered) same (key, value, f, key_is, value_is, called)
 
-  -- it went
+  -- it was removed
   removes : (p : Stored K V) → IsUpdate eq k (Some p) None (map_in eq s) (map_in eq s') → Removes eq matches s p s'
   removes p update =
       let holds = lookup_holds eq matches k alike s p update.before in
@@ -117,7 +117,7 @@ module _ {K V S F : Type 0} (g : Mut F (Bor K × (Bor V × Unit {0})) Bool) (eq 
   aborted_not t None came does = does
   aborted_not t (Some p) came does = does
 
-  -- what the finite map does in the removal of an owned key
+  -- the effect on the finite map of the removal of an owned key
   pub removal_done : (reply : Reply) → IsAnswered eq (removal_by k) (map_in eq s) reply (map_in eq s')
       → IsJudged g matches s agrees (result_of_removal reply) f → IsRemoval eq matches (Judges g agrees) s reply s'
   removal_done Absent answered judged =
@@ -142,7 +142,7 @@ module _ {K V S F : Type 0} (g : Mut F (Bor K × (Bor V × Unit {0})) Bool) (eq 
   removal_done (Replaced m n) answered judged = absurd (replaced_not m n answered.went answered.came answered.does)
   removal_done (Occupied n) answered judged = absurd (occupied_not n answered.went answered.came answered.does)
 
--- the closure was called for what was replied
+-- the closure was called for the reply
 pub called_for : {K V S F : Type 0} (g : Mut F (Bor K × (Bor V × Unit {0})) Bool) (matches : K → Bool) (s : StoreState K V S) (agrees f : F)
     (reply : Reply) → IsJudged g matches s agrees (result_of_removal reply) f → IsCalledFor g s reply agrees f
 called_for g matches s agrees f Absent judged = judged
@@ -156,7 +156,7 @@ called_for g matches s agrees f (Inserted n) judged = judged
 called_for g matches s agrees f (Replaced m n) judged = judged
 called_for g matches s agrees f (Occupied n) judged = judged
 
--- and where no pair was found, it was not called
+-- and if no pair was found, it was not called
 pub called_none : {K V S F : Type 0} (g : Mut F (Bor K × (Bor V × Unit {0})) Bool) (s : StoreState K V S) (agrees f : F) (reply : Reply)
     → IsAbsentOrRefused reply → f ≡ agrees → IsCalledFor g s reply agrees f
 called_none g s agrees f reply ends same =

@@ -126,7 +126,7 @@ passes_root : (root : ℕ) (mode : ResizeMode) (fill : Option ℕ) (t : ℕ) →
 passes_root root (Incremental chunk) fill t here = here
 passes_root root Blocking fill t here = tt
 
--- where a search of it leads
+-- the state after a search of it
 goes_root : (root : ℕ) (mode : ResizeMode) (held : Remembered) (sight : ProbeStep) → IsSeenIn (λ word. IsSettledKind (kind_of word)) root sight
     → IsRootStage root (goes_as RemoveIf mode held sight)
 goes_root root mode held (seen.On search) is = is

@@ -50,7 +50,7 @@ ended_at m reply e = by_phase m.phase e
 
 module _ {K V S F : Type 0} (g : Mut F (Bor K × (Bor V × Unit {0})) Bool) (eq : K → K → Bool) (hash : S → K → ℕ) (matches : K → Bool) (hashed : ℕ)
     (map : MapState K V S) (agrees : F) where
-  -- The map is in order, and this key is equal to those that match, and hashes so.
+  -- The map is in order, and this key is equal to those that match, and has this hash.
   pub record IsKey (k : K) : Type 0 where
     pub keys : IsLawfulKeys eq (hash map.store.hasher)
     pub lawful : IsLawfulMap eq (hash map.store.hasher) map.store map.mode map.initial
@@ -58,7 +58,8 @@ module _ {K V S F : Type 0} (g : Mut F (Bor K × (Bor V × Unit {0})) Bool) (eq 
     pub hashes : hash map.store.hasher k ≡ hashed
     pub fits : hashed < 2 ^ 64
 
-  -- The removal came there as one by this key, and its closure was called at most once. Where no pairs are being moved, it is in the root table.
+  -- The removal came there as one by this key, and its closure was called at most once. While no
+  -- pairs are being moved, it is in the root table.
   pub record IsMatchedRun (k : K) (s : StoreState K V S) (f : F) (m : Machine) : Type 0 where
     pub came : HasCome eq hash map (keyed_removal k) s (removing m k)
     pub judged : IsJudged g matches map.store agrees (result_in RemoveIf m.call.state) f
@@ -80,11 +81,11 @@ module _ {K V S F : Type 0} (g : Mut F (Bor K × (Bor V × Unit {0})) Bool) (eq 
     going : reply_in (ask_of m) ≡ None
     going = answered_going g eq hash matches (ask_of m) s f answer s' f' told
 
-    -- the key's own removal is answered so
+    -- the key's own removal gets the same answer
     performs : PerformsAsk eq whatever hash false (ask_of m) s (removing m k) answer s' (removing m k)
     performs = performed g eq hash matches k key.alike m now.came.task (ask_of m) s f answer s' f' told
 
-    -- it stands as it stood, and what it has read stands there
+    -- it is still valid, and a word that it has read is unchanged
     stands : IsValid m
     stands = (now.came.lone going).lawful.core.valid 0 (removing m k) refl
 
@@ -126,6 +127,6 @@ module _ {K V S F : Type 0} (g : Mut F (Bor K × (Bor V × Unit {0})) Bool) (eq 
     matched_over = made_alone eq hash map (keyed_removal k) key.keys key.lawful (subst (λ h. h < 2 ^ 64) (sym key.hashes) key.fits) s (removing m k)
         reply (ap reply_in ends) (λ _ _ _. now.came)
 
-    -- its reply is what its closure said
+    -- its reply has the result of its closure
     pub matched_judged : IsJudged g matches map.store agrees (result_of_removal reply) f
     matched_judged = subst (λ st. IsJudged g matches map.store agrees (result_in RemoveIf st) f) (ended_at m reply ends) now.judged

@@ -50,7 +50,7 @@ use Rattle.papaya_seq.specs.Looks.{matches_in}
 use Rattle.papaya_seq.specs.Removes.{IsRemovalAnswer, IsShown, JudgesTo}
 use Rattle.papaya_seq.proofs.SeekTurns.{IsAnswered}
 
--- A state in which a removal stands on nothing that its closure said.
+-- A state of a removal that depends on no result of its closure.
 abbrev pub IsWithoutResult : State → Type 0
 IsWithoutResult state = result_in RemoveIf state ≡ None
 
@@ -66,7 +66,7 @@ removes_unsaid kinds.Copied at word = refl
 removes_unsaid kinds.Buried at word = refl
 removes_unsaid kinds.Closed at word = refl
 
--- a search leads to such a state
+-- the state after a search is one
 goes_unsaid : (mode : ResizeMode) (held : Remembered) (sight : ProbeStep) → IsWithoutResult (goes_as RemoveIf mode held sight)
 goes_unsaid mode held (seen.On search) = refl
 goes_unsaid mode held (seen.Empty at) = refl
@@ -101,7 +101,7 @@ aside_unsaid (Uncounting n) t e = absurd cc
 aside_unsaid (Ended reply) t e = absurd cc
 
 module _ {K V S F : Type 0} (g : Mut F (Bor K × (Bor V × Unit {0})) Bool) (matches : K → Bool) (first : StoreState K V S) (agrees : F) where
-  -- the closure is as it was handed in, or was called once, at the pair that it answered for
+  -- the closure is as it was passed in, or was called once, with the pair for which it returned
   abbrev pub IsJudged : Option ClosureResult → F → Type 0
   IsJudged None f = f ≡ agrees
   IsJudged (Some (Agrees n answered)) f = (p : Stored K V) × (pair_of first n ≡ Some p) × JudgesTo g agrees f p answered
@@ -113,7 +113,7 @@ module _ {K V S F : Type 0} (g : Mut F (Bor K × (Bor V × Unit {0})) Bool) (mat
   abbrev pub IsJudgedIn : State → F → Type 0
   IsJudgedIn state f = IsJudged (result_in RemoveIf state) f
 
-  -- one that asks to show a pair has not called its closure
+  -- one that asks to call its closure with a pair has not called it before
   pub yet_uncalled : (made : Made) (hashed : ℕ) (state : State) (n : ℕ) → IsValidState RemoveIf state → call_asks made hashed state ≡ ShowPair n
       → (f : F) → IsJudgedIn state f → f ≡ agrees
   yet_uncalled made hashed AtRoot n stands asks f judged = judged
@@ -148,7 +148,7 @@ module _ {K V S F : Type 0} (g : Mut F (Bor K × (Bor V × Unit {0})) Bool) (mat
       sized_unsaid t None = refl
       sized_unsaid t (Some table) = refl
 
-      -- a pair that is shown
+      -- the closure is called with a pair
       shown_judged : (removal : Removal) (answer : Call_answer) (o : Option (Stored K V)) → pair_of s (number_of removal.word) ≡ o → f ≡ agrees
           → IsShown g o f answer f' → IsJudgedIn (call_after (at (Showing removal)) answer).state f'
       shown_judged removal answer None is alike (e, same) = subst (λ a. IsJudgedIn (call_after (at (Showing removal)) a).state f') (sym e) (same ∙ alike)
@@ -250,7 +250,7 @@ module _ {K V S F : Type 0} (g : Mut F (Bor K × (Bor V × Unit {0})) Bool) (mat
         → IsAnswered eq hash g matches (ask_of m) s f answer s' f' → IsJudgedIn (after m answer).call.state f'
     judged_more m task answer goes stands read judged told = by_way goes
       where
-        -- where it is set aside
+        -- if it is set aside
         aside : (t : ℕ) → left_by m.call.state ≡ Some t → (call : Call_machine) → IsWithoutResult call.state → (after m answer).call ≡ call
             → IsJudgedIn (after m answer).call.state f'
         aside t left call unsaid is =

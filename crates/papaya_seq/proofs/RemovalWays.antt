@@ -57,7 +57,7 @@ module _ {K V S F : Type 0} (g : Mut F (Bor K × (Bor V × Unit {0})) Bool) (eq 
     pub hashes : (k : K) → matches k ≡ true → hash map.store.hasher k ≡ hashed
     pub fits : hashed < 2 ^ 64
 
-  -- so a key that matches stands for it
+  -- so the call by a key that matches is the same removal
   pub key_by : IsQuery → (k : K) → matches k ≡ true → IsKey g eq hash matches hashed map agrees k
   key_by query k matched = record {
     keys = query.keys;
@@ -70,19 +70,19 @@ module _ {K V S F : Type 0} (g : Mut F (Bor K × (Bor V × Unit {0})) Bool) (eq 
   pub key_of : IsQuery → (one : IsMatched map.store matches) → IsKey g eq hash matches hashed map agrees one.pair.key
   key_of query one = key_by query one.pair.key one.matched
 
-  -- A logged pair matches.
+  -- A pair of the arena matches.
   pub record HasMatch (s : StoreState K V S) (f : F) (m : Machine) : Type 0 where
     pub one : IsMatched map.store matches
     pub run : IsMatchedRun g eq hash matches hashed map agrees one.pair.key s f m
 
-  -- No logged pair matches. Where no pairs are being moved, the removal is in the root table.
+  -- No pair of the arena matches. While no pairs are being moved, the removal is in the root table.
   pub record HasNoMatch (s : StoreState K V S) (f : F) (m : Machine) : Type 0 where
     pub none : MatchesNone map.store matches
     pub seeking : IsSeeking eq hash map hashed s m
     pub rooted : next_of map.store ≡ 0 → IsInRoot map.store s m
     pub uncalled : f ≡ agrees
 
-  -- What holds between two asks.
+  -- The facts that hold between two asks.
   pub record IsUnderWay (s : StoreState K V S) (f : F) (m : Machine) : Type 0 where
     pub log : IsLogOf map.store s
     pub way : (query : IsQuery) → HasMatch s f m ⊎ HasNoMatch s f m
@@ -118,7 +118,7 @@ module _ {K V S F : Type 0} (g : Mut F (Bor K × (Bor V × Unit {0})) Bool) (eq 
     going : reply_in (ask_of m) ≡ None
     going = answered_going g eq hash matches (ask_of m) s f answer s' f' told
 
-    -- where none matches, it stays in the root table
+    -- if none matches, it stays in the root table
     rooted_more : IsQuery → HasNoMatch s f m → next_of map.store ≡ 0 → IsInRoot map.store s' (after m answer)
     rooted_more query lacks single =
         let seeking = lacks.seeking in
@@ -136,7 +136,7 @@ module _ {K V S F : Type 0} (g : Mut F (Bor K × (Bor V × Unit {0})) Bool) (eq 
         told refused e)
         (now.way query)
 
-    -- it asks nothing of the numbers for pairs
+    -- it does not ask for numbers for pairs
     unnumbered : IsQuery → IsNumberAsk (call_ask_of m.call) → ⊥
     unnumbered query = removal_numbers m.call.made m.call.hash m.call.state (⊎_elim
         (λ (has : HasMatch s f m). matched_stands g eq hash matches hashed map agrees has.one.pair.key (key_of query has.one) s f m has.run now.log
@@ -183,7 +183,7 @@ module _ {K V S F : Type 0} (g : Mut F (Bor K × (Bor V × Unit {0})) Bool) (eq 
         (λ (lacks : HasNoMatch s f m). seek_fit eq hash g matches map hashed query.keys query.fits lacks.none s m f answer s' f' lacks.seeking going told)
         (now.way query)
 
-  -- it is a removal, which asks for itself what removals ask
+  -- it is a removal, whose own asks are those of removals
   pub asked_so : IsQuery → (s : StoreState K V S) (f : F) (m : Machine) → IsUnderWay s f m → IsValid m → (ask : Call_ask)
       → ask_of m ≡ asks.Call ask → ((reply : Reply) → ask ≡ Ask_done reply → ⊥) → IsRemovalAsk ask
   asked_so query s f m now stands ask e going =
@@ -193,7 +193,7 @@ module _ {K V S F : Type 0} (g : Mut F (Bor K × (Bor V × Unit {0})) Bool) (eq 
       subst IsRemovalAsk is (removal_asks m.call.made m.call.hash m.call.state (subst (λ t. IsValidState t m.call.state) task stands.call.state)
       (λ reply done. going reply (sym is ∙ done)))
 
-  -- where it asks to show a pair, it has not called its closure
+  -- if it asks to call its closure with a pair, it has not called it before
   pub shows_first : IsQuery → (s : StoreState K V S) (f : F) (m : Machine) → IsUnderWay s f m → IsValid m → (n : ℕ)
       → ask_of m ≡ asks.Call (ShowPair n) → f ≡ agrees
   shows_first query s f m now stands n e = ⊎_elim
@@ -203,7 +203,7 @@ module _ {K V S F : Type 0} (g : Mut F (Bor K × (Bor V × Unit {0})) Bool) (eq 
       (now.way query)
 
   module _ (s : StoreState K V S) (f : F) (m : Machine) (now : IsUnderWay s f m) (query : IsQuery) (single : next_of map.store ≡ 0) where
-    -- where no pairs are being moved, it is in the root table
+    -- while no pairs are being moved, it is in the root table
     in_root : IsInRoot map.store s m
     in_root = ⊎_elim (λ (has : HasMatch s f m). has.run.rooted single) (λ (lacks : HasNoMatch s f m). lacks.rooted single) (now.way query)
 

@@ -1,4 +1,4 @@
--- What the reply of a removal says about the pair that the call returns for it.
+-- The meaning of a removal's reply for the pair that the call returns.
 use Rattle.std.proofs.Common.{◌≡◌, ℕ, Bool, true, false, Option, Some, None, Result, Ok, Err, MatchOption, Bor, sym, ◌∙◌, ap, refl, subst, option_map}
 use Rattle.papaya_words.specs.declared.refused.Refused.{Refused}
 use Rattle.papaya_call.specs.declared.call.Reply.TheVariants as replies
@@ -8,18 +8,18 @@ use Rattle.papaya_seq.specs.Map.{HasNone, Holds, KeepsRemoving, MapState, Remove
 use Rattle.papaya_seq.specs.Removes.{IsHeld, IsJudged, IsRemoval, IsRemoved}
 
 module _ {K V S : Type 0} (eq : K → K → Bool) (matches : K → Bool) (said : Stored K V → Bool → Type 0) (s s' : MapState K V S) (n : ℕ) where
-  -- what a map shows of a pair by its number
+  -- the entry that a map gives for a pair, by its number
   abbrev pub IsShown : StoreState K V S → Option (Bor K × Bor V) → Type 0
   IsShown store found = MatchOption found (pair_of store n ≡ None) (λ f. pair_of store n ≡ Some (record { number = n; key = f.0.now; value = f.1.now }))
 
-  -- the entry of a logged pair is shown
+  -- the entry of a pair of the arena is given
   entry_is : (p : Stored K V) (f : Bor K × Bor V) → pair_of s'.store n ≡ Some p → IsShown s'.store (Some f) → entry_of p ≡ deref_pair f
   entry_is p f is shown =
       let both : Some p ≡ Some (record { number = n; key = f.0.now; value = f.1.now }) = sym is ∙ shown in
       let same : p ≡ record { number = n; key = f.0.now; value = f.1.now } = cc both in
       ap entry_of same
 
-  -- the pair that was removed is shown
+  -- the pair that was removed is given
   pub removed_shown : (found : Option (Bor K × Bor V)) → IsRemoval eq matches said s.store (replies.Removed n) s'.store → KeepsRemoving s s'
       → IsShown s'.store found
       → IsRemoved eq matches entry_of s (Ok (option_map deref_pair found)) s' × IsJudged eq matches said s (Ok (Ok (option_map deref_pair found))) s'
@@ -29,7 +29,7 @@ module _ {K V S : Type 0} (eq : K → K → Bool) (matches : K → Bool) (said :
       let is = entry_is p f (keeps.0.pairs n p held.logged) shown in
       ((p, is, removes, keeps), (p, is, removes, agreed, keeps), (p, held.held, agreed, ap (λ (e : K × V). e.0) is, ap (λ (e : K × V). e.1) is))
 
-  -- the pair that stays is shown
+  -- the pair that stays is given
   pub kept_shown : (f : Bor K × Bor V) → IsRemoval eq matches said s.store (replies.Kept n) s'.store → KeepsRemoving s s' → IsShown s'.store (Some f)
       → IsJudged eq matches said s (Ok (Err (deref_pair f))) s'
       × ((p : _) × Holds eq matches s.store p × said p false × (p.key ≡ f.0.now) × (p.value ≡ f.1.now))
@@ -57,7 +57,7 @@ module _ {K V S : Type 0} (eq : K → K → Bool) (matches : K → Bool) (said :
       → reply ≡ replies.Kept m → ⊥
   never_kept reply d agrees m is = let kept = subst (λ r. IsRemoval eq matches said s.store r s'.store) is d in agrees kept.0 kept.3
 
-  -- the same of a reply that is known to be this one
+  -- the same for a reply that is known to be this one
   pub removed_by : (reply : _) (found : Option (Bor K × Bor V)) → reply ≡ replies.Removed n → IsRemoval eq matches said s.store reply s'.store
       → KeepsRemoving s s' → IsShown s'.store found
       → IsRemoved eq matches entry_of s (Ok (option_map deref_pair found)) s' × IsJudged eq matches said s (Ok (Ok (option_map deref_pair found))) s'
@@ -72,7 +72,7 @@ module _ {K V S : Type 0} (eq : K → K → Bool) (matches : K → Bool) (said :
       (subst (λ o. IsShown s'.store o) one shown)
 
 module _ {K V S : Type 0} (eq : K → K → Bool) (matches : K → Bool) (s s' : MapState K V S) (n : ℕ) where
-  -- the same where nothing is known of a closure
+  -- the same if nothing is known about the closure
   pub removed_entry : (p : Stored K V) (found : Option (Bor K × Bor V)) → IsHeld eq matches n s.store p → Removes eq matches s.store p s'.store
       → KeepsRemoving s s' → IsShown eq matches (λ _ _. Unit {0}) s s' n s'.store found
       → IsRemoved eq matches entry_of s (Ok (option_map deref_pair found)) s'
@@ -92,7 +92,7 @@ module _ {K V S : Type 0} (eq : K → K → Bool) (matches : K → Bool) (s s' :
       let is = ap (λ (e : K × V). e.1) r.1 in
       ((r.0, is, r.2, r.3), (r.0, r.2.held, is))
 
-  -- of none, and of a refusal
+  -- no value, of none and of a refusal
   pub removed_no_value : (result : Result (Option (Bor K × Bor V)) Refused) (found : Option (Bor K × Bor V)) → result ≡ Ok found → found ≡ None
       → IsRemoved eq matches entry_of s (entry_answered result) s' → IsRemoved {R = V} eq matches (λ p. p.value) s (Ok None) s'
   removed_no_value result found was none h = subst (λ o. IsRemoved eq matches entry_of s (entry_answered o) s') (was ∙ ap Ok none) h

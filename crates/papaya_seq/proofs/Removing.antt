@@ -47,7 +47,7 @@ use Rattle.papaya_seq.specs.Looks.{matches_in}
 use Rattle.papaya_seq.specs.Removes.{IsRemovalAnswer, IsRemovalAsk, IsShown}
 use Rattle.papaya_seq.proofs.SeekTurns.{IsAnswered}
 
--- the removal by a key of the map's own type, whatever a closure answers
+-- the removal by a key of the map's own type, for any result of a closure
 abbrev pub removal_by : {K V : Type 0} → K → Call K V (Unit {0})
 removal_by k = RemoveIf_call k tt
 
@@ -55,7 +55,7 @@ removal_by k = RemoveIf_call k tt
 abbrev pub removing : {K V : Type 0} → Machine → K → Running K V (Unit {0})
 removing m k = record { machine = m; key = Own k; value = None; answers = Some tt }
 
--- the log and the hasher are as they were
+-- the arena and the hasher are as they were
 pub record IsLogOf {K V S : Type 0} (s s' : StoreState K V S) : Type 0 where
   pub pairs : s'.pairs ≡ s.pairs
   pub hasher : s'.hasher ≡ s.hasher
@@ -70,7 +70,7 @@ same_log {K} {V} {S} s s' same = record {
 pub log_more : {K V S : Type 0} (first s s' : StoreState K V S) → IsLogOf first s → IsLogOf s s' → IsLogOf first s'
 log_more first s s' log more = record { pairs = more.pairs ∙ log.pairs; hasher = more.hasher ∙ log.hasher }
 
--- so each pair is logged as it was
+-- so each pair is in the arena as it was
 pub log_kept : {K V S : Type 0} (s s' : StoreState K V S) → IsLogOf s s' → (n : ℕ) → pair_of s' n ≡ pair_of s n
 log_kept s s' log n = ap (λ pairs. stored_in pairs n (slice_get pairs n)) log.pairs
 
@@ -80,7 +80,8 @@ same_matches : {K V : Type 0} (eq : K → K → Bool) (matches : K → Bool) (k 
 same_matches eq matches k alike None = refl
 same_matches eq matches k alike (Some p) = alike p.key
 
--- what a removal asks for itself, where its machine stands: it makes nothing, and shows only a pair
+-- a removal's own asks, in each state of its machine: it makes nothing, and calls its closure only
+-- with a pair
 pub removal_asks : (made : Made) (hash : ℕ) (state : State) → IsValidState RemoveIf state
     → ((reply : Reply) → call_asks made hash state ≡ Ask_done reply → ⊥) → IsRemovalAsk (call_asks made hash state)
 removal_asks made hash AtRoot stands going = tt
@@ -103,7 +104,7 @@ removal_asks made hash (Leaving t) stands going = tt
 removal_asks made hash (Growing need) stands going = tt
 removal_asks made hash (Ended reply) stands going = absurd (going reply refl)
 
--- and it asks nothing of the numbers for pairs
+-- and it does not ask for numbers for pairs
 pub removal_numbers : (made : Made) (hash : ℕ) (state : State) → IsValidState RemoveIf state → IsNumberAsk (call_asks made hash state) → ⊥
 removal_numbers made hash AtRoot stands asks = asks
 removal_numbers made hash Making stands asks = asks
@@ -126,7 +127,7 @@ removal_numbers made hash (Growing need) stands asks = asks
 removal_numbers made hash (Ended reply) stands asks = asks
 
 module _ {K V S F : Type 0} (g : Mut F (Bor K × (Bor V × Unit {0})) Bool) (eq : K → K → Bool) (hash : S → K → ℕ) (matches : K → Bool) where
-  -- an ask of the call that was answered so, and one of a copy, in the words of a driver
+  -- an ask of the call with this answer, and one of a copy, in the terms of a driver
   pub answered_call : (m : Machine) (ask : Call_ask) → asks.Call ask ≡ ask_of m
       → (s : StoreState K V S) (f : F) (told : Call_answer) (y : StoreState K V S) (h : F) → IsRemovalAnswer g matches ask s f told y h
       → (answer : Answer) (s' : StoreState K V S) (f' : F) → answer ≡ answers.Call told → s' ≡ y → f' ≡ h
@@ -172,7 +173,7 @@ module _ {K V S F : Type 0} (g : Mut F (Bor K × (Bor V × Unit {0})) Bool) (eq 
   answered_going (asks.Call ask) s f answer s' f' (told, is, done) = going_call ask s f told s' f' done
   answered_going (asks.Copy ask) s f answer s' f' done = refl
 
-  -- nothing is logged
+  -- nothing is stored in the arena
   log_exchanged : (found old : ℕ) (after : Tables) (answer : Call_answer) (s s' : StoreState K V S) → Exchanges found old after answer s s' → IsLogOf s s'
   log_exchanged found old after answer s s' made =
       matched (IsLogOf s s') (found == old) _ _ made
@@ -223,7 +224,7 @@ module _ {K V S F : Type 0} (g : Mut F (Bor K × (Bor V × Unit {0})) Bool) (eq 
   answered_log (asks.Call ask) s f answer s' f' (told, is, done) = log_call ask s f told s' f' done
   answered_log (asks.Copy ask) s f answer s' f' (done, same) = log_copy ask s answer s' done
 
-  -- and a core with the owned key answers so too
+  -- and a core with the owned key gives the same answer
   performed_call : (k : K) → ((l : K) → matches l ≡ eq k l) → (m : Machine) → m.call.task ≡ RemoveIf
       → (ask : Call_ask) (s : StoreState K V S) (f : F) (answer : Call_answer) (s' : StoreState K V S) (f' : F)
       → IsRemovalAnswer g matches ask s f answer s' f' → Performs eq whatever false ask s (removing m k) answer s' (removing m k)

@@ -1,4 +1,4 @@
--- A removal that is set aside goes on while a loop copies.
+-- A removal that is set aside continues while a loop copies.
 use Rattle.std.proofs.Common.{◌≡◌, ⊎_elim, ℕ, ◌≤◌, Bool, List, [], ◌∷◌, refl, sym, subst, arith}
 use denote.Ref.{Bor}
 use Rattle.std.specs.Fn.{Mut}
@@ -27,7 +27,7 @@ module _ {K V S F : Type 0} (g : Mut F (Bor K × (Bor V × Unit {0})) Bool) (eq 
       (λ (lacks : HasNoMatch g eq hash matches hashed map agrees s f m). lacks.seeking.core.sizes)
       (now.way query)
 
-  -- each answer leads it on, and brings it nearer to its end
+  -- it continues after each answer, and comes nearer its end
   pub removing_copies : (told : List Answer) (s : StoreState K V S) (f : F) (m : Machine) (s' : StoreState K V S) (m' : Machine)
       → Copies eq hash copy_of after told s m s' m' → IsValid m → IsGoing s f m → IsGoing s' f m' × IsValid m' × (left_of s' m' ≤ left_of s m)
   removing_copies [] s f m s' m' (same, is) valid now =

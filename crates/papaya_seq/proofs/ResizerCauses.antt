@@ -42,7 +42,7 @@ use Rattle.papaya_seq.proofs.Sizes.{sized_as}
 use Rattle.papaya_seq.proofs.Rooms.{entries_few, much_is, much_more, much_none}
 use Rattle.papaya_seq.proofs.Unmarked.{last_next}
 
--- there is no pair where there is no table
+-- without a table there is no pair
 no_pairs : {K V S : Type 0} (eq : K → K → Bool) (store : StoreState K V S) (n : ℕ) → pairs_from eq store n None ≡ []
 no_pairs eq store zero = refl
 no_pairs eq store (suc n) = refl
@@ -51,14 +51,14 @@ rootless : {K V S : Type 0} (eq : K → K → Bool) (store : StoreState K V S) �
 rootless eq store none = ap (λ r. pairs_from eq store (length store.words.tables) (table_of store.words.tables r)) none
     ∙ no_pairs eq store (length store.words.tables)
 
--- one that counts by the slots of a table asked for them
+-- one that computes a length from the slots of a table asked for their number
 sizing_asks : (stage : ResizerState) (behind copied : ℕ) (unfit : Bool) → HasLink stage (links.Sizing behind copied unfit)
     → asks_in stage ≡ Some (copies.SizeOf behind)
 sizing_asks (stages.Linking link) behind copied unfit e = ap (λ y. Some (link_ask y)) e
 sizing_asks (stages.Copying from copying) behind copied unfit e = ap (λ y. Some y) (copying_asks copying (links.Sizing behind copied unfit) e)
 sizing_asks _ behind copied unfit e = absurd e
 
--- what no room is for ends at the root, or when the pairs are counted
+-- if no table is large enough, the call ends at the root, or when the pairs are counted
 abbrev pub IsEarly : ResizerState → Type 0
 IsEarly stages.AtRoot = Unit {0}
 IsEarly (stages.Sizing root) = Unit {0}
@@ -66,7 +66,7 @@ IsEarly (stages.Counting root len) = Unit {0}
 IsEarly (stages.Refused refused) = refused ≡ Capacity
 IsEarly _ = ⊥
 
--- where there is room for so many pairs, it ends when they are counted
+-- if there is room for this many pairs, it ends when they are counted
 abbrev pub IsIdle : (root slots : ℕ) → ResizerState → Type 0
 IsIdle root slots stages.AtRoot = Unit {0}
 IsIdle root slots (stages.Sizing t) = t ≡ root
@@ -74,7 +74,7 @@ IsIdle root slots (stages.Counting t len) = len ≡ slots
 IsIdle root slots stages.Done = Unit {0}
 IsIdle root slots _ = ⊥
 
--- where no pairs are being moved, the end of a resize looks for the table after the root alone
+-- while no pairs are being moved, the end of a resize loads only the next table of the root
 abbrev pub IsCalm : (root : ℕ) → ResizerState → Type 0
 IsCalm root stages.AtRoot = Unit {0}
 IsCalm root (stages.Looking t len None) = t ≡ root
@@ -82,15 +82,16 @@ IsCalm root stages.Done = Unit {0}
 IsCalm root _ = ⊥
 
 module _ {K V S : Type 0} (eq : K → K → Bool) (hash : S → K → ℕ) (s : MapState K V S) (resize : Resize) where
-  -- why it is refused: no room is for so many pairs, or there is no next table
+  -- the cause of its refusal: no table is large enough for this many pairs, or there is no next
+  -- table
   abbrev pub IsCauseOf : Resize → Refused → MapState K V S → Type 0
   IsCauseOf (resizes.Reserve more) refused s' = IsReserveCause eq s more refused s'
   IsCauseOf resizes.CopyAll refused s' = IsNoTableRefusal s' refused
   IsCauseOf resizes.Chunk refused s' = Unit {0}
 
-  -- What holds between two answers.
+  -- The facts that hold between two answers.
   pub record IsCaused (store : StoreState K V S) (z : Resizer) : Type 0 where
-    -- the length of a next table is counted by the slots of the one before
+    -- the length of a next table is computed from the slots of the one before
     pub sized : IsSizedStage (HasSlots store) z.state
     pub caused : (refused : Refused) → reply_of z ≡ Some (Reply_refused refused) → IsCauseOf resize refused (record s { store = store })
     pub early : IsPastLimit eq resize s.store → (store ≡ s.store) × IsEarly z.state
@@ -113,7 +114,7 @@ module _ {K V S : Type 0} (eq : K → K → Bool) (hash : S → K → ℕ) (s : 
       (cause : (refused : Refused) → reply_of (after z answer) ≡ Some (Reply_refused refused) → IsResizeCause z answer refused)
       (resize_is : z.resize ≡ resize) (initial_is : z.initial ≡ s.initial) (logs : store ≡ record s.store { words = store.words })
       (now : IsCaused store z) where
-    -- what is answered where it asks this
+    -- the answer to this ask
     performs_at : (other : CopyAsk) → ask_of z ≡ Some other → PerformsCopy eq hash false other store answer store'
     performs_at other e = subst (λ y. PerformsCopy eq hash false y store answer store') (same_item ask other (sym asked ∙ e)) performs
 
@@ -121,7 +122,7 @@ module _ {K V S : Type 0} (eq : K → K → Bool) (hash : S → K → ℕ) (s : 
     still_there : (behind slots : ℕ) → HasSlots store behind slots → HasSlots store' behind slots
     still_there behind slots (t, there, is) = let more = grown behind t there in (more.0, more.1, more.2 ∙ is)
 
-    -- a table's size that was answered
+    -- the size of a table in an answer
     told_size : (slots limit : ℕ) → answer ≡ answers.Call (Size slots limit) → (behind copied : ℕ) (unfit : Bool)
         → HasLink z.state (links.Sizing behind copied unfit) → HasSlots store' behind slots
     told_size slots limit is behind copied unfit e =
@@ -167,7 +168,7 @@ module _ {K V S : Type 0} (eq : K → K → Bool) (hash : S → K → ℕ) (s : 
           (subst (λ n. 2 ^ 32 < length_after because.slots n z.initial because.unfit) same because.long))
           stays
 
-      -- no room is for so many pairs
+      -- no table is large enough for this many pairs
       much : (y : Resize) → resize ≡ y → IsTooMuchRoom z answer refused → IsCauseOf y refused then
       much (resizes.Reserve more) is because =
           let f : resizes.Reserve because.more ≡ resizes.Reserve more = sym because.resize ∙ resize_is ∙ is in
@@ -191,7 +192,7 @@ module _ {K V S : Type 0} (eq : K → K → Bool) (hash : S → K → ℕ) (s : 
         | inr (inr because) ↦ much resize refl because
       ]
 
-    -- where no room is for so many pairs, nothing is done
+    -- if no table is large enough for this many pairs, nothing is done
     early_root : (more r : ℕ) → r ≡ s.store.words.root → room_of (length (content eq s.store) + more) ≡ None → IsEarly (at_root (resizes.Reserve more) r)
     early_root more r is none =
         cond_both (r == 0) (makes (room_of more)) (stages.Sizing r) IsEarly
@@ -237,7 +238,7 @@ module _ {K V S : Type 0} (eq : K → K → Bool) (hash : S → K → ℕ) (s : 
         (early_stage more (much_none (length (content eq s.store) + more) late) z.state refl same h)
     next_early _ is late h = absurd late
 
-    -- where there is room for them already, nothing is done either
+    -- if there is already room for them, nothing is done either
     idle_root : 8 ≤ slots_of s.store → (more r : ℕ) → r ≡ s.store.words.root
         → IsIdle s.store.words.root (slots_of s.store) (at_root (resizes.Reserve more) r)
     idle_root least more r is =
@@ -303,7 +304,7 @@ module _ {K V S : Type 0} (eq : K → K → Bool) (hash : S → K → ℕ) (s : 
         (idle_stage least more enough z.state refl same h)
     next_idle _ is there h = absurd there
 
-    -- and where no pairs are being moved, the end of a resize does nothing
+    -- and while no pairs are being moved, the end of a resize does nothing
     calm_stage : next_of s.store ≡ 0 → (stage : ResizerState) → z.state ≡ stage → store ≡ s.store → IsCalm s.store.words.root stage → (store' ≡ s.store)
         × IsCalm s.store.words.root (after_in resizes.CopyAll z.mode z.initial z.number answer stage)
     calm_stage last stages.AtRoot at same h =
@@ -325,7 +326,7 @@ module _ {K V S : Type 0} (eq : K → K → Bool) (hash : S → K → ℕ) (s : 
     calm_stage last stages.Done at same h = let f : None ≡ Some ask = sym (ap asks_in at) ∙ asked in absurd cc
     calm_stage last _ at same h = absurd h
 
-    -- so after it
+    -- this holds after it
     pub caused_more : IsCaused store' (after z answer)
     caused_more = record {
       sized = next_sized;

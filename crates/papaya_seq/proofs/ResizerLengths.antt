@@ -56,7 +56,7 @@ stage_link (stages.Copying from copying) = link_in_copying copying
 stage_link _ = None
 
 module _ (initial : ℕ) where
-  -- a table so long is no shorter than the initial capacity
+  -- a table of this length is no shorter than the initial capacity
   abbrev pub IsEnough : ℕ → Type 0
   IsEnough len = initial ≤ len
 
@@ -64,13 +64,13 @@ module _ (initial : ℕ) where
   IsRoomy None = Unit {0}
   IsRoomy (Some room) = initial ≤ room.len
 
-  -- the room that is made has slots enough where the least table has
+  -- the room that is made has enough slots if the least table has
   room_enough : initial ≤ 8 → (pairs : ℕ) → IsRoomy (room_of pairs)
   room_enough few pairs = cond_both (nat_le (entries_of pairs) (2 ^ 32)) (Some (room_of_len (max (entries_of pairs) 8))) None IsRoomy
       (λ _. omega (arith, few)) (λ _. tt)
 
   module _ (lengths : List ℕ) where
-    -- what a resizer goes by
+    -- the lengths on which a resizer relies
     abbrev pub IsLongStage : ResizerState → Type 0
     IsLongStage (stages.Making room) = initial ≤ room.len
     IsLongStage (stages.Counting root len) = initial ≤ len
@@ -89,7 +89,7 @@ module _ (initial : ℕ) where
         (let f : copying_ask goes ≡ copies.MakeTable slots limit chunks = cc e in f) h
     stage_good other slots limit chunks e h = absurd cc
 
-    -- where it goes on while nothing is linked or copied
+    -- the next stage while nothing is linked or copied
     makes_long : (room : Option TableSize) → IsRoomy room → IsLongStage (makes room)
     makes_long None h = tt
     makes_long (Some room) h = h
@@ -119,7 +119,8 @@ module _ (initial : ℕ) where
         (λ _. last_long mode root len room h) (λ _. tt)
 
     module _ (resize : Resize) (mode : ResizeMode) (answer : Answer) (stage : ResizerState) where
-      -- what is so of the answer: a root that it has not loaded is wanted to be none where the least table is long enough, and sizes and counts are those of the map
+      -- the facts about the answer: if the root that it loads is 0, the least table is long enough;
+      -- sizes and counts are those of the map
       pub record IsToldSo : Type 0 where
         pub root : (root : ℕ) → answer ≡ answers.Call (told.Word root) → stage ≡ stages.AtRoot → root ≡ 0 → initial ≤ 8
         pub size : (slots limit : ℕ) → answer ≡ answers.Call (told.Size slots limit) → (root : ℕ) → stage ≡ stages.Sizing root → initial ≤ slots
@@ -158,7 +159,7 @@ module _ (initial : ℕ) where
     over_long resizes.CopyAll = tt
     over_long (resizes.Reserve more) = tt
 
-    -- a copy led there
+    -- the stage after a copy
     copied_long : (resize : Resize) (mode : ResizeMode) (from : ℕ) (answer : Answer) (o : Option Link) (end : Copied)
         → IsCopyLedFrom mode initial answer o end → ((made : Link) → o ≡ Some made → Sizes IsEnough lengths mode initial answer made)
         → ((made : Link) → o ≡ Some made → Counts IsEnough lengths mode initial answer made) → In (IsLongLink IsEnough lengths) o
@@ -185,14 +186,14 @@ module _ (initial : ℕ) where
     stage_long resize mode number answer stages.Done so h = called_long resize mode stages.Done answer so h
     stage_long resize mode number answer (stages.Refused refused) so h = called_long resize mode (stages.Refused refused) answer so h
 
--- what a resizer asks that makes a table
+-- an ask of a resizer that makes a table
 stage_asks : (stage : ResizerState) (made : Link) → stage_link stage ≡ Some made → asks_in stage ≡ Some (link_ask made)
 stage_asks (stages.Linking link) made e = ap (option_map link_ask) e
 stage_asks (stages.Copying from goes) made e = ap (λ x. Some x) (copying_asks goes made e)
 stage_asks other made e = absurd cc
 
 module _ {K V S : Type 0} (s : MapState K V S) where
-  -- what the call has made of the tables, and what it goes by
+  -- the tables that the call has made, and the lengths on which it relies
   pub record IsLongResize (store : StoreState K V S) (z : Resizer) : Type 0 where
     pub enough : All (IsEnough s.initial) (lengths_of store.words)
     pub stage : IsLongStage s.initial (lengths_of store.words) z.state
@@ -209,14 +210,14 @@ module _ {K V S : Type 0} (s : MapState K V S) where
     first = enough.first;
   }
 
-  -- where there is no root there was none
+  -- if there is no root, there was none
   no_root : (store : StoreState K V S) (z : Resizer) → IsLongResize store z → store.words.root ≡ 0 → s.initial ≤ LEAST_TABLE_LEN
   no_root store z long none = ⊎_elim
       (λ (some : 0 < s.store.words.root). let kept = long.rooted some in absurd (omega (arith, kept, none)))
       (λ (least : s.store.words.root ≤ 0). long.first (omega (arith, least)))
       (cases_lt 0 s.store.words.root)
 
-  -- what it leaves
+  -- the lengths of its tables after it
   pub resize_long_left : (store : StoreState K V S) (z : Resizer) → IsLongResize store z → IsLongEnough s.initial store.words
   resize_long_left store z long = record { tables = long.enough; first = no_root store z long }
 
@@ -230,7 +231,7 @@ module _ {K V S : Type 0} (s : MapState K V S) where
     abbrev lengths' : List ℕ
     lengths' = lengths_of store'.words
 
-    -- what is answered where it asks this
+    -- the answer to this ask
     performs_at : (other : CopyAsk) → ask_of z ≡ Some other → PerformsCopy eq hash false other store answer store'
     performs_at other e = subst (λ y. PerformsCopy eq hash false y store answer store') (same_item ask other (sym asked ∙ e)) performs
 
@@ -258,14 +259,14 @@ module _ {K V S : Type 0} (s : MapState K V S) where
         (All-append (IsEnough s.initial) lengths (slots ∷ []) long.enough (All-cons (IsEnough s.initial) slots [] enough (All-nil _))))
         lengthened
 
-    -- what it goes by stays
+    -- the lengths on which it relies stay
     stage_beside : (stage : ResizerState) → IsLongStage s.initial lengths stage → IsLongStage s.initial lengths' stage
     stage_beside (stages.Linking link) h = long_beside (IsEnough s.initial) (IsEnough s.initial) lengths lengths' (λ n enough. enough) still_there (Some link) h
     stage_beside (stages.Copying from goes) h = long_beside (IsEnough s.initial) (IsEnough s.initial) lengths lengths' (λ n enough. enough)
         still_there (link_in_copying goes) h
     stage_beside other h = h
 
-    -- a size that was answered is that of a table
+    -- a size in an answer is that of a table
     size_there : (behind slots limit : ℕ) → ask_of z ≡ Some (copies.SizeOf behind) → answer ≡ answers.Call (told.Size slots limit) → Contains lengths slots
     size_there behind slots limit asks is =
         let h = performs_at (copies.SizeOf behind) asks in
@@ -288,7 +289,7 @@ module _ {K V S : Type 0} (s : MapState K V S) where
           next_enough s.initial before count unfit (All-contains (IsEnough s.initial) lengths' before all_enough there);
     }
 
-    -- one more ask is answered
+    -- after one more answer
     pub resize_long_more : IsLongResize store' (after z answer)
     resize_long_more = record {
       enough = all_enough;

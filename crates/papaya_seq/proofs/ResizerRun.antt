@@ -50,14 +50,14 @@ use Rattle.papaya_seq.proofs.Rooms.{room_is}
 use Rattle.papaya_seq.proofs.Turns.{IsOver}
 use Rattle.papaya_seq.proofs.Unmarked.{next_is}
 
--- one that asks for nothing more is done or refused
+-- one that has no ask is done or refused
 replied_in : (stage : ResizerState) → asks_in stage ≡ None → (reply_in stage ≡ Some Reply_done)
     ⊎ ((refused : Refused) × (reply_in stage ≡ Some (Reply_refused refused)))
 replied_in stages.Done e = inl refl
 replied_in (stages.Refused refused) e = inr (refused, refl)
 replied_in _ e = absurd (cc e)
 
--- and is refused where it has ended so
+-- and is refused if it has ended with a refusal
 refused_in : (stage : ResizerState) (refused : Refused) → reply_in stage ≡ Some (Reply_refused refused) → stage ≡ stages.Refused refused
 refused_in (stages.Refused other) refused e = let same : other ≡ refused = cc e in ap stages.Refused same
 refused_in stages.Done refused e = let f : Some Reply_done ≡ Some (Reply_refused refused) = e in absurd cc
@@ -88,7 +88,7 @@ idle_ends root slots (stages.Counting t len) e idle = absurd (cc e)
 idle_ends root slots stages.Done e idle = refl
 idle_ends root slots _ e idle = absurd idle
 
--- where all is calm it is not refused
+-- if all is calm, it is not refused
 calm_unrefused : (root : ℕ) (stage : ResizerState) (refused : Refused) → reply_in stage ≡ Some (Reply_refused refused) → IsCalm root stage → ⊥
 calm_unrefused root (stages.Refused r) refused e calm = calm
 calm_unrefused root stages.Done refused e calm = let f : Some Reply_done ≡ Some (Reply_refused refused) = e in cc
@@ -97,7 +97,8 @@ calm_unrefused root (stages.Looking t len room) refused e calm = let f : None �
 calm_unrefused root _ refused e calm = calm
 
 module _ {K V S : Type 0} (eq : K → K → Bool) (hash : S → K → ℕ) (s : MapState K V S) (resize : Resize) where
-  -- What holds between two answers: the call came there by steps of the core, and a refusal has a cause.
+  -- The facts between two answers: the call came there by steps of the core, and a refusal has a
+  -- cause.
   pub record IsResizingTo (store : StoreState K V S) (z : Resizer) : Type 0 where
     pub call : ResizeCall K V resize
     pub came : HasResizedTo eq hash s resize call store z
@@ -149,7 +150,7 @@ module _ {K V S H : Type 0} (eq : K → K → Bool) (input : K → List (List �
       pub resizing_nears : resizer_left store' (after z answer) < resizer_left store z
       resizing_nears = resize_nears eq input build write finish classes respects s resize now.call lawful store z ask answer store' asked performs now.came
 
-      -- and it goes on
+      -- and it continues
       pub resizing_more : IsValidResizer (after z answer) → IsGoing store' (after z answer)
       resizing_more valid = record {
         call = now.call;
@@ -185,7 +186,7 @@ module _ {K V S H : Type 0} (eq : K → K → Bool) (input : K → List (List �
           pairs = (map_logged eq input build write finish classes respects s now.call.call reply store lawful over).1;
         }
 
-      -- so what was wanted was done or refused alone
+      -- so the resize alone was done or refused
       alone_by : {R : Type 0} (y : Resize) → IsCallFor y now.call.call → (answer : Result R Refused)
           → IsDoneAlone eq hash s now.call.call answer (record s { store = store }) → IsResizedAlone eq hash y s answer (record s { store = store })
       alone_by (resizes.Reserve more) is answer made = subst (λ call. IsDoneAlone eq hash s call answer (record s { store = store })) is made
@@ -230,7 +231,7 @@ module _ {K V S H : Type 0} (eq : K → K → Bool) (input : K → List (List �
       by_resize resizes.CopyAll orderly h = whole h
       by_resize resizes.Chunk orderly h = tt
 
-      -- what was wanted is so, where it is done
+      -- the resize is done, if the reply is `Done`
       pub resized_done : reply_of z ≡ Some Reply_done → IsResizedTo eq resize s.store store
       resized_done told = by_resize resize (resized_lawful Reply_done told) (now.came.done told)
 
@@ -248,11 +249,11 @@ module _ {K V S H : Type 0} (eq : K → K → Bool) (input : K → List (List �
       pub resized_refused : (refused : Refused) → reply_of z ≡ Some (Reply_refused refused) → IsResizeRefusal eq resize s refused (record s { store = store })
       resized_refused refused told = refusal resize refl refused told (now.causes.caused refused told)
 
-      -- where no room is for so many pairs, it ends so, and nothing was done
+      -- if no table is large enough for this many pairs, it ends so, and nothing was done
       pub resized_past : IsPastLimit eq resize s.store → ask_of z ≡ None → (reply_of z ≡ Some (Reply_refused Capacity)) × (store ≡ s.store)
       resized_past late none = let early = now.causes.early late in (early_ends z.state none early.1, early.0)
 
-      -- where there is room for them already, it ends so, and nothing was done
+      -- if there is already room for them, it ends so, and nothing was done
       pub resized_idle : IsRoomThere eq resize s.store → ask_of z ≡ None → (reply_of z ≡ Some Reply_done) × (store ≡ s.store)
       resized_idle there none = let idle = now.causes.idle there in (idle_ends s.store.words.root (slots_of s.store) z.state none idle.1, idle.0)
 

@@ -1,5 +1,4 @@
--- The length from which a resizer computes that of a next table: that of the table which it is to
--- follow.
+-- A resizer computes the length of a next table from the length of the table that it is to follow.
 use Rattle.std.proofs.Common.{◌≡◌, ℕ, ◌+◌, ◌==◌, nat_le, Bool, Option, None, Some, ap, subst}
 use Rattle.std.proofs.lemmas.Bool.{cond_both}
 use Rattle.papaya_words.specs.declared.resize_mode.ResizeMode.{ResizeMode}
@@ -27,7 +26,7 @@ use Rattle.papaya_call_law.specs.Resizers.{HasLink}
 use Rattle.papaya_call_law.proofs.LinkStates.{Copied_holds, In, Linked_in, Of, copying_after, link_after}
 use Rattle.papaya_seq.proofs.Sizes.{IsSizedLink, New, Told, is_sized, sized_beside, stable}
 
--- `Sized` is what the number of a table and that of its slots are.
+-- `Sized` relates the number of a table and the number of its slots.
 module _ (Sized : ℕ → ℕ → Type 0) where
   -- the table that is to get a next one has the slots by which that is counted
   abbrev pub IsSizedStage : ResizerState → Type 0
@@ -42,7 +41,7 @@ module _ (Sized : ℕ → ℕ → Type 0) where
   stage_has (stages.Copying from copying) h behind slots copied unfit e = is_sized Sized (link_in_copying copying) h behind slots copied unfit e
   stage_has _ h behind slots copied unfit e = absurd e
 
-  -- where it goes on while nothing is linked or copied
+  -- the next stage while nothing is linked or copied
   makes_sized : (room : Option TableSize) → IsSizedStage (makes room)
   makes_sized None = tt
   makes_sized (Some room) = tt
@@ -108,7 +107,7 @@ module _ (Sized : ℕ → ℕ → Type 0) where
   copied_sized resize from (copied_to.Root root) h = over_sized resize
   copied_sized resize from copied_to.Chunk h = over_sized resize
 
-  -- what is told of a link
+  -- the size in an answer to a link
   told_in : (o : Option Link) (slots : ℕ) → ((behind copied : ℕ) (unfit : Bool) → o ≡ Some (links.Sizing behind copied unfit) → Sized behind slots)
       → Of (Told Sized) o slots
   told_in None slots told = tt
@@ -118,7 +117,8 @@ module _ (Sized : ℕ → ℕ → Type 0) where
   new_in None n = tt
   new_in (Some made) n = tt
 
-  -- where it counts by the slots of a table after an answer, it did before, or was told of them
+  -- if it computes a length from the slots of a table after an answer, it did before, or the answer
+  -- has their number
   pub stage_sized : (resize : Resize) (mode : ResizeMode) (initial number : ℕ) (a : Answer) (stage : ResizerState)
       → ((slots limit : ℕ) → a ≡ answers.Call (told.Size slots limit) → (behind copied : ℕ) (unfit : Bool)
       → HasLink stage (links.Sizing behind copied unfit) → Sized behind slots) → IsSizedStage stage → IsSizedStage (after_in resize mode initial number a stage)
@@ -141,7 +141,7 @@ module _ (Sized : ℕ → ℕ → Type 0) where
   stage_sized resize mode initial number a stages.Done size h = called_sized resize mode stages.Done a h
   stage_sized resize mode initial number a (stages.Refused refused) size h = called_sized resize mode (stages.Refused refused) a h
 
--- so it is where that is so of more numbers
+-- the same for a longer list of tables
 pub stage_beside : (Sized Sized' : ℕ → ℕ → Type 0) → ((n slots : ℕ) → Sized n slots → Sized' n slots) → (stage : ResizerState) → IsSizedStage Sized stage
     → IsSizedStage Sized' stage
 stage_beside Sized Sized' more (stages.Linking link) h = sized_beside Sized Sized' more (Some link) h

@@ -61,13 +61,13 @@ use Rattle.papaya_seq.proofs.RootStays.{root_stays}
 use Rattle.papaya_seq.proofs.SeekTurns.{turn_words}
 use Rattle.papaya_seq.proofs.Turns.{IsOver, begins_so, last_entry, made_over, seated_work, start}
 
--- the call that resizes the map so
+-- the call that resizes the map in this way
 abbrev pub IsCallFor : {K V : Type 0} → Resize → Call K V (Unit {0}) → Type 0
 IsCallFor resizes.Chunk call = Unit {0}
 IsCallFor resizes.CopyAll call = call ≡ calls.CopyAll
 IsCallFor (resizes.Reserve more) call = call ≡ calls.Reserve more
 
--- a call that resizes the map so, and begins at the root
+-- a call that resizes the map in this way, and begins at the root
 pub record ResizeCall (K V : Type 0) (resize : Resize) : Type 0 where
   pub call : Call K V (Unit {0})
   pub call_is : IsCallFor resize call
@@ -96,7 +96,7 @@ goes_in _ ask e = refl
 pub asking_goes : (z : Resizer) (ask : CopyAsk) → ask_of z ≡ Some ask → reply_of z ≡ None
 asking_goes z ask e = goes_in z.state ask e
 
--- at most so many answers are left to it alone
+-- at most this many answers are left to it alone
 abbrev pub resizer_left : {K V S : Type 0} → StoreState K V S → Resizer → ℕ
 resizer_left store z = left_to (reply_of z) (resizer_measure (budget_of store) store.words.root z)
 
@@ -105,7 +105,8 @@ abbrev pub still_resizing : {K V A : Type 0} → Resizer → Option (Work K V A)
 still_resizing z = goes_on (reply_of z) (works.Resize z)
 
 module _ {K V S : Type 0} (eq : K → K → Bool) (hash : S → K → ℕ) (s : MapState K V S) (resize : Resize) (call : ResizeCall K V resize) where
-  -- The call came to this by steps of the core, which is in order while it is under way; where it has replied, the last of them gave the reply.
+  -- The call came to this by steps of the core, which is in order while it is under way; if it has
+  -- replied, the last of them gave the reply.
   pub record HasResizedTo (store : StoreState K V S) (z : Resizer) : Type 0 where
     pub number : ℕ
     pub steps : ℕ
@@ -113,9 +114,9 @@ module _ {K V S : Type 0} (eq : K → K → Bool) (hash : S → K → ℕ) (s : 
     pub runs : StepsRun eq whatever hash 1 0 steps (start eq hash s call.call number) (with_event 0 0 Begun [])
         (seated_work store (still_resizing z) s.mode s.initial) history
     pub replied : (reply : Reply) → reply_of z ≡ Some reply → (last : Entry) × (before : History) × (history ≡ last ∷ before) × (last.event ≡ Replied reply)
-    -- until then it is alone, and what it has read stands there
+    -- until then it is alone, and a word that it has read is unchanged
     pub lone : reply_of z ≡ None → IsLoneResizer eq hash (seated_work {A = Unit {0}} store (Some (works.Resize z)) s.mode s.initial) z
-    -- and then what was wanted is done
+    -- and then the resize is done
     pub done : reply_of z ≡ Some Reply_done → IsResized resize store
     pub resize_is : z.resize ≡ resize
     pub initial_is : z.initial ≡ s.initial
@@ -136,7 +137,7 @@ module _ {K V S H : Type 0} (eq : K → K → Bool) (input : K → List (List �
   abbrev HasCome : StoreState K V S → Resizer → Type 0
   HasCome store z = HasResizedTo eq hash s resize call store z
 
-  -- no call on a key has none that is hashed so
+  -- the call has no key, so a fact about its key holds
   hashed : (k : K) → key_of call.call ≡ Some k → hash s.store.hasher k < 2 ^ 64
   hashed k e = let f : None ≡ Some k = sym call.no_key ∙ e in absurd cc
 

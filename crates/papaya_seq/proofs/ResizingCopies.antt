@@ -1,4 +1,4 @@
--- A call that resizes the map goes on while a loop copies.
+-- A call that resizes the map continues while a loop copies.
 use Rattle.std.proofs.Common.{◌≡◌, ℕ, ◌≤◌, Bool, true, FitsSigned, List, [], ◌∷◌, Option, None, Some, refl, sym, subst, arith}
 use Rattle.std.specs.Cmp.{IsEquivalence}
 use Rattle.std.specs.Int.{w64}
@@ -34,7 +34,7 @@ module _ {K V S H : Type 0} (eq : K → K → Bool) (input : K → List (List �
           let (reply, told) = resized_replied eq input build write finish classes respects s resize lawful fits store z now e in
           (resized_lawful eq input build write finish classes respects s resize lawful fits store z now reply told).lawful.core.sizes
 
-  -- each answer leads it on, and brings it nearer to its end
+  -- it continues after each answer, and comes nearer its end
   pub resizing_copies : (told : List Answer) (store : StoreState K V S) (z : Resizer) (store' : StoreState K V S) (z' : Resizer)
       → Copies eq hash ask_of after told store z store' z' → IsGoing store z → IsGoing store' z' × (resizer_left store' z' ≤ resizer_left store z)
   resizing_copies [] store z store' z' (same, is) now =

@@ -63,7 +63,7 @@ module _ {K V S : Type 0} (s : StoreState K V S) (i : ℕ) where
     count = added s.count 0 (negsuc 0);
   }
 
--- where the root has no next table, its pairs are the map's
+-- if the root has no next table, its pairs are the map's
 pub last_content : {K V S : Type 0} (eq : K → K → Bool) (store : StoreState K V S) → next_of store ≡ 0
     → content eq store ≡ pairs_of_slots store (slot_words (table_of store.words.tables store.words.root))
 last_content {K} {V} {S} eq store last = of_many (length store.words.tables) refl (table_of store.words.tables store.words.root) refl
@@ -156,7 +156,7 @@ module _ {K V S : Type 0} (eq : K → K → Bool) (hash : K → ℕ) (s : MapSta
   number_is : number_of word ≡ p.number
   number_is = ap number_of (sym word_is) ∙ (code_pair g c hashed.coding (Live p) p refl)
 
-  -- it is in the log
+  -- it is in the arena
   pub live_logged : (q : Stored K V) × (pair_of s.store (number_of word) ≡ Some q)
   live_logged = (p, ap (pair_of s.store) number_is ∙ kept.logged root i p (ap named lives.1))
 
@@ -202,7 +202,7 @@ module _ {K V S : Type 0} (eq : K → K → Bool) (hash : K → ℕ) (s : MapSta
       others (Slot t x) differ = ap (code g c)
           (put_elsewhere now root i (Buried p) t x (λ same. differ (ap (λ y. Slot y x) (sym same.0) ∙ ap (Slot root) (sym same.1))))
 
-  -- a pair that a slot names stood in one
+  -- a pair that a slot names was in a slot before
   slots' : (t x : ℕ) (q : Stored K V) → named ((run (es ++ made) start).slot t x) ≡ Some q → Stands now q ⊎ ⊥
   slots' t x q names =
       let name : named ((after now (Bury root i p)).slot t x) ≡ Some q = ap (λ (z : State (Stored K V)). named (z.slot t x)) (sym ran) ∙ names in

@@ -13,7 +13,7 @@ use Rattle.papaya_core_store.specs.Store.{StoreState, Stored, pair_of}
 use Rattle.papaya_seq.specs.Retains.{Retains}
 use Rattle.papaya_seq.proofs.WalkLists.{pairs_of_word}
 
--- a list, after one of its numbers was written: what stands before it, there, and behind it
+-- a list, after one of its numbers was written: its items before it, there, and behind it
 pub set_before : (xs : List ℕ) (i x : ℕ) → take i (slice_set xs i x) ≡ take i xs
 set_before [] i x = refl
 set_before (y ∷ ys) zero x = refl
@@ -34,7 +34,8 @@ set_long [] i x = refl
 set_long (y ∷ ys) zero x = refl
 set_long (y ∷ ys) (suc i) x = ap suc (set_long ys i x)
 
--- what is behind a place tells what is at the next one, and behind that
+-- two lists with the same items from an index on have the same item there, and the same items
+-- behind it
 pub drop_there : (xs ys : List ℕ) (i : ℕ) → drop i xs ≡ drop i ys → i < length xs → i < length ys → slice_index xs i ≡ slice_index ys i
 drop_there [] ys i same low within = absurd (omega (arith, low))
 drop_there (x ∷ xs) [] i same low within = absurd (omega (arith, within))
@@ -99,7 +100,7 @@ module _ {K V S : Type 0} (store : StoreState K V S) where
       of_kind kinds.Buried is = refl
       of_kind kinds.Closed is = refl
 
--- what the same log says of words
+-- words have the same pairs with the same arena
 pub slots_same : {K V S : Type 0} (store store' : StoreState K V S) → ((n : ℕ) → pair_of store' n ≡ pair_of store n) → (slots : List ℕ)
     → pairs_of_slots store' slots ≡ pairs_of_slots store slots
 slots_same store store' same [] = refl
@@ -114,7 +115,7 @@ slots_same {K} {V} {S} store store' same (word ∷ words) = ap (λ l. l ++ pairs
     of_kind kinds.Buried = refl
     of_kind kinds.Closed = refl
 
--- what is retained of two lists, one after the other
+-- the pairs that are retained of two lists, one after the other
 pub retains_more : {F K V : Type 0} (g : Mut F (Bor K × (Bor V × Unit {0})) Bool) (f f' f'' : F) (ps qs left more : List (Stored K V))
     → Retains g f ps left f' → Retains g f' qs more f'' → Retains g f (ps ++ qs) (left ++ more) f''
 retains_more {F} {K} {V} g f f' f'' [] qs left more (none, same) next = subst (λ l. Retains g f qs (l ++ more) f'') (sym none)

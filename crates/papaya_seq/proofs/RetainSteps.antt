@@ -1,4 +1,4 @@
--- How a retain goes from slot to slot.
+-- The steps of a retain, from slot to slot.
 use Rattle.std.proofs.Common.{◌≡◌, ◌⊎◌, inl, inr, ℕ, suc, ◌<◌, Bool, true, false, cond, List, []}
 use Rattle.std.proofs.Common.{◌∷◌, ◌++◌, length, take, drop, slice_index, slice_set, Option, Some}
 use Rattle.std.proofs.Common.{None, append-nil, refl, sym, ◌∙◌, ap, subst, arith, ◌==◌, eq-eqb}
@@ -37,7 +37,8 @@ word_slot i None within = absurd (omega (arith, within))
 word_slot i (Some t) within = refl
 
 module _ {K V S : Type 0} (s : StoreState K V S) (i : ℕ) where
-  -- A slot of the root was scanned: its pair, if it has one, was shown, and stays or was deleted.
+  -- A slot of the root was scanned: the closure was called with its pair, if it has one, and the
+  -- pair stays or was deleted.
   abbrev pub IsScanned : {F : Type 0} → Mut F (Bor K × (Bor V × Unit {0})) Bool → F → StoreState K V S
       → F → Type 0
   IsScanned g f s' f' = ((kind_of (root_word s i) ≡ kinds.Live → ⊥) × (s' ≡ s) × (f' ≡ f))
@@ -75,7 +76,7 @@ module _ {F K V S : Type 0} (g : Mut F (Bor K × (Bor V × Unit {0})) Bool) (s :
     word_was : slice_index (root_words s.store) i ≡ root_word s'.store i
     word_was = sym (drop_there (root_words s'.store) (root_words s.store) i retaining.behind low_words' low_words) ∙ sym word_is
 
-    -- what is retained of the slots up to this one
+    -- the pairs that are retained of the slots up to this one
     retained_more : (here here' : List (Stored K V)) → pairs_of_word s.store (root_word s'.store i) ≡ here → (words : List ℕ)
         → take i words ≡ take i (root_words s'.store) → i < length words → pairs_of_word s.store (slice_index words i) ≡ here' → Retains g f' here here' f''
         → Retains g f (pairs_of_slots s.store (take (suc i) (root_words s.store))) (pairs_of_slots s.store (take (suc i) words)) f''
@@ -141,7 +142,7 @@ module _ {F K V S : Type 0} (g : Mut F (Bor K × (Bor V × Unit {0})) Bool) (s :
               (false, f'', [], answers, (refl, refl), refl));
         }
       where
-        -- the two logs say the same of a word
+        -- a word has the same pairs in the two arenas
         pairs_same : (word : ℕ) → pairs_of_word s'.store word ≡ [] → pairs_of_word s.store word ≡ []
         pairs_same word none = sym (append-nil (pairs_of_word s.store word)) ∙ sym (slots_same s.store s'.store retaining.pairs (word ∷ []))
             ∙ ap (λ l. l ++ []) none
@@ -180,7 +181,7 @@ module _ {F K V S : Type 0} (g : Mut F (Bor K × (Bor V × Unit {0})) Bool) (s :
         refl,
       )
 
--- what a closure was shown that there is
+-- the closure was called with the pair that is there, and returned a result
 pub shown_answers : {F K V : Type 0} (g : Mut F (Bor K × (Bor V × Unit {0})) Bool) (f f' : F) (p : Stored K V) (o : Option (Stored K V))
     (answer : Answer) → o ≡ Some p → IsShown g o f answer f' → (agrees : Bool) × Answers g f p agrees f' × (answer ≡ Yes agrees)
 shown_answers g f f' p None answer is shown = absurd cc

@@ -9,7 +9,7 @@ use Rattle.papaya_call.specs.TableSize.{entries_of, room_of, room_of_len}
 use Rattle.papaya_call.proofs.TableSizes.{has_room, too_long, too_many}
 use Rattle.papaya_words_keys.specs.Sizes.{IsTooMuch}
 
--- a number lies between the powers of its logarithm and of the next one
+-- a number is between the powers of its logarithm and of the next one
 log_between : (most n : ℕ) → 0 < n → n < 2 ^ suc most → (2 ^ log_upto most n ≤ n) × (n < 2 * 2 ^ log_upto most n)
 unfolding log_upto
 log_between zero n some few = (omega (arith, some), omega (arith, few))
@@ -48,7 +48,7 @@ much_none pairs (inr (entries, is, long)) = ⊎_elim
     (λ (many : 2 ^ 64 ≤ pairs * 8). too_many pairs many)
     (cases_lt (pairs * 8) (2 ^ 64))
 
--- a table that has the slots has as many as so many pairs ask for
+-- a table that has the slots has at least as many as this many pairs need
 pub room_is : (pairs slots : ℕ) → slots ≤ 2 ^ 32 → entries_of pairs ≤ slots → (entries : ℕ) × IsEntriesFor pairs entries × (entries ≤ slots)
 room_is pairs slots most le = ⊎_elim
     (λ (few : pairs * 8 < 2 ^ 64). (entries_of pairs, entries_next pairs few, le))
@@ -56,7 +56,7 @@ room_is pairs slots most le = ⊎_elim
     ∙ has_room pairs (omega (arith, most, le)) in absurd cc)
     (cases_lt (pairs * 8) (2 ^ 64))
 
--- so many pairs as ask for no more than 2^32 entries are few
+-- if pairs need no more than 2^32 entries, their number is within a bound
 pub entries_few : (pairs entries : ℕ) → IsEntriesFor pairs entries → entries ≤ 2 ^ 32 → pairs * 8 < 2 ^ 64
 entries_few pairs entries (power, above, below) most = omega (arith, above, most)
 
@@ -67,7 +67,7 @@ power_past p (k, e) past = ⊎_elim
     (λ (high : 33 ≤ k). let up : 2 ^ 33 ≤ 2 ^ k = pow_mono high in omega (arith, up, e))
     (cases_lt k 33)
 
--- where so many pairs are too much, more are
+-- if this many pairs are too many, more are
 pub much_more : (less more : ℕ) → less ≤ more → IsTooMuch less → IsTooMuch more
 much_more less more le (inl many) = inl (omega (arith, le, many))
 much_more less more le (inr (entries, (power, above, below), long)) = ⊎_elim

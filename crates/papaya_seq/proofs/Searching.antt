@@ -1,5 +1,5 @@
--- The search of one table: each turn is one to three answers to the machine, and brings it nearer
--- its end.
+-- The search of one table: each iteration is one to three answers to the machine, and brings it
+-- nearer its end.
 use Rattle.std.proofs.Common.{◌≡◌, ℕ, zero, suc, ◌+◌, ◌*◌, ◌-◌, ◌<◌, ◌≤◌, nat_lt, lt-ltb, ltb-true, if◌then◌else◌}
 use Rattle.std.proofs.Common.{Bool, true, false, List, [], ◌∷◌, ◌++◌, length, slice_get, slice_index, Option, Some, refl, sym, ◌∙◌, ap}
 use Rattle.std.proofs.Common.{subst, arith}
@@ -39,7 +39,7 @@ index_got [] i item e = absurd cc
 index_got (x ∷ xs) zero item e = cc
 index_got (x ∷ xs) (suc i) item e = index_got xs i item e
 
--- the word of a slot of a table is the one that stands there
+-- the word of a slot of a table is the one that is there
 pub slot_read : (w : Tables) (t i word : ℕ) (table : TableWords) → table_of w.tables t ≡ Some table → slice_get table.slots i ≡ Some word
     → word ≡ word_at w (Slot t i)
 slot_read w t i word table there read = index_got table.slots i word read ∙ sym (ap (word_in (λ v. slice_index v.slots i)) there)
@@ -52,7 +52,7 @@ hint_read w t i hint table there within read = index_got table.hints i hint read
     ∙ sym (ap (word_in (λ v. slot_hint v i)) there)
 
 module _ (so : (number slots : ℕ) → Type 0) where
-  -- a search goes on in the table where it stands
+  -- a search continues in its table
   on_in : (at : Place) → so at.table at.len → ContinuesIn so (go_on at)
   on_in at is = cond_both (nat_lt at.probe.len at.limit) (On (Looking (next_place at))) (Over at.table) (ContinuesIn so) (λ _. is) (λ _. tt)
 
@@ -79,7 +79,7 @@ module _ (so : (number slots : ℕ) → Type 0) where
   yes_in at word true is = match_in (kind_of word) at word
   yes_in at word false is = on_in at is
 
--- what is left to a search that has seen this
+-- the answers that are left to a search after this step
 abbrev pub left_seen : ProbeStep → ℕ
 left_seen (On (Looking at)) = left_at at
 left_seen (On (Reading at)) = 3 * (at.limit + 1 - at.probe.len)
@@ -92,7 +92,7 @@ on_left at within = cond_both (nat_lt at.probe.len at.limit) (On (Looking (next_
     (λ s. left_seen s < 3 * (at.limit - at.probe.len) + 2)
     (λ more. let l : at.probe.len < at.limit = ltb-true at.probe.len at.limit more in omega (arith, within, l)) (λ _. omega (arith, within))
 
--- a hint lowers what is left
+-- a hint lowers the number of answers that are left
 pub hinted_left : (at : Place) (hash hint : ℕ) → at.probe.len ≤ at.limit → left_seen (hinted at hash hint) < left_at at
 hinted_left at hash hint within =
     let next = on_left at within in
@@ -121,7 +121,7 @@ pub yes_left : (at : Place) (word : ℕ) (same : Bool) → at.probe.len ≤ at.l
 yes_left at word true within = let none = match_left (kind_of word) at word in omega (arith, none, within)
 yes_left at word false within = on_left at within
 
--- what is left after a turn
+-- the answers that are left after a probe
 pub turn_left : (turn : ProbeHit) → left_to turn ≡ left_seen (seen_by turn)
 turn_left (turns.Next at) = refl
 turn_left (turns.Empty at) = refl
@@ -151,16 +151,16 @@ match_turned kinds.Copied at word = tt
 match_turned kinds.Buried at word = tt
 match_turned kinds.Closed at word = tt
 
--- after a comparison it is so
+-- the same after a comparison
 pub yes_turned : (at : Place) (word : ℕ) (same : Bool) → HasStopped (at_yes (Comparing at word) same)
 yes_turned at word true = match_turned (kind_of word) at word
 yes_turned at word false = on_turned at
 
--- a search that goes on stands by no word
+-- a search that continues holds no word
 stands_on : (words : At → ℕ) (at : Place) → HoldsWord words (go_on at)
 stands_on words at = cond_both (nat_lt at.probe.len at.limit) (On (Looking (next_place at))) (Over at.table) (HoldsWord words) (λ _. tt) (λ _. tt)
 
--- what a word tells stands by the word
+-- a step after a word was read holds that word
 pub stands_look : (words : At → ℕ) (kind : Kind) (at : Place) (word : ℕ) → words (Slot at.table at.probe.i) ≡ word → kind_of word ≡ kind
     → HoldsWord words (look_at kind at word)
 stands_look words kinds.Empty at word is empty = ap kind_of is ∙ empty
@@ -184,7 +184,8 @@ pub stands_yes : (words : At → ℕ) (at : Place) (word : ℕ) (same : Bool) �
 stands_yes words at word true is = stands_match words (kind_of word) at word is
 stands_yes words at word false is = stands_on words at
 
--- a hint that leads on to no next place leads to its word, or past the table
+-- a hint after which the search does not continue at a next place brings it to the word of its
+-- place, or past the table
 abbrev Unlooked : Place → ProbeStep → Type 0
 Unlooked first seen = ((place : Place) → seen ≡ On (Looking place) → ⊥) → IsPassedTo first seen
 
@@ -193,7 +194,7 @@ hinted_led first at hash hint near = cond_both (may_hold hint hash) (On (Reading
     (λ _. cond_both (nat_lt at.probe.len at.limit) (On (Looking (next_place at))) (Over at.table) (Unlooked first)
     (λ _ none. absurd (none (next_place at) refl)) (λ _ none. tt))
 
--- a search that passed by places stands by no word, and has found no pair
+-- a search that passed by places holds no word, and has found no pair
 pub passed_stands : (words : At → ℕ) (first : Place) (seen : ProbeStep) → IsPassedTo first seen → HoldsWord words seen
 passed_stands words first (On (Sizing n)) led = tt
 passed_stands words first (On (Looking at)) led = tt
@@ -218,18 +219,18 @@ root_searched Compute fill root some = ap (λ (b : Bool). if b then absent Compu
 root_searched (Insert replace) fill root some = ap (λ (b : Bool). if b then Making else Searching (Sizing root)) (ne_eqb root 0 some)
 
 module _ {K V S : Type 0} (matches : K → Bool) (store : StoreState K V S) where
-  -- from where a machine came it goes on
+  -- a machine that came there continues from there
   pub comes_on : (first rest : List Answer) (m m' m'' : Machine) → Comes matches store m first m' → Comes matches store m' rest m''
       → Comes matches store m (first ++ rest) m''
   comes_on [] rest m m' m'' is more = subst (λ (x : Machine). Comes matches store x rest m'') is more
   comes_on (answer ∷ first) rest m m' m'' (asked, told, came) more = (asked, told, comes_on first rest (after m answer) m' m'' came more)
 
   module _ (hash : ℕ) where
-    -- a search stands where it begins
+    -- a search begins at its first place
     pub sees_begun : (at : Place) → Sees matches store hash at (On (Looking at))
     sees_begun at m = ([], refl)
 
-    -- what it sees from where it came to, it sees from the first place
+    -- a step from a later place is a step from the first place
     pub sees_on : (at : Place) (search : Search) (seen : ProbeStep) → Sees matches store hash at (On search)
         → SeesFrom matches store hash (Searching search) seen → Sees matches store hash at seen
     sees_on at search seen before goes_on m =
@@ -241,7 +242,7 @@ module _ {K V S : Type 0} (matches : K → Bool) (store : StoreState K V S) wher
         )
 
     module _ (at : Place) where
-      -- the word that stands at the place
+      -- the word at the place
       abbrev pub word_there : ℕ
       word_there = word_at store.words (Slot at.table at.probe.i)
 
@@ -253,7 +254,7 @@ module _ {K V S : Type 0} (matches : K → Bool) (store : StoreState K V S) wher
       pub sees_hint : Sees matches store hash at (hinted at hash hint_there)
       sees_hint m = (Word_read hint_there ∷ [], (tt, refl, refl))
 
-      -- and the search went on from there
+      -- and the search continued from there
       passed_then : (rest : Place → ProbeStep) → ((next : Place) → Sees matches store hash next (rest next)) → (seen : ProbeStep)
           → Sees matches store hash at seen → Sees matches store hash at (passed_on rest seen)
       passed_then rest more (On (Sizing n)) before = before
@@ -280,7 +281,7 @@ module _ {K V S : Type 0} (matches : K → Bool) (store : StoreState K V S) wher
           asks = subst (λ s. Comes matches store looks (Word_read word_there ∷ []) (record m { hash = hash; state = goes m s })) compares (tt, refl, refl) in
           (Word_read word_there ∷ Yes same ∷ [], comes_on (Word_read word_there ∷ []) (Yes same ∷ []) looks asks led came (tt, refl, refl))
 
-      -- what was seen is a turn
+      -- a step of the search is a probe
       pub turn_seen : (state : State) (turn : ProbeHit) (seen : ProbeStep) → seen_by turn ≡ seen → SeesFrom matches store hash state seen → IsProbed seen
           → ContinuesIn (IsThere store) seen → HoldsWord (λ w. word_at store.words w) seen → IsMatchedBy matches store hash seen → IsHitFrom matches store hash state turn
       turn_seen state turn seen is sees within there stands
@@ -319,13 +320,13 @@ module _ {K V S : Type 0} (matches : K → Bool) (store : StoreState K V S) wher
       matched_yes word true is = matched_kind (kind_of word) word (sym is)
       matched_yes word false is = matched_on
 
-    -- a search sees so what the hints of the places tell that it passes by
+    -- a search passes by the places that their hints exclude
     pub sees_passed : (n : ℕ) (at : Place) → Sees matches store hash at (passed_by store hash n at)
     sees_passed zero at = sees_hint at
     sees_passed (suc n) at =
         passed_then at (λ next. passed_by store hash n next) (λ next. sees_passed n next) (hinted at hash (hint_there at)) (sees_hint at)
 
-    -- a turn from where the turns before it led
+    -- a probe from the place to which the probes before it came
     pub turns_on : (at place : Place) (turn : ProbeHit) → IsProbeHit matches store hash at (turns.Next place) → IsProbeHit matches store hash place turn
         → IsProbeHit matches store hash at turn
     turns_on at place turn before next = record {

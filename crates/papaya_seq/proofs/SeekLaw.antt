@@ -34,7 +34,7 @@ use Rattle.papaya_seq.proofs.SeekSteps as steps
 use Rattle.papaya_seq.proofs.CallLengths.{long_left}
 use Rattle.papaya_seq.proofs.SeekSteps.{turn_nears}
 
--- what such a call replies
+-- the reply of such a call
 ends_in : (made : Made) (hash : ℕ) (st : State) → Seeks st → (reply : Reply) → reply_in (asks.Call (calls.asks made hash st)) ≡ Some reply
     → (reply ≡ Absent) ⊎ ((refused : Refused) × (reply ≡ Reply_refused refused))
 ends_in made hash AtRoot seeks reply e = let f : None ≡ Some reply = e in absurd cc
@@ -60,14 +60,15 @@ module _ {K V S F : Type 0} (eq : K → K → Bool) (hash : S → K → ℕ) (g 
       (store : StoreState K V S) (m : Machine) (f : F) (answer : Answer) (store' : StoreState K V S) (f' : F)
       (seeking : IsSeeking eq hash s h store m) (going : reply_in (ask_of m) ≡ None)
       (answered : IsAnswered eq hash g matches (ask_of m) store f answer store' f') where
-    -- no pair of the log matches still
+    -- still no pair of the arena matches
     none_now : MatchesNone store matches
     none_now n p is = none n p (sym (ap (λ (y : StoreState K V S). pair_of y n) seeking.logs) ∙ is)
 
     turn : IsTurn eq hash store (ask_of m) answer store' × (f' ≡ f)
     turn = turned eq hash g matches store m none_now seeking.seeks going f answer store' f' answered
 
-    -- an answer is within limits, leaves the call in order and the closure as it was, and brings it nearer its end
+    -- an answer is within limits, leaves the call in order and the closure as it was, and brings it
+    -- nearer its end
     pub seek_fit : IsFit answer
     seek_fit = steps.seek_fit eq hash s h keys fits store m answer store' seeking going turn.0
 

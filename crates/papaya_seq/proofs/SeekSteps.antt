@@ -86,7 +86,7 @@ use Rattle.papaya_seq.proofs.SeekTurns.{IsLook, IsTurn, Looks, asked_look, turn_
 use Rattle.papaya_seq.proofs.Ending.{left_of, left_to}
 use Rattle.papaya_seq.proofs.SeekTurns as turns
 
--- where it has not replied it has met no pair
+-- if it has not replied, it has met no pair
 met_none : (made : Made) (hash : ℕ) (st : State) → Seeks st → reply_in (asks.Call (calls.asks made hash st)) ≡ None → HasMetNone st
 met_none made hash AtRoot seeks going = tt
 met_none made hash (Searching search) seeks going = tt
@@ -117,7 +117,7 @@ made_spends w n slots limit chunks few = let more : length (w.tables ++ new_tabl
 module _ {K V S : Type 0} (eq : K → K → Bool) (hash : S → K → ℕ) (s : MapState K V S) (h : ℕ) (keys : IsLawfulKeys eq (hash s.store.hasher)) (fits : h < 2 ^ 64)
     (store : StoreState K V S) (m : Machine) (answer : Answer) (store' : StoreState K V S) (seeking : IsSeeking eq hash s h store m)
     (going : reply_in (ask_of m) ≡ None) (turn : IsTurn eq hash store (ask_of m) answer store') where
-  -- what the answer leaves
+  -- the effect of the answer
   abbrev gq : Setting (Option K) (Stored K V)
   gq = turns.gq eq hash s h keys fits store m answer store' seeking going turn
 
@@ -193,11 +193,11 @@ module _ {K V S : Type 0} (eq : K → K → Bool) (hash : S → K → ℕ) (s : 
   pub standing' : IsValid (after m answer)
   standing' = chain_stands m seeking.valid answer seek_fit
 
-  -- it is an answer to what was asked
+  -- the answer is one to its ask
   ordered : IsInOrder m answer m.phase
   ordered = in_order gq cq call_trace.begun call_trace.since None m call_trace.loaded (run es start) answer left.made left.loaded seeking.relies left.told
 
-  -- the words are bounded, and what it asks is served
+  -- the words are bounded, and its ask is served
   pub bounded : IsBounded gq (run es start)
   bounded =
       let all = kept_bounded eq (hash s.store.hasher) keys s.mode store [] seeking.core es (λ d. call_trace) seeking.kept in
@@ -217,7 +217,7 @@ module _ {K V S : Type 0} (eq : K → K → Bool) (hash : S → K → ℕ) (s : 
       by_ask (asks.Call ask) e (told, is, looks, same) = subst (IsServedAsk m.call.task (asks.Call ask)) (sym is) (by_look ask told looks)
       by_ask (asks.Copy ask) e copied = tt
 
-  -- what was read stands there still
+  -- a word that was read is unchanged
   pub words_are : word_of gq cq (run es start) ≡ word_at store.words
   words_are = fun_ext (λ at. coded at)
 
@@ -238,7 +238,7 @@ module _ {K V S : Type 0} (eq : K → K → Bool) (hash : S → K → ℕ) (s : 
   seeker : IsSeeker m.call.task
   seeker = subst IsSeeker (sym seeking.task) tt
 
-  -- it has met no pair still, or a next table was refused
+  -- it has still met no pair, or a next table was refused
   own_seeks : IsOwnStep m answer → Seeks (after m answer).call.state
   own_seeks own =
       let asking : ask_of m ≡ asks.Call (calls.ask_of m.call) = ap (asks_in m.call) own.phase in
@@ -286,7 +286,7 @@ module _ {K V S : Type 0} (eq : K → K → Bool) (hash : S → K → ℕ) (s : 
       (λ behind t chunks linking. turns.still_made eq hash s h keys fits store m answer store' seeking going turn t chunks
       (seeking.links behind t chunks linking))))
 
-  -- what the step did to the lengths of tables: a lookup leaves them
+  -- the effect of the step on the lengths of tables: a lookup leaves them
   stepped : IsCallStep eq hash store store' m answer
   stepped = record {
     own = λ calling. let (told, is, looks, same) = own_turn calling in inl (ap (λ (y : StoreState K V S). lengths_of y.words) same);

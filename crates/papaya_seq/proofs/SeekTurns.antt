@@ -1,4 +1,4 @@
--- One answer to a removal that meets no pair: what it leaves of the words, the arena and the map.
+-- One answer to a removal that meets no pair: its effect on the words, the arena and the map.
 use Rattle.std.proofs.Common.{◌≡◌, ◌⊎◌, inl, inr, ℕ, ◌%◌, ◌^◌, ◌<◌, ◌≤◌, ◌==◌, Bool, false, Option}
 use Rattle.std.proofs.Common.{None, Some, List, [], ◌∷◌, ◌++◌, append_assoc, append-nil, refl, sym}
 use Rattle.std.proofs.Common.{◌∙◌, ap, subst}
@@ -83,7 +83,7 @@ use Rattle.papaya_seq.proofs.Seeking.{IsSeeking, Seeks, own_coding, own_hashed, 
 use Rattle.papaya_seq.proofs.Seeking.{own_setting, sought_coding, sought_hashed, sought_hint}
 use Rattle.papaya_seq.proofs.Seeking.{sought_setting, sought_word}
 
--- what a search asks for
+-- an ask of a search
 abbrev pub IsLook : Call_ask → Type 0
 IsLook (Load at) = Unit {0}
 IsLook (LoadHint t x) = Unit {0}
@@ -108,7 +108,7 @@ asked_look m seeks going ask e =
     subst IsLook c (looks_in m.call.made m.call.hash m.call.state seeks (ap (λ y. reply_in (asks.Call y)) c ∙ sym (ap reply_in e) ∙ going))
 
 module _ {K V S : Type 0} where
-  -- each comparison is answered false
+  -- each comparison has `false` as its answer
   abbrev pub Looks : StoreState K V S → Call_ask → Call_answer → Type 0
   Looks store (Load at) told = told ≡ Word_read (word_at store.words at)
   Looks store (LoadHint t x) told = told ≡ Word_read (hint_at store.words t x)
@@ -116,7 +116,7 @@ module _ {K V S : Type 0} where
   Looks store (SizeOf t) told = told ≡ size_of (table_of store.words.tables t)
   Looks store _ told = ⊥
 
-  -- one of its asks was answered so
+  -- one of its asks has this answer
   abbrev pub IsTurn : (K → K → Bool) → (S → K → ℕ) → StoreState K V S → Ask → Answer → StoreState K V S → Type 0
   IsTurn eq hash store (asks.Call ask) answer store' = (told : Call_answer) × (answer ≡ answers.Call told) × Looks store ask told × (store' ≡ store)
   IsTurn eq hash store (asks.Copy ask) answer store' = PerformsCopy eq hash false ask store answer store'
@@ -149,7 +149,7 @@ module _ {K V S F : Type 0} (eq : K → K → Bool) (hash : S → K → ℕ) (g 
   IsAnswered (asks.Call ask) s f answer s' f' = IsCallAnswer answer (λ told. IsRemovalAnswer g matches ask s f told s' f')
   IsAnswered (asks.Copy ask) s f answer s' f' = PerformsCopy eq hash false ask s answer s' × (f' ≡ f)
 
-  -- where no pair of the log matches, each comparison is answered false
+  -- if no pair of the arena matches, each comparison has `false` as its answer
   none_in : (store : StoreState K V S) → MatchesNone store matches → (n : ℕ) (o : Option (Stored K V)) → pair_of store n ≡ o → matches_in matches o ≡ false
   none_in store none n None is = refl
   none_in store none n (Some p) is = none n p is
@@ -248,11 +248,11 @@ module _ {K V S : Type 0} (eq : K → K → Bool) (hash : S → K → ℕ) (s : 
     sames = λ p q. refl;
   }
 
-  -- what an answer leaves, where it is this
+  -- the effect of an answer, given the ask
   abbrev Leaves : Ask → Answer → Type 0
   Leaves ask a = IsLeft gq cq store r es call_trace (own_key store r) None ask a store' r
 
-  -- a look leaves the words
+  -- an ask of a search leaves the words
   answered_quietly : (ask : Call_ask) → ask_of m ≡ asks.Call ask → (told : Call_answer) (loaded : Call_loaded (Stored K V)) → store' ≡ store
       → IsTrueOfCall gq cq None (run es start) (kind_of_ask m) call_trace.loaded.call ask told [] loaded
       → IsLook ask → ((p : Stored K V) → loaded.last ≡ Some p → (call_trace.loaded.call.last ≡ Some p) ⊎ Stands (run es start) p)
@@ -296,7 +296,7 @@ module _ {K V S : Type 0} (eq : K → K → Bool) (hash : S → K → ℕ) (s : 
       ) tt (λ p l. inl l) refl
   answered_look ask e told is same = absurd is
 
-  -- what the answer leaves
+  -- the effect of the answer
   pub left : Leaves (ask_of m) answer
   left = by_ask (ask_of m) refl turn
     where
@@ -352,7 +352,7 @@ module _ {K V S : Type 0} (eq : K → K → Bool) (hash : S → K → ℕ) (s : 
   pub stood_logged : (p : Stored K V) → Stands (run es start) p → IsInArena store' p
   stood_logged p (t, x, names) = left.logged p.number p (seeking.kept.logged t x p names)
 
-  -- what a hint says lasts
+  -- a hint stays true
   hint_later : (t x n : ℕ) → IsHint g c (run es start) t x n → IsHint g' c (run es' start) t x n
   hint_later t x n is =
       let split : run es' start ≡ run left.made (run es start) = ap (λ l. run l start) (sym assoc) ∙ run-append es left.made start in

@@ -1,4 +1,5 @@
--- A removal by a query that matches no pair of the arena: what holds between two of its answers.
+-- A removal by a query that matches no pair of the arena: the facts that hold between two of its
+-- answers.
 use Rattle.std.proofs.Common.{◌≡◌, ◌⊎◌, ℕ, ◌^◌, ◌<◌, Bool, false, Option, None, Some, List, [], ◌++◌, length, refl, sym, subst, arith, append-nil}
 use Rattle.std.proofs.Math.Pow.{pow_pos}
 use Rattle.papaya_words.specs.Table.{TableWords}
@@ -38,7 +39,7 @@ use Rattle.papaya_seq.proofs.CallLengths.{IsLong, long_begun}
 use Rattle.papaya_seq.proofs.Numbered.{begun_number}
 use Rattle.papaya_seq.specs.Map.{IsLawfulMap, MapState, Unchanged}
 
--- the call looks for its key and has met no pair with it, or ended so, or was refused a table
+-- the call searches for its key and has met no pair with it, or ended so, or was refused a table
 abbrev pub Seeks : State → Type 0
 Seeks AtRoot = Unit {0}
 Seeks (Searching search) = Unit {0}
@@ -70,7 +71,7 @@ module _ {K V S : Type 0} (eq : K → K → Bool) (hash : S → K → ℕ) (s : 
   abbrev pub sought_coding : Coding (Option K) (Stored K V)
   sought_coding = coding_with own_coding h
 
-  -- What holds between two answers: just the words may be others, by exchanges of copies.
+  -- The facts between two answers: only the words may be others, by exchanges of copies.
   pub record IsSeeking (store : StoreState K V S) (m : Machine) : Type 0 where
     pub call_trace : CallTrace K V
     pub core : IsCore {A = Unit {0}} store [] s.mode

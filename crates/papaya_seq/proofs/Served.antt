@@ -91,7 +91,7 @@ module _ (m : Machine) where
   abbrev Serves : State → Answer → Type 0
   Serves state answer = IsServed (after (at_state state) answer).made (after (at_state state) answer).state
 
-  -- where no pair is made none was
+  -- if no pair is made, none was
   unmade_holds : (state : State) → IsUnmade m.made → HoldsOfMade (at_state state) (λ _ made. IsUnmade made)
   unmade_holds state h = record {
     same = λ _. h;
@@ -104,7 +104,7 @@ module _ (m : Machine) where
   others state h logged answer = unmade_served (after (at_state state) answer).made (after (at_state state) answer).state
       (made_after (at_state state) (λ _ made. IsUnmade made) (unmade_holds state h) logged answer)
 
-  -- what it has made after an answer, where it writes
+  -- the pairs that it has made after an answer, if it writes
   abbrev written_made : Write → Option ℕ → Answer → Made
   written_made write served (Word_read word) = write_made served m.made word
   written_made write served Exchanged = write_taken served m.made

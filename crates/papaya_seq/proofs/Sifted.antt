@@ -1,4 +1,4 @@
--- What a retain leaves, by what its closure returned.
+-- The pairs that a retain leaves, by the results of its closure.
 use Rattle.std.proofs.Common.{◌≡◌, ◌⊎◌, inl, inr, ⊎_elim, Bool, true, false, cond, List, [], ◌∷◌, None, Some, Result, Ok, Err, OnOk, IfErr, sym, ◌∙◌, ap, subst}
 use Rattle.std.proofs.lemmas.Bool.{cases_Bool, cond-true, cond-false}
 use denote.Ref.{Bor}
@@ -13,7 +13,7 @@ use Rattle.papaya_core_timeline.proofs.SoloTimeline.{lookup_alike}
 use Rattle.papaya_seq.specs.Calls.{IsSifted, Sifts}
 use Rattle.papaya_seq.specs.Retains.{Retains}
 
--- what holds anyway holds of a result
+-- a fact that always holds, holds of a result
 pub on_ok : {T E P : Type 0} (done : Result T E) → P → OnOk done P
 on_ok (Ok t) p = p
 on_ok (Err e) p = tt
@@ -75,7 +75,7 @@ module _ {K V A : Type 0} (eq : K → K → Bool) (classes : IsEquivalence eq) (
   pub sifted_left : {S : Type 0} (a : A) (s s' : StoreState K V S) → IsSifted eq says a s s' → IsWithin (map_in eq s) (map_in eq s')
   sifted_left a s s' x j = ⊎_elim (λ is. inl (is ∙ x.pairs j)) (λ none. inr none) (sifted_within a x.shown (content eq s') x.later x.sifts x.once j)
 
--- a closure that asks these answers retains what they say
+-- if the calls of a closure are those of these answers, it retains the pairs to which they agree
 module _ {F K V A : Type 0} (g : Mut F (Bor K × (Bor V × Unit {0})) Bool) (says : Says K V A) (answers_of : F → A)
     (asks : (f f' : F) (key : Bor K) (value : Bor V) (agrees : Bool) → Called g f (key, (value, tt)) agrees f'
     → says.yes (answers_of f) key.now value.now agrees (answers_of f')) where
@@ -91,7 +91,7 @@ module _ {F K V A : Type 0} (g : Mut F (Bor K × (Bor V × Unit {0})) Bool) (say
     is,
   )
 
--- where a closure agrees to no pair, none is left
+-- if a closure agrees to no pair, none is left
 pub retains_none : {F K V : Type 0} (g : Mut F (Bor K × (Bor V × Unit {0})) Bool)
     → ((f f' : F) (key : Bor K) (value : Bor V) (agrees : Bool) → Called g f (key, (value, tt)) agrees f' → agrees ≡ false)
     → (f : F) (shown left : List (Stored K V)) (f' : F) → Retains g f shown left f' → left ≡ []

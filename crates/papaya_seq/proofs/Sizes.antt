@@ -1,5 +1,5 @@
--- The length from which that of a next table is computed: that of the table which it is to follow,
--- for which the machine asks.
+-- The machine computes the length of a next table from the length of the table that it is to
+-- follow, for which it asks.
 use Rattle.std.proofs.Common.{◌≡◌, ℕ, ◌==◌, ◌^◌, nat_le, Bool, Option, None, Some, length, refl, ap, subst}
 use Rattle.std.proofs.lemmas.Bool.{cond_both}
 use Rattle.papaya_words.specs.Chunks.{chunk_count, chunk_len}
@@ -26,7 +26,7 @@ use Rattle.papaya_call_law.proofs.CopyRefusals.{copying_asks}
 use Rattle.papaya_call_law.proofs.LinkStates.{In, IsStable, Linked_in, Of, machine_holds}
 use Rattle.papaya_core_store.specs.Performs.{size_of}
 
--- `Sized` is what the number of a table and that of its slots are.
+-- `Sized` relates the number of a table and the number of its slots.
 module _ (Sized : ℕ → ℕ → Type 0) where
   -- the table that is to get a next one has the slots by which that is counted
   abbrev pub IsSizedLink : Link → Type 0
@@ -34,7 +34,7 @@ module _ (Sized : ℕ → ℕ → Type 0) where
   IsSizedLink (links.Counting behind unfit slots copied) = Sized behind slots
   IsSizedLink _ = Unit {0}
 
-  -- the answer is the size of the table that is asked for
+  -- the answer is the size of the table for which the machine asks
   abbrev pub Told : Link → ℕ → Type 0
   Told made slots = (behind copied : ℕ) (unfit : Bool) → made ≡ links.Sizing behind copied unfit → Sized behind slots
 
@@ -90,7 +90,8 @@ module _ (Sized : ℕ → ℕ → Type 0) where
     finds = link_found;
   }
 
-  -- where the machine counts by the slots of a table after an answer, it did before, or was told of them
+  -- if the machine computes a length from the slots of a table after an answer, it did before, or
+  -- the answer has their number
   pub machine_sized : (m : Machine) (answer : Answer)
       → ((slots limit : ℕ) → answer ≡ answers.Call (Size slots limit) → (behind copied : ℕ) (unfit : Bool)
       → link_in m.phase ≡ Some (links.Sizing behind copied unfit) → Sized behind slots) → In IsSizedLink (link_in m.phase)
@@ -107,7 +108,7 @@ module _ (Sized : ℕ → ℕ → Type 0) where
       new_in None n = tt
       new_in (Some made) n = tt
 
--- so it is where that is so of more numbers
+-- the same for a longer list of tables
 pub sized_beside : (Sized Sized' : ℕ → ℕ → Type 0) → ((n slots : ℕ) → Sized n slots → Sized' n slots) → (o : Option Link) → In (IsSizedLink Sized) o
     → In (IsSizedLink Sized') o
 sized_beside Sized Sized' more None h = tt
@@ -115,7 +116,7 @@ sized_beside Sized Sized' more (Some (links.Measuring behind copied unfit slots)
 sized_beside Sized Sized' more (Some (links.Counting behind unfit slots copied)) h = more behind slots h
 sized_beside Sized Sized' more (Some other) h = tt
 
--- what a machine asks that makes a table for a copy
+-- the ask of a machine that makes a table for a copy
 pub link_asked : (m : Machine) (made : Link) → link_in m.phase ≡ Some made → ask_of m ≡ asks.Copy (link_ask made)
 link_asked m made e = by_phase m.phase e
   where
@@ -124,7 +125,7 @@ link_asked m made e = by_phase m.phase e
     by_phase (Linking link) e = let same : link ≡ made = cc e in ap (λ y. asks.Copy (link_ask y)) same
     by_phase (Copying_root goes) e = ap asks.Copy (copying_asks goes made e)
 
--- a size that is answered is that of a table
+-- a size in an answer is that of a table
 pub sized_as : (o : Option TableWords) (slots limit : ℕ) → size_of o ≡ Size slots limit → (t : TableWords) × (o ≡ Some t) × (length t.slots ≡ slots)
 sized_as None slots limit e = absurd cc
 sized_as (Some t) slots limit e = let same : length t.slots ≡ slots = cc e in (t, refl, same)

@@ -66,7 +66,8 @@ abbrev pub stepped : {K V A : Type 0} → Running K V A → Machine → Answer �
 stepped later m answer = record later { machine = after m answer }
 
 module _ {K V S : Type 0} (eq : K → K → Bool) (hash : S → K → ℕ) (s : MapState K V S) (call : KeyCall K V) where
-  -- The call came to this by steps of the core, which is in order; where it has replied, the last of them gave the reply.
+  -- The call came to this by steps of the core, which is in order; if it has replied, the last of
+  -- them gave the reply.
   pub record HasCome (store : StoreState K V S) (r : Running K V (Unit {0})) : Type 0 where
     pub number : ℕ
     pub steps : ℕ
@@ -76,20 +77,20 @@ module _ {K V S : Type 0} (eq : K → K → Bool) (hash : S → K → ℕ) (s : 
     pub replied : (reply : Reply) → reply_in (ask_of r.machine) ≡ Some reply → (last : Entry) × (before : History) × (history ≡ last ∷ before)
         × (last.event ≡ Replied reply)
     pub lawful : IsLawfulCore eq (hash s.store.hasher) store (record { caller = 0; work = as_work (still r) } ∷ []) s.mode
-    -- until then it is alone, and what it has read stands there
+    -- until then it is alone, and a word that it has read is unchanged
     pub lone : reply_in (ask_of r.machine) ≡ None → IsLone eq hash (seated store (Some r) s.mode s.initial) r
-    -- its key is the call's, logged or not
+    -- its key is the call's, in the arena or not
     pub own : own_key store r ≡ Some call.key
     pub task : r.machine.call.task ≡ call.task
     pub hash_is : r.machine.call.hash ≡ hash s.store.hasher call.key
     pub shows : NamesPairs r.machine.call
     pub hasher : store.hasher ≡ s.store.hasher
-    -- where there is a limit, a number was taken for each pair
+    -- if there is a limit, a number was taken for each pair
     pub numbered : IsNumbered s.mode.limit store r.machine
     -- no table is shorter than the initial capacity, and each that it makes follows another
     pub long : IsLong s store r.machine
 
-  -- so from a map that is in order
+  -- this holds if the map before the call is in order
   abbrev pub IsMade : StoreState K V S → Running K V (Unit {0}) → Type 0
   IsMade store r = IsLawfulKeys eq (hash s.store.hasher) → IsLawfulMap eq (hash s.store.hasher) s.store s.mode s.initial
       → hash s.store.hasher call.key < 2 ^ 64 → HasCome store r
@@ -174,14 +175,14 @@ module _ {K V S : Type 0} (eq : K → K → Bool) (hash : S → K → ℕ) (s : 
       cause = made_caused;
     }
 
-    -- what it leaves of the law
+    -- the effect of the step, in terms of the law
     step : IsStep eq (hash s.store.hasher) keys false now 0 (seated store' (goes_on reply next) s.mode s.initial) event reply made_step
         now_lawful.law.0 now_lawful.law.1.0
     step = let (es, (call_traces, kept)) = now_lawful.law in
         kept_step eq (hash s.store.hasher) keys false now 0 (seated store' (goes_on reply next) s.mode s.initial) event reply made_step
         (ap hash came.hasher) es call_traces now_lawful.core kept
 
-    -- the answer is one to what was asked
+    -- the answer is one to its ask
     pub made_ordered : IsInOrder r.machine answer r.machine.phase
     unfolding made_step
     made_ordered =
@@ -208,11 +209,11 @@ module _ {K V S : Type 0} (eq : K → K → Bool) (hash : S → K → ℕ) (s : 
         (call_traces 0).begun (call_traces 0).since (subst (AllAllowed g first_state) (sym call_kept.split) kept.allowed) call_kept.key r.machine
         (call_traces 0).loaded call_kept.relies (Exchange Made old new) e
 
-    -- what it does to the arena of pairs, and to how many numbers were taken
+    -- the effect on the arena of pairs, and on how many numbers were taken
     pub made_logs : IsLogStep store store' (ask_of r.machine) answer
     made_logs = log_step eq whatever hash false r.machine store store' r later (came.lone going).current.number takes_none answer performs
 
-    -- what it stands on it stood on, or its closure says so with this answer
+    -- it acted on the same result before, or its closure returned the result with this answer
     pub made_says : (said : ClosureResult) → ActsOn (after r.machine answer).call said → ActsOn r.machine.call said
         ⊎ ((own : IsOwnStep r.machine answer) × IsResultBy r.machine.call own.told said)
     made_says said stands = chain_said r.machine answer made_ordered (now_lawful.core.valid 0 r refl).call came.shows said stands
@@ -290,7 +291,7 @@ module _ {K V S : Type 0} (eq : K → K → Bool) (hash : S → K → ℕ) (s : 
               es step.made call_traces (told_call_traces call_traces 0 step.made step.loaded) kept core step.kept)) came.long;
         }
 
-  -- one more ask is answered
+  -- after one more answer
   pub made_more : (store : StoreState K V S) (r : Running K V (Unit {0})) (answer : Answer) (store' : StoreState K V S)
       (later : Running K V (Unit {0})) → reply_in (ask_of r.machine) ≡ None
       → PerformsAsk eq whatever hash false (ask_of r.machine) store r answer store' later → later.machine ≡ r.machine → IsMade store r

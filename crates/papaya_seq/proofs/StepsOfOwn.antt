@@ -15,7 +15,7 @@ use Rattle.papaya_core_store.specs.Performs.{Performs}
 use Rattle.papaya_core_store.specs.Store.{StoreState}
 use Rattle.papaya_core_store.specs.declared.pairs.Running.{Running}
 
--- a call that is not set aside goes on for itself
+-- a call that is not set aside continues for itself
 pub own_step : (m : Machine) (answer : Answer) → Goes m answer → ((t : ℕ) → left_by m.call.state ≡ Some t → ⊥) → IsOwnStep m answer
 own_step m answer (inl waits) stands = absurd (stands waits.from waits.left)
 own_step m answer (inr (inl own)) stands = own
@@ -27,7 +27,7 @@ own_step m answer (inr (inr (inr (inr ends)))) stands = absurd (stands ends.from
 pub leaves_none : (left : Option ℕ) → left ≡ None → (t : ℕ) → left ≡ Some t → ⊥
 leaves_none left none t some = let f : None ≡ Some t = sym none ∙ some in cc
 
--- what a call asks for itself is answered
+-- a call's own ask is answered
 pub own_performs : {K V S A : Type 0} (eq : K → K → Bool) (says : Says K V A) (hash : S → K → ℕ) (store : StoreState K V S) (r : Running K V A)
     (answer : Answer) (store' : StoreState K V S) (later : Running K V A) (told : Call_answer)
     → r.machine.phase ≡ Calling → answer ≡ answers.Call told → PerformsAsk eq says hash false (ask_of r.machine) store r answer store' later

@@ -1,5 +1,5 @@
--- The lengths of tables after an answered ask: a table that is made has the slots that were asked
--- for, and each other table keeps its length.
+-- The lengths of tables after an answered ask: a table that is made has as many slots as the ask
+-- names, and each other table keeps its length.
 use Rattle.std.proofs.Common.{◌≡◌, ◌⊎◌, inl, inr, ℕ, zero, suc, ◌+◌, ◌-◌, ◌==◌, ◌<◌, ◌≤◌, nat_lt}
 use Rattle.std.proofs.Common.{Bool, true, false, cond, List, [], ◌∷◌, ◌++◌, length, length-set, map}
 use Rattle.std.proofs.Common.{max, replicate, slice_get, slice_set, Option, None, Some, refl, sym}
@@ -68,7 +68,7 @@ put_at_lengths at n w word = go (n == 0)
     go true = refl
     go false = put_in_lengths at (slice_get w.tables (n - 1)) w.tables (n - 1) word refl
 
--- of the words of all tables
+-- for the words of all tables
 pub put_lengths : (w : Tables) (at : At) (word : ℕ) → lengths_of (put w at word) ≡ lengths_of w
 put_lengths w Root word = refl
 put_lengths w Made word = refl
@@ -83,7 +83,7 @@ note_lengths w t x hint = by-table w t x hint (λ v. lengths_of v ≡ lengths_of
     (λ table there. set_lengths w.tables (t - 1) table (hinted table x hint) (table_there w.tables t table there).1 (hinted-same table x hint long refl))
 
 module _ {K V S : Type 0} (Asked : ℕ → Type 0) (s s' : StoreState K V S) where
-  -- the tables stay as long as they were, or one is made that was asked for so long
+  -- the tables stay as long as they were, or one is made with the length that was asked for
   abbrev pub IsLengthened : Type 0
   IsLengthened = (lengths_of s'.words ≡ lengths_of s.words) ⊎ ((slots : ℕ) × Asked slots × (lengths_of s'.words ≡ lengths_of s.words ++ slots ∷ []))
 
@@ -148,13 +148,13 @@ module _ {K V S : Type 0} (eq : K → K → Bool) (refuse : Bool) where
             (λ (y : StoreState K V S). y.count) made
       ])
 
--- an ask of a call counts where it adds to the count; that and a hint are answered `Ok`
+-- an ask of a call counts if it adds to the count; it has `Ok` as its answer, and so has a hint
 abbrev pub IsCountedBy : {K V S : Type 0} → Call_ask → StoreState K V S → Call_answer → StoreState K V S → Type 0
 IsCountedBy (AddToShard by) s a s' = a ≡ Ok_done
 IsCountedBy (WriteHint t x hint) s a s' = (a ≡ Ok_done) × (s'.count ≡ s.count)
 IsCountedBy ask s a s' = s'.count ≡ s.count
 
--- what is logged leaves the words and the count
+-- an ask that stores a part leaves the words and the count
 pub logged_same : {K V S A : Type 0} (s : StoreState K V S) (r : Running K V A) (a : Call_answer) (s' : StoreState K V S) (r' : Running K V A)
     → LogsOrNot s r a s' r' → (s'.words ≡ s.words) × (s'.count ≡ s.count)
 logged_same {K} {V} {S} s r a s' r' (inl (none, stays)) = (ap (λ (y : StoreState K V S). y.words) stays.0, ap (λ (y : StoreState K V S). y.count) stays.0)

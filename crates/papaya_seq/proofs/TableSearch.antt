@@ -21,7 +21,7 @@ IsPairKind kinds.Marked = Unit {0}
 IsPairKind kinds.Copied = Unit {0}
 IsPairKind _ = ⊥
 
--- `May` says which words may be compared
+-- `May` states which words may be compared
 module _ (May : ℕ → Type 0) where
   -- a search that compares compares such a word
   abbrev pub MayCompare : Search → Type 0
@@ -34,7 +34,7 @@ module _ (May : ℕ → Type 0) where
   abbrev pub IsSearchIn : ℕ → Search → Type 0
   IsSearchIn t search = (table_of search ≡ t) × MayCompare search
 
-  -- what a search of the table has seen
+  -- a step of a search of the table
   abbrev pub IsSeenIn : ℕ → ProbeStep → Type 0
   IsSeenIn t (seen.On search) = IsSearchIn t search
   IsSeenIn t (seen.Empty at) = at.table ≡ t
@@ -42,7 +42,7 @@ module _ (May : ℕ → Type 0) where
   IsSeenIn t (seen.Over table) = table ≡ t
 
   module _ (t : ℕ) where
-    -- a search goes on in its table
+    -- a search continues in its table
     go_on_in : (at : Place) → at.table ≡ t → IsSeenIn t (go_on at)
     go_on_in at here = cond_both (nat_lt at.probe.len at.limit) (seen.On (Looking (next_place at))) (seen.Over at.table) (IsSeenIn t)
         (λ _. (here, tt)) (λ _. here)
@@ -66,7 +66,7 @@ module _ (May : ℕ → Type 0) where
     match_in kinds.Buried at word is here may = (here, may, λ copied. cc (is, copied))
     match_in kinds.Closed at word is here may = (here, may, λ copied. cc (is, copied))
 
-    -- whatever it is answered
+    -- after each answer
     pub loaded_in : (search : Search) (hash word : ℕ) → IsSearchIn t search → (IsPairKind (kind_of word) → May word) → IsSeenIn t (at_word search hash word)
     loaded_in (Sizing table) hash word now may = now
     loaded_in (Looking at) hash hint now may = hinted_in at hash hint now.0

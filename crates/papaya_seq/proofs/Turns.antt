@@ -43,7 +43,7 @@ module _ {K V S : Type 0} (eq : K → K → Bool) (hash : S → K → ℕ) (s : 
   abbrev pub begins_so : (number : ℕ) → IsHashed → IsPowerOfTwo s.initial → Begins (hash s.store.hasher) (core_of s) 0 call (start number)
   begins_so number fits power = record { number = number; store = refl; callers = refl; mode = refl; initial = refl; fits = fits; power = power }
 
-  -- the turns of a run that made so many steps
+  -- the turns of a run that made `steps` steps
   pub turns_made : (number : ℕ) → IsHashed → IsPowerOfTwo s.initial → (steps : ℕ) (s' : CoreState K V S (Unit {0})) (history : History)
       → StepsRun eq whatever hash 1 0 steps (start number) (with_event 0 0 Begun []) s' history
       → TurnsRun eq whatever hash (Begin 0 call ∷ Finish 0 steps ∷ []) 2 (core_of s) s' history
@@ -56,7 +56,7 @@ module _ {K V S : Type 0} (eq : K → K → Bool) (hash : S → K → ℕ) (s : 
     runs,
   )
 
-  -- where there is a limit, a number was taken for each pair
+  -- if there is a limit, a number was taken for each pair
   abbrev pub HasNumbers : StoreState K V S → Type 0
   HasNumbers store = (most : ℕ) → s.mode.limit ≡ Some most → length store.pairs ≤ store.words.made
 

@@ -17,7 +17,7 @@ use Rattle.papaya_core_timeline.specs.declared.seat.Seat.{Seat}
 use Rattle.papaya_core_timeline.proofs.KeptSettings.{IsLawfulKeys, tables_hashed}
 use Rattle.papaya_seq.specs.Map.{next_in, next_of}
 
--- the next table's number is the word that stands there
+-- the next table's number is the word that is there
 pub next_is : (tables : List TableWords) (t : ℕ) → word_in (λ v. v.next) (table_of tables t) ≡ next_in (table_of tables t)
 next_is tables t = by_table (table_of tables t)
   where
@@ -25,7 +25,7 @@ next_is tables t = by_table (table_of tables t)
     by_table None = refl
     by_table (Some v) = refl
 
--- where no pairs are being moved, no table comes after the root
+-- while no pairs are being moved, no table comes after the root
 pub last_next : {K V S : Type 0} (store : StoreState K V S) → next_of store ≡ 0 → word_at store.words (Next store.words.root) ≡ 0
 last_next store last = next_is store.words.tables store.words.root ∙ last
 

@@ -16,19 +16,19 @@ use Rattle.papaya_seq.proofs.Answered.{logged_there, store_refusal, write_cause}
 use Rattle.papaya_seq.proofs.ComputesDone.{IsFirst, IsRefused, Leaves, Refuses, facts_of, said_none, said_some, value_stored}
 
 module _ {K V T : Type 0} (post : Option (Bor K × Bor V) → Operation V T → Type 0) where
-  -- of a pair the closure computes a value
+  -- the closure computes a value of a pair
   abbrev pub ComputesOf : (V → V → Type 0) → Type 0
   ComputesOf computes = (q : Bor K × Bor V) (o : Operation V T) → post (Some q) o → (v : V) × computes q.1.now v × (o ≡ Insert v)
 
-  -- of nothing it makes a value
+  -- it makes a value of `None`
   abbrev pub MakesOfNone : (V → Type 0) → Type 0
   MakesOfNone makes = (o : Operation V T) → post None o → (v : V) × makes v × (o ≡ Insert v)
 
-  -- of a pair it aborts
+  -- it aborts for a pair
   abbrev pub AbortsOfSome : T → Type 0
   AbortsOfSome t = (q : Bor K × Bor V) (o : Operation V T) → post (Some q) o → o ≡ Abort t
 
-  -- of nothing it aborts
+  -- it aborts for `None`
   abbrev pub AbortsOfNone : T → Type 0
   AbortsOfNone t = (o : Operation V T) → post None o → o ≡ Abort t
 
@@ -76,7 +76,7 @@ module _ {K V T : Type 0} (post : Option (Bor K × Bor V) → Operation V T → 
   some_no_remove : (t : T) (p : Stored K V) → Says post (Some p) Remove → AbortsOfSome t → ⊥
   some_no_remove t p says law = said_some post (λ _. ⊥) p Remove says (λ q said. let f : Remove ≡ Abort t = law q Remove said in absurd cc)
 
--- a value is shown of the pair of this number
+-- a value of the pair of this number is returned
 abbrev pub IsShownOf : {K V S : Type 0} → MapState K V S → ℕ → V → Type 0
 IsShownOf {K = K} {V = V} s n w = (p : Stored K V) → pair_of s.store n ≡ Some p → w ≡ p.value
 
@@ -88,7 +88,7 @@ pub record IsFoundBy {K V S : Type 0} (eq : K → K → Bool) (k : K) (s s' : Ma
   pub same : Unchanged eq s.store s'.store
   pub keeps : KeepsAndGrows s s'
 
--- the value that is shown of the pair that was found is the one that the key has
+-- the value that is returned of the pair that was found is the one that the key has
 pub tried_there : {K V S : Type 0} (eq : K → K → Bool) (k : K) (s s' : MapState K V S) (m : ℕ) (w : V) → IsFoundBy eq k s s' m → IsShownOf s' m w
     → (IsOccupied eq k s.store w s'.store × KeepsAndGrows s s') × ((p : Stored K V) × (map_in eq s.store k ≡ Some p) × (p.value ≡ w))
 tried_there eq k s s' m w f shown =
@@ -97,7 +97,7 @@ tried_there eq k s s' m w f shown =
 
 module _ {K V S T : Type 0} {post : Option (Bor K × Bor V) → Operation V T → Type 0} (eq : K → K → Bool) (law : IsEquivalence eq) (k : K)
     (s s' : MapState K V S) (result : Result (Computed ℕ T) Refused) where
-  -- a pair that was stored, new or in the place of one, is in the log
+  -- a pair that was stored, new or in the place of one, is in the arena
   pub inserted_logged : (n : ℕ) → result ≡ Ok (Inserted n) → ComputesBy eq k (λ p. p.number) (Says post) s result s' → IsSome (pair_of s'.store n)
   inserted_logged n is c = let f = facts_of post eq law k s s' result (Ok (Inserted n)) is c in
       subst (λ (o : Option (Stored K V)). IsSome o) (sym f.logged) refl
@@ -195,7 +195,7 @@ module _ {K V S T : Type 0} {post : Option (Bor K × Bor V) → Operation V T �
       go None Remove l r = absurd (making_no_remove post makes l.says making)
       go held (Abort u) l r = absurd r
 
-  -- a value was made and stored where the key was absent
+  -- a value was made and stored if the key was absent
   pub tried_stored : (makes : V → Type 0) (n : ℕ) (w : V) → result ≡ Ok (Inserted n) → ComputesBy eq k (λ p. p.number) (Says post) s result s'
       → IsShownOf s' n w → MakesOfNone post makes
       → IsTriedWith eq k makes s (Ok (Ok w)) s' × (makes w × (map_in eq s.store k ≡ None))

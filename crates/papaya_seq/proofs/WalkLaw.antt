@@ -1,5 +1,5 @@
--- What the law says about an iteration over a map in which no call is under way: when two tables
--- have the same pair, and which tables follow each other.
+-- The law of an iteration over a map in which no call is under way: when two tables have the same
+-- pair, and which tables follow each other.
 use Rattle.std.proofs.Common.{◌≡◌, ◌⊎◌, inl, inr, ℕ, zero, suc, ◌+◌, ◌<◌, ◌≤◌, Bool, true, false}
 use Rattle.std.proofs.Common.{List, [], ◌∷◌, ◌++◌, length, Option, Some, None, is_some, refl, sym}
 use Rattle.std.proofs.Common.{◌∙◌, ap, subst, arith}
@@ -44,7 +44,7 @@ use Rattle.papaya_seq.specs.Map.{slots_in}
 use Rattle.papaya_seq.specs.Walks.{HasMark, HasNoMark, HasNoMarkAt, HasNoMarkIn, left_from, pairs_at, pairs_in_table, rest_of, table_after}
 use Rattle.papaya_seq.proofs.WalkLists.{slots_past}
 
--- what adds nothing to a list is empty
+-- a list that adds nothing is empty
 adds_none : {A : Type 0} (ps zs : List A) → ps ++ zs ≡ ps → zs ≡ []
 adds_none [] zs e = e
 adds_none (p ∷ ps) zs e = let behind : ps ++ zs ≡ ps = cc e in adds_none ps zs behind
@@ -76,7 +76,7 @@ module _ {K V S A : Type 0} (eq : K → K → Bool) (hash : K → ℕ) (callers 
   sound : IsSound g now
   sound = keeping_sound g now (map_left g es) keeps
 
-  -- so many links after a table
+  -- the table after `n` links
   walk_is : (n t : ℕ) → table_after store n t ≡ walk now.next n t
   walk_is zero t = refl
   walk_is (suc n) t = ap (table_after store n) (sym (kept.coded (Next t))) ∙ walk_is n (now.next t) ∙ sym (walk_first now.next n t)
@@ -113,7 +113,7 @@ module _ {K V S A : Type 0} (eq : K → K → Bool) (hash : K → ℕ) (callers 
       let is : walk now.next n now.root ≡ table_after store n store.words.root = ap (walk now.next n) root_is ∙ sym (walk_is n store.words.root) in
       subst (IsOn now.first now.next) is (walk_on now.next sound.rises now.first now.root n root_on (subst (λ y. 0 < y) (sym is) some))
 
-  -- a word that has a pair names one of the log
+  -- a word that has a pair names one of the arena
   pub pair_logged : (t x n : ℕ) → (kind_of (word_at store.words (Slot t x)) ≡ kinds.Live) ⊎ (kind_of (word_at store.words (Slot t x)) ≡ kinds.Marked)
       → number_of (word_at store.words (Slot t x)) ≡ n
       → (p : Stored K V) × Holds (now.slot t x) p × (pair_of store n ≡ Some p)
@@ -206,7 +206,7 @@ module _ {K V S A : Type 0} (eq : K → K → Bool) (hash : K → ℕ) (callers 
         named_so : number_of (code g c (Marked p)) ≡ p.number
         named_so = (code_pair g c hashed.coding (Marked p) p refl)
 
-    -- what a search sees of the pair where it stands
+    -- a probe finds the pair in its slot
     stands : (j : ℕ) × (j < g.places u) × (g.place p.key u j ≡ x) × ((look g now p.key u j ≡ Here p) ⊎ (look g now p.key u j ≡ Leaving p))
     stands = at_place g hashed.lawful now (map_left g es) keeps u x p holds p.key (hashed.lawful.itself p.key)
 

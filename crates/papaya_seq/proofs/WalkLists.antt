@@ -35,7 +35,7 @@ module _ {K V S : Type 0} (store : StoreState K V S) where
   next_there : (t : ℕ) (table : TableWords) → table_of store.words.tables t ≡ Some table → word_at store.words (Next t) ≡ table.next
   next_there t table there = ap (word_in (λ v. v.next)) there
 
--- a pair, unless it was given before
+-- a pair, unless it was returned before
 abbrev pub given : {K V : Type 0} → Bool → Stored K V → List (Stored K V)
 given before p = cond before [] (p ∷ [])
 
@@ -61,7 +61,7 @@ module _ {K V S : Type 0} (eq : K → K → Bool) (store : StoreState K V S) whe
       of_table None = refl
       of_table (Some table) = refl
 
-  -- what is left behind a table
+  -- the pairs that are left behind a table
   abbrev behind : ℕ → TableWords → List (Stored K V)
   behind n table = missing (pairs_of_slots store table.slots) (pairs_from eq store n (table_of store.words.tables table.next))
 
@@ -110,7 +110,7 @@ module _ {K V S : Type 0} (eq : K → K → Bool) (store : StoreState K V S) whe
     left_past (suc passed) (suc n) t table there past low = ap (missing (pairs_at store t))
         (left_past passed n (word_at store.words (Next t)) table there past (omega (arith, low)))
 
-    -- where there is no table none are left
+    -- if there is no table, none are left
     pub left_none : (passed n t : ℕ) → table_of store.words.tables (table_after store passed t) ≡ None → left_from eq store passed i n t ≡ []
     left_none zero zero t none = refl
     left_none zero (suc n) t none = ap (rest_of eq store i n) none

@@ -1,4 +1,4 @@
--- How an iteration goes on.
+-- The steps of an iteration.
 use Rattle.std.proofs.Common.{◌≡◌, ◌⊎◌, inl, inr, ℕ, zero, suc, ◌+◌, ◌<◌, ◌≤◌, ◌||◌, Bool, true}
 use Rattle.std.proofs.Common.{false, [], ◌∷◌, ◌++◌, length, slice_index, Option}
 use Rattle.std.proofs.Common.{Some, None, is_some, refl, sym, ◌∙◌, ap, subst, arith}
@@ -88,7 +88,7 @@ module _ {K V S : Type 0} (store : StoreState K V S) where
       ];
     })
 
-  -- the search goes past tables that have no pair of the key
+  -- the search passes tables that have no pair of the key
   pub record IsPassing (eq : K → K → Bool) (n : ℕ) (at : Position) (t passed : ℕ) : Type 0 where
     pub links : ℕ
     pub all : links + passed ≡ at.passed
@@ -110,7 +110,7 @@ module _ {K V S : Type 0} (eq : K → K → Bool) (hash : K → ℕ) (s : MapSta
   slots_there t (Some table) there some = (table, there)
 
   module _ (at : Position) (stand : IsPosition s at) where
-    -- where a table was passed, the mode is not blocking
+    -- if a table was passed, the mode is not blocking
     going : 0 < at.passed → is_blocking s.mode.resize ≡ false
     going some = of_mode s.mode.resize refl
       where
@@ -118,7 +118,7 @@ module _ {K V S : Type 0} (eq : K → K → Bool) (hash : K → ℕ) (s : MapSta
         of_mode (Incremental chunk) e = ap is_blocking e
         of_mode Blocking e = let none = stand.alone e in absurd (omega (arith, some, none))
 
-    -- the table where the walk stands, by the links from the root
+    -- the table at which the iteration is, by the links from the root
     stand_there : (table : TableWords) → table_of s.store.words.tables at.table ≡ Some table
         → table_of s.store.words.tables (table_after s.store at.passed s.store.words.root) ≡ Some table
     stand_there table there = ap (table_of s.store.words.tables) stand.on ∙ there
@@ -161,7 +161,7 @@ module _ {K V S : Type 0} (eq : K → K → Bool) (hash : K → ℕ) (s : MapSta
             (subst (Holds ((now eq hash [] s.mode s.store lawful keys).slot at.table at.slot)) same holds)
             (subst (HasNoMark s.store h t) (sym (pair_number s.store n p logged)) none)
 
-        -- then the search goes past it
+        -- then the search passes it
         pub passing_more : ((p : Stored K V) → pair_of s.store n ≡ Some p → h ≡ low hash p.key) → HasNoMark s.store h t n
             → IsPassing s.store eq n at (word_at s.store.words (Next t)) passed
         passing_more hashes none = record {
@@ -182,7 +182,7 @@ module _ {K V S : Type 0} (eq : K → K → Bool) (hash : K → ℕ) (s : MapSta
             ∙ ap (λ b. b || has_in eq s.store passed (word_at s.store.words (Next t)) p.key)
             (some_marked eq hash [] s.mode s.store lawful keys t p (ap (pair_of s.store) number ∙ logged) (subst (HasMark s.store t) (sym number) mark)))
 
-      -- the pair that the word names, alone
+      -- the list of the pair that the word names
       word_pairs : (p : Stored K V) → pair_of s.store n ≡ Some p → (table : TableWords) → table_of s.store.words.tables at.table ≡ Some table
           → pairs_of_word s.store (slice_index table.slots at.slot) ≡ p ∷ []
       word_pairs p logged table there =
@@ -206,7 +206,7 @@ module _ {K V S : Type 0} (eq : K → K → Bool) (hash : K → ℕ) (s : MapSta
           ∙ ap (λ b. given b p ++ left_from eq s.store at.passed (suc at.slot) (length s.store.words.tables) s.store.words.root) is
           ∙ ap (λ i. given before p ++ left_from eq s.store at.passed i (length s.store.words.tables) s.store.words.root) next
 
-      -- so it is given
+      -- so it is returned
       pub word_given : ((p : Stored K V) → pair_of s.store n ≡ Some p → has_in eq s.store at.passed s.store.words.root p.key ≡ false)
           → IsStepped eq s.store at (Some n)
       word_given new =
@@ -243,7 +243,7 @@ module _ {K V S : Type 0} (eq : K → K → Bool) (hash : K → ℕ) (s : MapSta
         ∙ ap (λ i. left_from eq s.store at.passed i (length s.store.words.tables) s.store.words.root) next
 
     module _ (past : slots_in (table_of s.store.words.tables at.table) ≤ at.slot) where
-      -- behind its last slot the walk comes to the next table
+      -- behind its last slot the iteration comes to the next table
       pub past_table : left_to eq s.store at ≡ left_from eq s.store (suc at.passed) zero (length s.store.words.tables) s.store.words.root
       past_table = of_table (table_of s.store.words.tables at.table) refl
         where
@@ -260,16 +260,16 @@ module _ {K V S : Type 0} (eq : K → K → Bool) (hash : K → ℕ) (s : MapSta
           of_table (Some table) there = left_past eq s.store at.slot at.passed (length s.store.words.tables) s.store.words.root table
               (stand_there table there) (subst (λ o. slots_in o ≤ at.slot) there past) (stand_low table there).1
 
-      -- the table so many links from the root
+      -- the table after one more link from the root
       next_after : table_after s.store (suc at.passed) s.store.words.root ≡ word_at s.store.words (Next at.table)
       next_after = after_more s.store at.passed s.store.words.root ∙ ap (λ t. word_at s.store.words (Next t)) stand.on
 
-      -- where there is none, the walk is over
+      -- if there is none, the iteration is over
       pub over_last : word_at s.store.words (Next at.table) ≡ 0 → left_to eq s.store at ≡ []
       over_last last = past_table ∙ left_none eq s.store zero (suc at.passed) (length s.store.words.tables) s.store.words.root
           (ap (table_of s.store.words.tables) (next_after ∙ last))
 
-      -- so it is behind the root with blocking
+      -- the same behind the root with blocking
       pub over_blocking : s.mode.resize ≡ Blocking → left_to eq s.store at ≡ []
       over_blocking blocks =
           let none : at.passed ≡ 0 = stand.alone blocks in
@@ -279,7 +279,7 @@ module _ {K V S : Type 0} (eq : K → K → Bool) (hash : K → ℕ) (s : MapSta
           (subst (λ t. slots_in (table_of s.store.words.tables t) ≤ at.slot) (sym root) past)
 
       module _ (some : word_at s.store.words (Next at.table) ≡ 0 → ⊥) (going_on : s.mode.resize ≡ Blocking → ⊥) where
-        -- the stand before the next table's first slot
+        -- the position before the next table's first slot
         abbrev pub next_stand : Position
         next_stand = record { table = word_at s.store.words (Next at.table); slot = 0; passed = at.passed + 1 }
 
@@ -310,45 +310,45 @@ module _ {K V S : Type 0} (eq : K → K → Bool) (hash : K → ℕ) (s : MapSta
             of_next (Some table) there = (table, there)
 
 module _ {K V S : Type 0} (eq : K → K → Bool) (store : StoreState K V S) where
-  -- a step that gave a pair, after some that gave none
+  -- a step that returned a pair, after some that returned none
   pub stepped_here : (first at : Position) (o : Option ℕ) → left_to eq store first ≡ left_to eq store at → IsStepped eq store at o → is_some o ≡ true
       → IsNextHere eq store first o (record at { slot = at.slot + 1 })
   stepped_here first at None same step some = absurd cc
   stepped_here first at (Some n) same (p, logged, left) some = (p, logged, same ∙ left)
 
-  -- a pair of a table, after tables that gave none
+  -- a pair of a table, after tables that had none to return
   pub here_next : (first at at' : Position) (o : Option ℕ) → left_to eq store first ≡ left_to eq store at → IsNextHere eq store at o at'
       → is_some o ≡ true → IsNext eq store first o at'
   here_next first at at' None same step some = absurd cc
   here_next first at at' (Some n) same (p, logged, left) some = (p, logged, same ∙ left)
 
-  -- a table that gave none
+  -- a table that had none to return
   pub here_none : (at at' : Position) (o : Option ℕ) → IsNextHere eq store at o at' → is_some o ≡ false → (left_to eq store at ≡ left_to eq store at')
       × (slots_in (table_of store.words.tables at'.table) ≤ at'.slot)
   here_none at at' None step none = step
   here_none at at' (Some n) step none = absurd cc
 
-  -- what comes next, where the way to there gave nothing
+  -- the next pair, if the steps before it returned none
   pub next_later : (first at at' : Position) (o : Option ℕ) → left_to eq store first ≡ left_to eq store at → IsNext eq store at o at' → IsNext eq store first o at'
   next_later first at at' None same next = (same ∙ next.0, next.1)
   next_later first at at' (Some n) same (p, logged, left) = (p, logged, same ∙ left)
 
-  -- before any table was passed, as many are passed as said
+  -- the pairs that are left at a position for which no table was passed
   pub left_of_root : (at : Position) → at.passed ≡ 0 → left_to eq store at ≡ left_to eq store (record at { passed = 0 })
   left_of_root at none = ap (λ n. left_from eq store n at.slot (length store.words.tables) store.words.root) none
 
--- a walk that holds a table stands there, and has passed none
+-- an iteration that holds a table is at that table, and has passed none
 pub held_some : {K V S : Type 0} (store : StoreState K V S) (at : Position) (o : Option (Bor TableWords)) (root : Bor TableWords) (slots : ℕ) → o ≡ Some root
     → 0 < slots → IsHeld store at o slots → (table_of store.words.tables at.table ≡ Some root.now) × (at.passed ≡ 0) × (slots ≡ length root.now.slots)
 held_some store at o root slots is some (inl none) = absurd (omega (arith, none, some))
 held_some store at o root slots is some (inr held) = subst (λ x. IsInRoot store at x slots) is held
 
--- the next pair of a map is one that it has logged
+-- the next pair of a map is one of its arena
 pub next_logged : {K V S : Type 0} (eq : K → K → Bool) (store : StoreState K V S) (at at' : Position) (o : Option ℕ) (n : ℕ) → o ≡ Some n
     → IsNext eq store at o at' → (p : Stored K V) × (pair_of store n ≡ Some p) × (left_to eq store at ≡ p ∷ left_to eq store at')
 next_logged eq store at at' o n is next = subst (λ v. IsNext eq store at v at') is next
 
--- a stand in the same table
+-- a position in the same table
 pub stand_same : {K V S : Type 0} (s : MapState K V S) (at at' : Position) → at'.table ≡ at.table → at'.passed ≡ at.passed → IsPosition s at → IsPosition s at'
 stand_same s at at' table passed stand = record {
   on = ap (λ n. table_after s.store n s.store.words.root) passed ∙ stand.on ∙ sym table;

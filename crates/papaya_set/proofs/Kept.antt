@@ -10,18 +10,18 @@ use Rattle.papaya_core_store.specs.Store.{StoreState, Stored}
 use Rattle.papaya_seq.specs.Retains.{IsRetained, Retains}
 use Rattle.papaya_set.specs.Sets.{AreKept}
 
--- the closure of a map, `w`, asks the closure of keys, `f`, that it holds
+-- the closure of a map, `w`, calls the closure of keys, `f`, that it holds
 module _ {F W K : Type 0} (g : Mut F (Bor K × Unit {0}) Bool) (h : Mut W (Bor K × (Bor (Unit {0}) × Unit {0})) Bool) (of : W → F)
     (asks : (w w' : W) (key : Bor K) (value : Bor (Unit {0})) (agrees : Bool) → Called h w (key, (value, tt)) agrees w'
     → Called g (of w) (key, tt) agrees (of w')) where
-  -- it may be called wherever that one may be
+  -- it may be called in each state in which that one may be
   pub callable : ((w : W) (key : Bor K) (value : Bor (Unit {0})) → always_mut g (of w) → h.pre w (key, (value, tt))) → (w : W) → always_mut g (of w)
       → always_mut h w
   callable may =
       mut_by h (λ v. always_mut g (of v)) (λ v a always. may v a.0 a.1.0 always)
       (λ v a agrees v' always called. mut_next g (of v) (a.0, tt) agrees (of v') (of v') (asks v v' a.0 a.1.0 agrees called) refl always)
 
-  -- an answer of the one is an answer of the other
+  -- a result of the one is a result of the other
   abbrev Asked : F → Stored K (Unit {0}) → Bool → F → Type 0
   Asked f p agrees f' = CalledAt g f p.key agrees f'
 

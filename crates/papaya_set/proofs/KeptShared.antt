@@ -9,11 +9,11 @@ use Rattle.papaya_map_lookup.specs.History.{Change}
 use Rattle.papaya_map_scan.specs.Leaving.{HasKept}
 use Rattle.papaya_set.specs.Shared.{JudgesKey}
 
--- the closure of a map, `w`, asks the closure of keys that it holds
+-- the closure of a map, `w`, calls the closure of keys that it holds
 module _ {F W K : Type 0} (g : Mut F (Bor K × Unit {0}) Bool) (h : Mut W (Bor K × (Bor (Unit {0}) × Unit {0})) Bool) (of : W → F)
     (asks : (w w' : W) (key : Bor K) (value : Bor (Unit {0})) (agrees : Bool) → Called h w (key, (value, tt)) agrees w'
     → Called g (of w) (key, tt) agrees (of w')) where
-  -- what the one answered, the other did
+  -- both closures returned the same results
   said_of : (first : W) (said : List (Stored K (Unit {0}) × Bool)) (left : W) → HasReturned (Judges h) first said left
       → HasReturned (JudgesKey g) (of first) said (of left)
   said_of first [] left is = ap of is
@@ -35,7 +35,7 @@ module _ {F W K : Type 0} (g : Mut F (Bor K × Unit {0}) Bool) (h : Mut W (Bor K
     leaves = k.leaves;
   }
 
-  -- by a pass that had made no change
+  -- for a pass that had made no change
   pub kept_since : {A : Type 0} (eq : K → K → Bool) (old new made made' : List (Change K (Stored K (Unit {0})))) (first : W)
       (result : Result A Refused) → made ≡ [] → HasKept eq old new made made' (Judges h) first result
       → HasKept eq old new [] made' (JudgesKey g) (of first) result

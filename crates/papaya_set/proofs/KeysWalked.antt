@@ -1,4 +1,4 @@
--- An iteration over a set returns the keys of what an iteration over its map returns.
+-- An iteration over a set returns the keys of the entries that an iteration over its map returns.
 use Rattle.std.proofs.Common.{◌≡◌, Bool, Some, None, List, [], ◌∷◌, map, refl, ap, subst}
 use Rattle.std.specs.Iterator.{Yields}
 use denote.Bor.{Bor}
@@ -13,7 +13,7 @@ use Rattle.papaya_seq.specs.Map.{deref_pair}
 use Rattle.papaya_set.specs.Sets.{entry_of_key}
 
 module _ {K : Type 0} (eq : K → K → Bool) where
-  -- the entries of these keys, which the map gave
+  -- the entries of these keys, which the map's iterator returned
   pub record AreOfKeys (first : Walked K (Unit {0})) (keys : List (Bor K)) (left : Walked K (Unit {0})) : Type 0 where
     pub lent : List (Bor K × Bor (Unit {0}))
     pub gave : Yields (Gives eq) first lent left
@@ -29,7 +29,7 @@ module _ {K : Type 0} (eq : K → K → Bool) where
         are = ap (λ (es : List (K × Unit {0})). (k.now, tt) ∷ es) more.are;
       }
 
-  -- an iteration gave these
+  -- the iterator returned these keys, and then none
   pub walked_keys : (book : Book) (seen : List (Change K (Stored K (Unit {0})))) (walk first left end : Walked K (Unit {0})) (keys : List (Bor K))
       → first ≡ walk → walk.book ≡ book → IsPrefix seen walk.began → walk.given ≡ []
       → Yields (GivesKey eq) first keys left → GivesKey eq left None end

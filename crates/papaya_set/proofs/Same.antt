@@ -7,7 +7,7 @@ use Rattle.papaya_seq.specs.Clones.{AreEqual}
 use Rattle.papaya_set.specs.Sets.{HaveSameKeys}
 
 module _ {K : Type 0} (same : Unit {0} → Unit {0} → Bool) (all : (a b : Unit {0}) → same a b ≡ true) where
-  -- both have a pair, with equal values, or neither has one
+  -- both have an entry, with equal values, or neither has one
   abbrev Both : Option (Stored K (Unit {0})) → Option (Stored K (Unit {0})) → Type 0
   Both a b = MatchOption a (b ≡ None) (λ p. (q : Stored K (Unit {0})) × (b ≡ Some q) × (same p.value q.value ≡ true))
 

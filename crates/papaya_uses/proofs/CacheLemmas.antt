@@ -8,7 +8,7 @@ use Rattle.papaya.specs.Types.{Refused}
 use Rattle.papaya.specs.Seq.{IsCloned, IsPut, Stored, map_in, value_of}
 use Rattle.papaya_uses.specs.Cache.{Generations, StaysOrGoes, Texts, first_of, text_in, text_of}
 
--- what a lookup answers, as a text
+-- the result of a lookup, as a text
 abbrev Finds : Texts → ℕ → Option (Bor (String Global)) → Type 0
 Finds texts n r = option_map (λ v. v.now) r ≡ value_of (map_in (λ a b. a == b) texts.store n)
 
@@ -21,7 +21,7 @@ module _ (cache : Generations) (n : ℕ) (r : Option (Bor (String Global))) (is 
   pub in_young : (v : Bor (String Global)) → r ≡ Some v → text_of cache n ≡ Some (string_bytes v.now)
   in_young v was = ap (λ t. first_of t (text_in cache.elder n)) (text_found cache.young n r is ∙ ap (option_map (λ v. string_bytes v.now)) was)
 
-  -- and one that it has not
+  -- and a page that it lacks
   pub in_elder : r ≡ None → (q : Option (Bor (String Global))) → Finds cache.elder n q → (t : Option (Bor (String Global))) → q ≡ t
       → text_of cache n ≡ option_map (λ v. string_bytes v.now) t
   in_elder was q so t shows = ap (λ t. first_of t (text_in cache.elder n))
@@ -39,14 +39,14 @@ pub clones_at : (from to : Texts) → IsCloned (λ a b. a == b) (λ k l. l ≡ k
     → text_in to n ≡ text_in from n
 clones_at from to cloned n = cloned_text (map_in (λ a b. a == b) from.store n) (map_in (λ a b. a == b) to.store n) (cloned n)
 
--- a put leaves the texts of all other pages, and one that was refused those of all
+-- a put leaves the texts of all other pages, and a put that fails leaves all texts
 pub put_keeps : (s s' : Texts) (n k : ℕ) (v : String Global) (b : Bool) → IsPut (λ a b. a == b) k v s (Ok b) s' → n ≢ k → text_in s' n ≡ text_in s n
 put_keeps s s' n k v b (went, is, inserts, keeps) other = ap (λ held. option_map string_bytes (value_of held)) (inserts.update.others n (ne_eqb n k other))
 
 pub refusal_keeps : (s s' : Texts) (n k : ℕ) (v : String Global) (e : Refused) → IsPut (λ a b. a == b) k v s (Err e) s' → text_in s' n ≡ text_in s n
 refusal_keeps s s' n k v e (cause, unchanged, keeps) = ap (λ held. option_map string_bytes (value_of held)) (unchanged n)
 
--- an answer that is no refusal is of a page that is another
+-- a page that differs from the one put in, unless the put failed
 pub other_than : (n k : ℕ) → (n ≢ k) ⊎ (false ≡ true) → n ≢ k
 other_than n k (inl other) = other
 other_than n k (inr never) = absurd (false≢true never)

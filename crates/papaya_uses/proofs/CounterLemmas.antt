@@ -20,7 +20,7 @@ kind (Insert v) = 0
 kind Remove = 1
 kind (Abort t) = 2
 
--- what the closure answers to a pair, or to none
+-- the operation that the closure returns for an entry, or for none
 abbrev answer_to : ℕ → Option (Stored ℕ ℕ) → Operation ℕ (Unit {0})
 answer_to by held = Insert (next_count by (option_map (λ p. p.value.value) held))
 
@@ -32,7 +32,7 @@ answer_by by (Some entry) (Some p) are = ap (λ v. Insert (next_count by (Some v
 answer_by by None (Some p) are = absurd are
 answer_by by (Some entry) None are = absurd are
 
--- a compute whose closure adds so much
+-- a compute whose closure adds `by`
 module _ {F : Type 0} (called : Mut F (Option (Bor ℕ × Bor ℕ) × Unit {0}) (Operation ℕ (Unit {0}))) (k by : ℕ) (old new : Seen) (first : F)
     (answer : Result (Compute ℕ ℕ (Unit {0})) Refused) (h : IsComputeBy (λ a b. a == b) k old new (Operates called) first answer)
     (holds : F → Type 0) (at_first : holds first)
@@ -57,13 +57,13 @@ module _ {F : Type 0} (called : Mut F (Option (Bor ℕ × Bor ℕ) × Unit {0}) 
   last_said held done [] was = absurd was
   last_said held done (last ∷ before) was = inl (sym was)
 
-  -- it does not give up
+  -- it does not abort
   pub not_aborted : (t : Unit {0}) → answer ≡ Ok (Aborted t) → ⊥
   not_aborted t is =
       let (held, last) : Operated (Ok (Aborted t)) = subst Operated is h.operated in
       let e : 2 ≡ 0 = ap kind (said_so held (Abort t) (last_said held (Abort t) h.said last)) in omega (arith, e)
 
-  -- where there was none the counter is what was added
+  -- if there was no counter, it is the amount added
   pub begun : (key value : Bor ℕ) → answer ≡ Ok (Inserted key value) → HasAdded k by old new value.now
   begun key value is =
       let (q, change, key_is, member, of) : Operated (Ok (Inserted key value)) = subst Operated is h.operated in

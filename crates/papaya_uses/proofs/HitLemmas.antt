@@ -1,4 +1,4 @@
--- A count that went up, or began; and one that was read.
+-- A count that was increased or started, and a count that was read.
 use Rattle.std.proofs.Common.{◌≡◌, ◌==◌, ◌+◌, ◌-◌, ◌^◌, min, ℕ, Option, None, Some, Ok, inl, inr, option_map, refl, sym, ◌∙◌, ap, subst}
 use Rattle.std.specs.Fn.{FnReturnsAt, Shared}
 use Rattle.std.specs.Prelude.{Result, IfOk}
@@ -31,7 +31,7 @@ module _ {F : Type 0} (g : Shared F (Bor ℕ × Unit {0}) ℕ) (f : F)
       → r ≡ Ok v → HasCounted page old new v.now
   counted old new r legal stored v is = counts old new v legal (subst (λ z. IfOk z (HasStored old new)) is stored)
 
--- what a lookup answers since a pin was so in a history
+-- a lookup's result since a pin was correct in some history
 pub read_of : (page : ℕ) (seen : Seen) (answer : Option (Bor ℕ)) → ((h : Seen) × (IsLegalHistory (λ a b. a == b) key_of h × IsPrefix seen h
     × IsAnsweredBetween (λ a b. a == b) (λ key. page == key) seen h answer)) → IsCountOf page (option_map (λ v. v.now) answer)
 read_of page seen answer (h, (legal, since, told)) = (

@@ -1,4 +1,4 @@
--- Why a map without a limit refuses to store an entry.
+-- The reasons why a map without a limit fails to store an entry.
 use Rattle.std.proofs.Common.{◌≡◌, ℕ, Option, None, Some, inl, inr, sym, ◌∙◌}
 use Rattle.papaya.specs.Types.{Refused}
 use Rattle.papaya.specs.Threads.{IsMemoryOrCapacity, IsWriteRefusal}

@@ -12,19 +12,19 @@ use Rattle.papaya_uses.specs.Logins.{AreEndedGone, DropsEnded, Seen, TakesEnded}
 use Rattle.papaya_uses.specs.declared.logins.Login.{Login}
 use Rattle.papaya_uses.proofs.Said.{said_each}
 
--- the last answer on a pair is one of the answers
+-- the last result for an entry is one of the results
 answered : {P : Type 0} (said : List (P × Bool)) (p : P) (stays : Bool) → IsLastAnswer said p stays → Member (p, stays) said
 answered [] p stays h = absurd h
 answered (one ∷ older) p stays (inl e) =
     inl (subst (λ x. (x, stays) ≡ one) e.0 (subst (λ y. (one.0, y) ≡ one) e.1 refl))
 answered (one ∷ older) p stays (inr r) = inr (answered older p stays r.1)
 
--- what follows of an answer that is Ok
+-- a consequence of a result that is Ok
 if_ok : {A P Q : Type 0} (answer : Result A Refused) → (P → Q) → IfOk answer (λ _. P) → IfOk answer (λ _. Q)
 if_ok (Ok done) f h = f h
 if_ok (Err refused) f h = tt
 
--- each change after an answer that its login is dropped took out one that had ended
+-- each change after the closure returned that a login is dropped took out one that had ended
 each_ended : (now : ℕ) (said : List (Stored ℕ Login × Bool))
     → ((p : Stored ℕ Login) (stays : Bool) → Member (p, stays) said → stays ≡ ltb now p.value.value.until) → (changes : Seen)
     → AreDropped said changes → All (TakesEnded now) changes
@@ -41,7 +41,7 @@ module _ {F A : Type 0} (called : Mut F (Bor ℕ × (Bor Login × Unit {0})) Boo
     (holds : F → Type 0) (at_first : holds first)
     (judges : (f : F) (key : Bor ℕ) (login : Bor Login) (stays : Bool) (g : F) → holds f → Called called f (key, (login, tt)) stays g → holds g
     × (stays ≡ ltb now login.now.until)) where
-  -- it kept a login that has not ended
+  -- it returned `true` for the logins that have not ended, and for no other
   said_so : (p : Stored ℕ Login) (stays : Bool) → Member (p, stays) h.said → stays ≡ ltb now p.value.value.until
   said_so = said_each (Judges called) holds (λ p stays. stays ≡ ltb now p.value.value.until)
       (λ f p stays g is says. let next = judges f says.0 says.1 stays g is says.3 in (next.0, next.1 ∙ ap (λ v. ltb now v.until) says.2.1)) first at_first

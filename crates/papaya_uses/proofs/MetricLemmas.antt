@@ -11,11 +11,11 @@ use Rattle.papaya_uses.specs.Metrics.{BeginsCounter, Seen}
 pub seen_on : {A : Type 0} (first second third : List A) → IsPrefix first second → IsPrefix second third → IsPrefix first third
 seen_on first second third p q = (p.0 ++ q.0, sym (append_assoc first p.0 q.0) ∙ (ap (λ (w : List _). w ++ q.0) p.1 ∙ q.1))
 
--- a call that changes nothing leaves what was made
+-- a call that changes nothing leaves the changes that the session has made
 pub makes_none : {K C : Type 0} (made made' new : List (Change K (Stored K C))) → Makes false made made' new → made' ≡ made
 makes_none made made' new none = none ∙ append-nil made
 
--- a session that has seen more looks up or puts in a counter by a copy of its name
+-- a session that has observed more looks up a counter by a copy of its name, or puts one in
 pub begins_or_finds : {C : Type 0} (name : List ℕ) (key : String Global) → string_bytes key ≡ name → (old mid new made made' : Seen C) → IsPrefix old mid
     → (gives : C → Type 0) (v : Bor C) → (IsStored string_eq key mid new gives v × Makes true made made' new)
     ⊎ (IsCurrent string_eq key mid new v × Makes false made made' new) → (made' ≡ made) ⊎ BeginsCounter name old new made made'

@@ -3,13 +3,13 @@ use Rattle.std.proofs.Common.{◌≡◌, ◌==◌, ℕ, Bool, true, Option, None
 use Rattle.std.proofs.lemmas.Bool.{eqb-true}
 use Rattle.papaya.specs.Threads.{AllLegalChanges, Change, IsChangeOf, IsLegalHistory, Stored, changed, key_of}
 
--- the last change puts in a pair of its class
+-- the last change puts in an entry whose key is equal to that of the change
 last_of_class : {K P : Type 0} (same : K → K → Bool) (key : P → K) (m : K → Option P) (before : List (Change K P)) (c : Change K P)
     → AllLegalChanges same key m (before ++ c ∷ []) → (q : P) → c.put ≡ Some q → same c.class (key q) ≡ true
 last_of_class same key m [] c legal = legal.0.of_class
 last_of_class same key m (d ∷ before) c legal = last_of_class same key (changed same m d) before c legal.1
 
--- so the pair that a call on a number puts in has that number as its key
+-- so the entry that a call on a number puts in has that number as its key
 pub put_at : {V : Type 0} (n : ℕ) (old new : List (Change ℕ (Stored ℕ V))) (taken : Option (Stored ℕ V)) (q : Stored ℕ V)
     → IsChangeOf (λ key. n == key) old new taken (Some q) → IsLegalHistory (λ a b. a == b) key_of new → key_of q ≡ n
 put_at n old new taken q c legal =

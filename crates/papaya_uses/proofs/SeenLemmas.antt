@@ -6,7 +6,7 @@ use mathlib.Core.List.{IsPrefix}
 use Rattle.papaya.specs.Threads.{AllLegalChanges, Change, IsLegalHistory, Stored, changed, key_of, replay, replay_from}
 use Rattle.papaya_uses.specs.Seen.{IsMet, Seen, WasForgotten}
 
--- of two places in a list, one comes first, or they are one
+-- two places in a list: one comes first, or they are the same
 module _ {A : Type 0} where
   abbrev OneFirst : List A → A → List A → A → Type 0
   OneFirst xs x ys y = ((xs ≡ ys) × (x ≡ y)) ⊎ (((s : List A) × (ys ≡ xs ++ x ∷ s)) ⊎ ((s : List A) × (xs ≡ ys ++ y ∷ s)))
@@ -45,7 +45,7 @@ replay_on : (m : ℕ → Option Item) (before after : Seen) (k : ℕ) → replay
 replay_on m [] after k = refl
 replay_on m (c ∷ before) after k = replay_on (changed same m c) before after k
 
--- a legal change takes out what the replay has
+-- a legal change takes out the entry that the replay has
 taken_at : (m : ℕ → Option Item) (before : Seen) (c : Step) (after : Seen) → AllLegalChanges same key_of m (before ++ c ∷ after)
     → replay_from same m before c.class ≡ c.taken
 taken_at m [] c after legal = legal.0.taken_is
@@ -59,7 +59,7 @@ module _ (item : ℕ) where
   later : (d : Step) (cs : Seen) → Lost cs → Lost (d ∷ cs)
   later d cs (before, c, after, is, class, put) = (d ∷ before, c, after, ap (λ (z : Seen). d ∷ z) is, class, put)
 
-  -- where the item was there and is there no more, such a change was made
+  -- if the item was there and is there no longer, such a change was made
   lost : (m : ℕ → Option Item) (cs : Seen) (p : Item) → m item ≡ Some p → replay_from same m cs item ≡ None → Lost cs
   lost m [] p there gone = absurd (let e : None ≡ Some p = sym gone ∙ there in cc e)
   lost m (c ∷ cs) p there gone = by (item == c.class) refl (λ q has. later c cs (lost (changed same m c) cs q has gone))
@@ -73,7 +73,7 @@ module _ (item : ℕ) where
       by false is on = on p (ap (λ (b : Bool). cond b c.put (m item)) is ∙ there)
 
   module _ (all : Seen) where
-    -- the item was put in at a place of the history, which ends the moment, and none was taken out
+    -- the last change of this part of the history put the item in and took none out
     record IsFirst (moment : Seen) : Type 0 where
       before : Seen
       change : Step

@@ -15,7 +15,7 @@ module _ {F : Type 0} (called : Mut F (Bor ℕ × (Bor ℕ × Unit {0})) Bool) (
     (holds : F → Type 0) (at_first : holds first)
     (judges : (f : F) (key value : Bor ℕ) (agrees : Bool) (g : F) → holds f → Called called f (key, (value, tt)) agrees g → holds g
     × (agrees ≡ (value.now == user))) where
-  -- it agreed to a pair of that user
+  -- it returned `true` for an entry of that user alone
   said_so : (p : Stored ℕ ℕ) (agrees : Bool) → Member (p, agrees) h.said → agrees ≡ (p.value.value == user)
   said_so = said_each (Judges called) holds (λ p agrees. agrees ≡ (p.value.value == user))
       (λ f p agrees g is says. let next = judges f says.0 says.1 agrees g is says.3 in (next.0, next.1 ∙ ap (λ v. v == user) says.2.1)) first at_first
@@ -24,7 +24,7 @@ module _ {F : Type 0} (called : Mut F (Bor ℕ × (Bor ℕ × Unit {0})) Bool) (
   abbrev Judged : Result (Result (Option (Bor ℕ × Bor ℕ)) (Bor ℕ × Bor ℕ)) Refused → Type 0
   Judged r = IsJudged (λ a b. a == b) (λ key. token == key) old new h.said r
 
-  -- so the session that went was that user's
+  -- so the session that was removed was that user's
   pub signed_out : (entry : Bor ℕ × Bor ℕ) → answer ≡ Ok (Ok (Some entry)) → IsSignedOut token user old new true
   signed_out entry is =
       let (p, taken, (shown, same, member), of) : Judged (Ok (Ok (Some entry))) = subst Judged is h.answered in
@@ -32,13 +32,13 @@ module _ {F : Type 0} (called : Mut F (Bor ℕ × (Bor ℕ × Unit {0})) Bool) (
       let of_user : shown.value.value ≡ user = eqb-true _ _ (sym agreed) in
       (p, taken, ap (λ v. v.value) (sym same.1) ∙ of_user)
 
-  -- a token that is not there is not that user's
+  -- a token without an entry is not that user's
   pub none_out : answer ≡ Ok (Ok None) → IsSignedOut token user old new false
   none_out is =
       let none : Judged (Ok (Ok None)) = subst Judged is h.answered in
       (None, none, λ e. cc e)
 
-  -- nor is one that stays
+  -- nor is one whose entry stays
   pub other_out : (entry : Bor ℕ × Bor ℕ) → answer ≡ Ok (Err entry) → IsSignedOut token user old new false
   other_out entry is =
       let (p, member, of) : Judged (Ok (Err entry)) = subst Judged is h.answered in

@@ -8,7 +8,7 @@ use mathlib.Core.List.{IsPrefix}
 use Rattle.papaya.specs.Threads.{Change, IsAnsweredBetween, IsPut, Stored, changed, key_of, replay, replay_from}
 use Rattle.papaya_uses.specs.Settings.{Seen}
 
--- what is between two equal lists is no longer
+-- if two lists together are empty, the first one is
 nothing_before : {A : Type 0} (xs ys : List A) → xs ++ ys ≡ [] → xs ≡ []
 nothing_before [] ys e = refl
 nothing_before (x ∷ xs) ys e = absurd (cc e)
@@ -38,7 +38,7 @@ module _ (setting value : ℕ) (old own : Seen) (before : Option (Bor ℕ)) (put
         value_is,
       )
 
-  -- so it has where nothing was changed since
+  -- so it has if nothing was changed since
   pub read_alone : (new : Seen) (found : Option (Bor ℕ)) → IsAnsweredBetween (λ a b. a == b) (λ key. setting == key) own new found → own ≡ new
       → option_map (λ v. v.now) found ≡ Some value
   read_alone new None answered e =

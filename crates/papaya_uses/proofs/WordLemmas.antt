@@ -31,7 +31,8 @@ count_none (Some p) is = absurd cc
 
 module _ {W S : Type 0} (eq : W → W → Bool) (laws : IsEquivalence eq) (words : List W) (i : ℕ) (k : W) (inside : i < length words) (is : get_or words i k ≡ k)
     (s s' : MapState W ℕ S) (before : (w : W) → count_in eq s.store w ≡ count_by (eq w) (take i words)) where
-  -- where the class of k has one more in the place of what it had, each word has its count of the words and the next
+  -- if the count of k is replaced by one more, each word's count is that of the words so far and
+  -- the next one
   counted : (went : Option ℕ) (v : ℕ) → Inserts eq k v s.store went s'.store → v ≡ count_in eq s.store k + 1 → (w : W)
       → count_in eq s'.store w ≡ count_by (eq w) (take (i + 1) words)
   counted went v inserts next w = elim (cases_Bool (eq w k)) [
@@ -45,7 +46,7 @@ module _ {W S : Type 0} (eq : W → W → Bool) (laws : IsEquivalence eq) (words
         ap count_of (inserts.update.others w other) ∙ before w ∙ sym (count_by_more_no (eq w) words i k inside no)
   ]
 
-  -- so after an update by a closure that counts one more, and begins with 1
+  -- so after an update by a closure that counts one more, and starts with 1
   module _ {F : Type 0} (g : Shared F (Bor ℕ × Unit {0}) ℕ) (f : F)
       (more : (shown : Bor ℕ) (n : ℕ) → g.post f (shown, tt) n → n ≡ min (shown.now + 1) (2 ^ 64 - 1)) (small : count_in eq s.store k + 1 ≤ 2 ^ 64 - 1) where
     by_one : (v : ℕ) → IsUpdatedOrInserted eq k (FnReturnsAt g f) (λ v. v ≡ 1) s (Ok v) s' → (w : W)

@@ -9,7 +9,7 @@ use Rattle.papaya_words.specs.Probe.{place, triangular}
 half_more : (x m : ℕ) → (x + 2 * m) / 2 ≡ x / 2 + m
 half_more x m = omega arith
 
--- the next triangular number is so much greater
+-- the next triangular number is greater by n + 1
 triangular-next : (n : ℕ) → triangular (n + 1) ≡ triangular n + (n + 1)
 triangular-next n =
     let e : (n + 1) * (n + 1 + 1) ≡ n * (n + 1) + 2 * (n + 1) = omega arith in
@@ -20,7 +20,7 @@ twice-triangular : (n : ℕ) → 2 * triangular n ≡ n * (n + 1)
 twice-triangular zero = refl
 twice-triangular (suc n) = omega (arith, triangular-next n, twice-triangular n)
 
--- the next place of a search is so far from the one before
+-- the next place of a search is n + 1 slots further, modulo the table's slots
 pub place-next : (hash slots n : ℕ) → (place hash slots n + n + 1) % slots ≡ place hash slots (n + 1)
 place-next hash slots n =
     let e : hash + triangular n + (n + 1) ≡ hash + triangular (n + 1) = omega (arith, triangular-next n) in
@@ -35,7 +35,7 @@ least-multiple : (m r n : ℕ) → n ≡ m * r → 0 < n → m ≤ n
 least-multiple m zero n e h = omega (arith, mul-zero m)
 least-multiple m (suc r) n e h = omega (arith, mul-suc m r)
 
--- where an odd number times another is a multiple of a power of two, the other is
+-- if an odd number times another one is a multiple of a power of two, the other one is
 odd-factor : (m c b q : ℕ) → (2 * c + 1) * b ≡ 2 ^ m * q → (r : ℕ) × (b ≡ 2 ^ m * r)
 odd-factor zero c b q e = (b, omega arith)
 odd-factor (suc m) c b q e =
@@ -48,13 +48,15 @@ odd-factor (suc m) c b q e =
     let found : (r : ℕ) × (half ≡ 2 ^ m * r) = odd-factor m c half q rest in
     (found.0, even ∙ ap (λ x. 2 * x) found.1 ∙ sym (power found.0))
 
--- of two places of a sequence the difference, doubled, is the product of their distance and the sum of their numbers and one
+-- the difference of two triangular numbers, doubled, is the product of their distance and the sum
+-- of their numbers and one
 difference : (i d : ℕ) → 2 * triangular (i + d) ≡ 2 * triangular i + d * (2 * i + d + 1)
 difference i d =
     let product : (i + d) * (i + d + 1) ≡ i * (i + 1) + d * (2 * i + d + 1) = omega arith in
     twice-triangular (i + d) ∙ product ∙ ap (λ x. x + d * (2 * i + d + 1)) (sym (twice-triangular i))
 
--- where two numbers leave one remainder, the greater is so many times the divisor above the less
+-- if two numbers leave the same remainder, the greater exceeds the less by a multiple of the
+-- divisor
 same-remainder : (x y s : ℕ) → x ≤ y → x % s ≡ y % s → y ≡ x + s * (y / s - x / s)
 same-remainder x y s h e = omega (arith, mul-sub s (y / s) (x / s), div-add-mod x s, div-add-mod y s)
 
@@ -82,7 +84,7 @@ apart hash k i d positive within same =
           omega arith
     ]
 
--- an earlier and a later place among the first so many differ
+-- an earlier and a later place among the first `slots` differ
 apart_in : (hash slots i j : ℕ) → IsPowerOfTwo slots → i < j → j < slots → place hash slots i ≡ place hash slots j → ⊥
 apart_in hash slots i j (k, e) less within same =
     let sum : j ≡ i + (j - i) = omega arith in
@@ -90,7 +92,7 @@ apart_in hash slots i j (k, e) less within same =
     ap (λ s. place hash s i) (sym e) ∙ same ∙ ap (λ s. place hash s j) e ∙ ap (λ n. place hash (2 ^ k) n) sum in
     apart hash k i (j - i) (omega arith) (omega arith) here
 
--- the first so many places in a table of so many slots are distinct
+-- the first `slots` places in a table of that many slots are distinct
 pub places_distinct : (hash slots i j : ℕ) → IsPowerOfTwo slots → i < slots → j < slots → place hash slots i ≡ place hash slots j → i ≡ j
 places_distinct hash slots i j power hi hj same =
     elim (cases_order i j) [

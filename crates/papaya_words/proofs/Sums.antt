@@ -18,7 +18,7 @@ pub sum_of-zeros : (n : ℕ) → sum_of (replicate n (pos 0)) ≡ pos 0
 unfolding int_wrap
 sum_of-zeros n = ap (int_wrap w64) (fold-zeros n)
 
--- what is added before is added after
+-- a number added to the start is added to the result
 fold-added : (a by : ℤ) (xs : List ℤ) → fold ◌+ℤ◌ (a +ℤ by) xs ≡ fold ◌+ℤ◌ a xs +ℤ by
 fold-added a by [] = refl
 fold-added a by (x ∷ xs) =
@@ -30,7 +30,7 @@ fold-alike : (a b : ℤ) (xs : List ℤ) → int_wrap w64 a ≡ int_wrap w64 b �
 fold-alike a b [] e = e
 fold-alike a b (x ∷ xs) e = fold-alike (a +ℤ x) (b +ℤ x) xs (int_wrap-add_same w64 a b x e)
 
--- what is added to one of several is added to their sum
+-- a number added to one of several is added to their sum
 fold-set : (a by : ℤ) (xs : List ℤ) (i : ℕ) → i < length xs →
     int_wrap w64 (fold ◌+ℤ◌ a (slice_set xs i (int_wrap w64 (slice_index_or xs i (pos 0) +ℤ by)))) ≡ int_wrap w64 (fold ◌+ℤ◌ a xs +ℤ by)
 fold-set a by [] i h = absurd (omega arith)
@@ -40,7 +40,7 @@ fold-set a by (x ∷ xs) zero h =
     fold-alike (a +ℤ int_wrap w64 (x +ℤ by)) (a +ℤ x +ℤ by) xs one ∙ ap (int_wrap w64) (fold-added (a +ℤ x) by xs)
 fold-set a by (x ∷ xs) (suc i) h = fold-set (a +ℤ x) by xs i (omega arith)
 
--- what is added to a shard is added to the sum of all
+-- a number added to a shard is added to the sum of all
 pub sum_of-set : (by : ℤ) (xs : List ℤ) (i : ℕ) → i < length xs →
     sum_of (slice_set xs i (int_wrap w64 (slice_index_or xs i (pos 0) +ℤ by))) ≡ int_wrap w64 (sum_of xs +ℤ by)
 sum_of-set by xs i h = fold-set (pos 0) by xs i h ∙ sym (int_wrap-add_left w64 (fold ◌+ℤ◌ (pos 0) xs) by)
@@ -50,15 +50,15 @@ pub sum_of_more : (xs : List ℤ) (i : ℕ) → i < length xs → int_wrap w64 (
 sum_of_more xs i h =
     int_wrap-add_left w64 (fold ◌+ℤ◌ (pos 0) (take i xs)) (slice_index_or xs i (pos 0)) ∙ ap (int_wrap w64) (sym (fold_more ◌+ℤ◌ (pos 0) xs i (pos 0) h))
 
--- a counter of so many shards with this sum, and with this in each
+-- a counter with this many shards, this sum, and these numbers in its shards
 abbrev pub count_from : ℕ → ℤ → List ℤ → Count
 count_from shards sum each = record { shards = shards; sum = sum; each = each }
 
--- two counters with as many shards, one sum and the same in each are one value
+-- two counters with as many shards, one sum and the same numbers are one value
 count_is : (m n : ℕ) (y z : ℤ) (xs ys : List ℤ) → m ≡ n → y ≡ z → xs ≡ ys → count_from m y xs ≡ count_from n z ys
 count_is m n y z xs ys e f h = ap (λ x. count_from x y xs) e ∙ ap (λ x. count_from n x xs) f ∙ ap (count_from n z) h
 
--- what an addition to one shard leaves
+-- the counter after an addition to one shard
 pub added : (by : ℤ) (xs ys : List ℤ) (i : ℕ) → i < length xs → ys ≡ slice_set xs i (int_wrap w64 (slice_index_or xs i (pos 0) +ℤ by)) →
     count_from (length ys) (sum_of ys) ys ≡ added_at (count_from (length xs) (sum_of xs) xs) i by
 added by xs ys i h e =

@@ -1,4 +1,5 @@
--- A word has the kind and the pair that it was made of, and what the steps of a slot preserve.
+-- A word has the kind and the pair that it was made from; and the facts that the steps of a slot
+-- preserve.
 use Rattle.std.proofs.Common.{◌≡◌, ℕ, ◌%◌, ◌<◌, ◌≢◌, ap, subst, arith}
 use Rattle.std.proofs.lemmas.Grind.{common_steps}
 use Rattle.papaya_words.specs.Word.{kind_of, kind_of_code, pair_of, filled_word, live_word, marked_word, copied_word, buried_word, MayBecome, IsSlotStep}
@@ -17,19 +18,19 @@ kind_of-filled_word code pair h = ap kind_of_code (code-filled_word code pair h)
 pub pair_of-filled_word : (code pair : ℕ) → code < 8 → pair_of (filled_word code pair) ≡ pair
 pair_of-filled_word code pair h = omega arith
 
--- a Live word is made of what it says
+-- a Live word is the one made from its pair's number
 pub live_word-parts : (w : ℕ) → kind_of w ≡ Live → w ≡ live_word (pair_of w)
 live_word-parts w h = grind (arith, common_steps)
 
--- a Marked word is made of what it says
+-- a Marked word is the one made from its pair's number
 pub marked_word-parts : (w : ℕ) → kind_of w ≡ Marked → w ≡ marked_word (pair_of w)
 marked_word-parts w h = grind (arith, common_steps)
 
--- a Copied word is made of what it says
+-- a Copied word is the one made from its pair's number
 pub copied_word-parts : (w : ℕ) → kind_of w ≡ Copied → w ≡ copied_word (pair_of w)
 copied_word-parts w h = grind (arith, common_steps)
 
--- a Buried word is made of what it says
+-- a Buried word is the one made from its pair's number
 pub buried_word-parts : (w : ℕ) → kind_of w ≡ Buried → w ≡ buried_word (pair_of w)
 buried_word-parts w h = grind (arith, common_steps)
 
@@ -42,6 +43,6 @@ never_empty Copied old new h = h
 never_empty Buried old new h = h
 never_empty Closed old new h = h
 
--- a step leads to no Empty word
+-- the word after a step is not Empty
 pub steps_never_empty : (old new : ℕ) → IsSlotStep old new → kind_of new ≢ Empty
 steps_never_empty old new h = λ e. never_empty (kind_of old) old new (subst (λ kind. MayBecome (kind_of old) kind old new) e h)

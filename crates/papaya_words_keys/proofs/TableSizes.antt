@@ -6,7 +6,7 @@ use Rattle.std.specs.Int.{IsPowerOfTwo}
 use Rattle.papaya_words.specs.Probe.{IsLimit}
 use Rattle.papaya_call.specs.Search.{IsSize}
 
--- a length that was asked for is one of tables
+-- the length for a requested number of slots is one of tables
 pub table_size : (initial limit : ℕ) → IsPowerOfTwo initial → initial ≤ 2 ^ 32 → IsLimit (max initial 8) limit → IsSize (max initial 8) limit
 table_size initial limit power most (log, low, high, is) = record {
   power = elim (cases_lt initial 8) [

@@ -1,5 +1,5 @@
--- Two settings that treat pairs alike allow the same exchanges, whatever types their keys have: an
--- exchange depends only on which pairs have equal keys, and on where their places are.
+-- Two settings that treat pairs in the same way allow the same exchanges, whatever types their keys
+-- have: an exchange depends only on which pairs have equal keys, and on where their places are.
 use Rattle.std.proofs.Common.{MatchOption, true, ◌≡◌, inl, inr, ⊎_elim, ℕ, suc, ◌<◌, Bool, cond, List, [], ◌∷◌, refl, sym, ap, ◌∙◌, subst}
 use Rattle.papaya_words_law.specs.Exchange.{Word, Empty, Closed, Live, Marked, Copied, Buried, Setting}
 use Rattle.papaya_words_law.specs.Exchange.{State, Exchange, Open, Claim, Replace, Bury, Link, Mark}
@@ -10,7 +10,7 @@ use Rattle.papaya_words_law.specs.Copying.{IsSettled, IsTaker, IsTarget, IsCopie
 use Rattle.papaya_words_law.specs.Allows.{Allows, AllAllowed}
 use mathlib.Core.Path.{fun_ext}
 
--- g' says of modes, tables and the keys of pairs what g says
+-- g' agrees with g on modes, tables and the keys of pairs
 pub record AreAlike {K K' P : Type 0} (g : Setting K P) (g' : Setting K' P) : Type 0 where
   pub blocking : g'.blocking ≡ g.blocking
   pub size : (t : ℕ) → g'.size t ≡ g.size t
@@ -39,7 +39,7 @@ alike_back g g' alike = record {
 }
 
 module _ {K K' P : Type 0} (g : Setting K P) (g' : Setting K' P) (alike : AreAlike g g') where
-  -- a word tells a pair's key the same
+  -- a pair's key has the same view of a word
   view_alike : (p : P) (w : Word P) → view g' (g'.key p) w ≡ view g (g.key p) w
   view_alike p Empty = refl
   view_alike p Closed = refl
@@ -49,19 +49,19 @@ module _ {K K' P : Type 0} (g : Setting K P) (g' : Setting K' P) (alike : AreAli
   view_alike p (Buried q) = ap (λ b. cond b (Grave q) Foreign) (alike.same p q)
 
   module _ (s : State P) where
-    -- a pair's key sees the same at each place
+    -- a pair's key has the same view at each place
     look_at_alike : (p : P) (t j : ℕ) → look g' s (g'.key p) t j ≡ look g s (g.key p) t j
     look_at_alike p t j = view_alike p (s.slot t (g'.place (g'.key p) t j)) ∙ ap (λ x. view g (g.key p) (s.slot t x)) (alike.place p t j)
 
-    -- the same of all places
+    -- the same for all places
     look_alike : (p : P) → look g' s (g'.key p) ≡ look g s (g.key p)
     look_alike p = fun_ext (λ t. fun_ext (λ j. look_at_alike p t j))
 
-    -- what is said of a table by its places and what a pair's key sees there
+    -- a fact about the places of a table and the views of a pair's key there
     said_alike : (p : P) (Says : (ℕ → ℕ) → (ℕ → ℕ → View P) → Type 0) → Says g.places (look g s (g.key p)) → Says g'.places (look g' s (g'.key p))
     said_alike p Says h = subst (λ n. Says n (look g' s (g'.key p))) (sym (fun_ext alike.places)) (subst (Says g.places) (sym (look_alike p)) h)
 
-    -- a search comes where it came
+    -- a search reaches the same tables
     reached_alike : (p : P) (t : ℕ) → IsReached g s (g.key p) t → IsReached g' s (g'.key p) t
     reached_alike p t r = record {
       from = r.from;
@@ -73,7 +73,7 @@ module _ {K K' P : Type 0} (g : Setting K P) (g' : Setting K' P) (alike : AreAli
       passed = λ i lt. said_alike p (λ n V. IsPassed n V (walk s.next i r.from)) (r.passed i lt);
     }
 
-    -- copies go where they went
+    -- copies are put into the same tables
     taker_alike : (p : P) (t n : ℕ) → IsTaker g s (g.key p) t n → IsTaker g' s (g'.key p) t n
     taker_alike p t n r = record {
       links = r.links;
@@ -85,7 +85,7 @@ module _ {K K' P : Type 0} (g : Setting K P) (g' : Setting K' P) (alike : AreAli
           (r.over i lt);
     }
 
-    -- what a table is copied to
+    -- the target of a table's copy
     target_alike : (t n : ℕ) → IsTarget g s t n → IsTarget g' s t n
     target_alike t n r = record { links = r.links; is = r.is; made = r.made; over = r.over; mode = ⊎_elim (λ e. inl e) (λ b. inr (alike.blocking ∙ b)) r.mode }
 
@@ -102,7 +102,7 @@ module _ {K K' P : Type 0} (g : Setting K P) (g' : Setting K' P) (alike : AreAli
     copied_alike : (n : ℕ) (p : P) → IsCopied g s n p → IsCopied g' s n p
     copied_alike n p c = record { from = c.from; slot = c.slot; stood = c.stood; taker = taker_alike p c.from n c.taker }
 
-    -- a settled word is settled
+    -- a word that is settled in one setting is settled in the other
     settled_alike : (n : ℕ) (w : Word P) → IsSettled g s n w → IsSettled g' s n w
     settled_alike n Empty h = h
     settled_alike n Closed h = h

@@ -23,11 +23,11 @@ module _ {K P : Type 0} (g : Setting K P) (law : IsLawful g) (s : State P) (m : 
   here : named (s.slot from copy.source.slot) ≡ Some p
   here = ⊎_elim (λ e. ap named e) (λ e. ap named e) copy.source.stood
 
-  -- the key sees the slot Empty
+  -- the key's view of the slot is `Free`
   free : look g s (g.key p) t copy.place.at ≡ Free
   free = ap (λ y. view g (g.key p) (s.slot t y)) copy.place.is ∙ ap (view g (g.key p)) copy.empty
 
-  -- without blocking: where a copy may be placed, the marked table before it stops each search
+  -- without blocking: the marked table before a place for a copy stops each search
   pub apart_incremental : g.blocking ≡ false → IsIncrementalState g s m → ⊥
   apart_incremental inc holds =
       let on : IsOn s.first s.next from = ⊎_elim (λ e. filled_on g s holds.sound from copy.source.slot p (Marked p) e refl)
@@ -49,7 +49,7 @@ module _ {K P : Type 0} (g : Setting K P) (law : IsLawful g) (s : State P) (m : 
       c.0 copy.place.at copy.place.within copy.place.is copy.place.before from o.0 p on c.1 o.1 c.2 free gone)
       copy.source.stood
 
-  -- with blocking: what left a root came to the next one, so a copy has no place there
+  -- with blocking: a pair that left a root came to the next one, so a copy has no place there
   pub apart_blocking : g.blocking ≡ true → IsBlockingState g s m → ⊥
   apart_blocking blocks holds =
       let was = reached_was g s blocks (g.key p) t claim.reached in

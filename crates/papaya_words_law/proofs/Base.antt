@@ -1,4 +1,4 @@
--- What every allowed exchange preserves in both modes, of all words.
+-- The facts about all words that every allowed exchange preserves in both modes.
 use Rattle.std.proofs.Common.{◌≡◌, ◌⊎◌, inl, inr, ⊎_elim, ℕ, zero, suc, ◌<◌, ◌≤◌, Bool, true, false}
 use Rattle.std.proofs.Common.{◌==◌, ◌&&◌, Some, refl, sym, ap, ◌∙◌, subst, arith, eqb-true, eq-eqb}
 use Rattle.std.proofs.lemmas.Bool.{and_parts, cases_Bool, cond-true, cond-false}
@@ -12,7 +12,7 @@ use Rattle.papaya_words_law.proofs.Class.{IsTurn}
 use Rattle.papaya_words_law.proofs.Chain.{next_zero, link_rises, link_on, link_older}
 use Rattle.papaya_words_law.proofs.Slots.{slot_cases, slot_turn, look_same}
 
--- the turn of a slot, by what a key sees of its words
+-- the change of a slot, by a key's views of its words
 recast : {P : Type 0} → (S : ℕ → ℕ → ℕ) (V V' : ℕ → ℕ → View P) (t x : ℕ) (a b c d : View P) → IsTurn S V V' t x a b → a ≡ c → b ≡ d → IsTurn S V V' t x c d
 recast S V V' t x a b c d turn e f = subst (λ y. IsTurn S V V' t x y d) e (subst (IsTurn S V V' t x a) f turn)
 
@@ -31,7 +31,7 @@ done_stays f n c u d h = ⊎_elim
     (cases_Bool ((u == n) && (d == c)))
 
 module _ {K P : Type 0} (g : Setting K P) (s : State P) where
-  -- a slot's turn, by what a key sees of the old word and the new one
+  -- a slot's change, by a key's views of the old word and the new one
   pub turn_own : (k : K) (t x : ℕ) (w w' : Word P) (a b : View P) → s.slot t x ≡ w → view g k w ≡ a → view g k w' ≡ b
       → IsTurn (g.place k) (look g s k) (look g (slot_put s t x w') k) t x a b
   turn_own k t x w w' a b old e f = recast (g.place k) (look g s k) (look g (slot_put s t x w') k) t x (view g k w) (view g k w') a b
@@ -52,7 +52,7 @@ module _ {K P : Type 0} (g : Setting K P) (s : State P) where
   place_of test t x p r q e = let same : p ≡ q = cc in subst (IsPlaceOf g t x) same (record { at = r.at; within = r.within; is = r.is })
 
   module _ (sound : IsSound g s) where
-    -- a pair of the class stands at a place of the key
+    -- a pair of the class is at a place of the key
     pub own_place : (law : IsLawful g) (k : K) (t x : ℕ) (p : P) → g.same k (g.key p) ≡ true → named (s.slot t x) ≡ Some p → (j : ℕ)
         × (j < g.places t) × (g.place k t j ≡ x)
     own_place law k t x p h e =
@@ -66,7 +66,7 @@ module _ {K P : Type 0} (g : Setting K P) (s : State P) where
     pub filled_on : (t x : ℕ) (p : P) (w : Word P) → s.slot t x ≡ w → named w ≡ Some p → IsOn s.first s.next t
     filled_on t x p w old e = sound.slots_on t x (λ f. let q : named (s.slot t x) ≡ Some p = ap named old ∙ e in let r = ap named f in cc (q, r))
 
-    -- where there is no root, there is no chain
+    -- if there is no root, there is no chain
     pub no_root : s.root ≡ 0 → (u : ℕ) → IsOn s.first s.next u → ⊥
     no_root e u (h, (k, w)) = let f : s.first ≡ 0 = ⊎_elim (λ r. r.1) (λ on. absurd (omega (arith, on.0))) sound.root in
         let z : walk s.next k s.first ≡ 0 = ap (walk s.next k) f ∙ zeros k in omega arith
@@ -75,7 +75,7 @@ module _ {K P : Type 0} (g : Setting K P) (s : State P) where
         zeros zero = refl
         zeros (suc k) = ap s.next (zeros k) ∙ next_zero s.next sound.rises
 
-    -- what is copied to the table that is linked to one of the chain is on it
+    -- a table that is copied to the one to be linked to a table of the chain is on the chain
     pub linking_on : (from t : ℕ) → IsOn s.first s.next t → IsLinking g s from t → IsOn s.first s.next from
     linking_on from t on (inl h) = subst (IsOn s.first s.next) (sym h.0) on
     linking_on from t on (inr h) = (sound.was from h.1).0
@@ -118,11 +118,11 @@ module _ {K P : Type 0} (g : Setting K P) (s : State P) where
         first_on = (some, (0, refl))
 
     module _ (t n : ℕ) (none : s.next t ≡ 0) (some : 0 < t) (up : t < n) where
-      -- a link leaves on the chain what was on it
+      -- every table of the chain is still on it after a link
       pub link_more : (u : ℕ) → IsOn s.first s.next u → IsOn s.first (at_put s.next t n) u
       link_more = link_on s.next sound.rises t n none some up s.first
 
-      -- what a longer chain has before a table of the old one was on the old one
+      -- a table of the longer chain before a table of the old one was on the old one
       pub link_old : (l u : ℕ) → IsOn s.first (at_put s.next t n) l → IsOn s.first s.next u → l < u → IsOn s.first s.next l
       link_old = link_older s.next sound.rises t n none some up s.first
 

@@ -44,24 +44,25 @@ module _ {K P : Type 0} (g : Setting K P) where
   buries s m (Abort n) may u y p q live buried k same = absurd cc
   buries s m (Take n) may u y p q live buried k same = absurd cc
 
-  -- a moment after a first exchange is one of all
+  -- a point after a first exchange is one of the whole list
   moment_after : (m : K → Option P) (e : Exchange P) (fs : List (Exchange P)) (k : K) (v : Option P) → IsAtMoment g (map_after g m e) fs k v
       → IsAtMoment g m (e ∷ fs) k v
   moment_after m e fs k v r = record { so_far = e ∷ r.so_far; rest = r.rest; is = ap (λ l. e ∷ l) r.is; value_is = r.value_is }
 
   module _ (law : IsLawful g) (t x : ℕ) (q : P) (k : K) where
-    -- where a pair of the key stood Live, at some moment before it is Buried the map has none
+    -- if a slot had a Live pair of the key and is Buried after the list, the map had none at some
+    -- point of the list
     pub buried_between : (fs : List (Exchange P)) (s : State P) (m : K → Option P) → AllAllowed g s fs → (p : P) → s.slot t x ≡ Live p
         → g.same k (g.key p) ≡ true → (run fs s).slot t x ≡ Buried q → IsAtMoment g m fs k None
     buried_between [] s m may p live same buried = absurd cc
     buried_between (e ∷ fs) s m may p live same buried =
         by_next (λ r is mine. buried_between fs (after s e) (map_after g m e) may.1 r is mine buried) ((after s e).slot t x) refl
       where
-        -- what the word became by the first exchange
+        -- the word after the first exchange
         became : (w : Word P) → (after s e).slot t x ≡ w → Becomes g (Live p) w
         became w is = subst (λ v. Becomes g v w) live (subst (Becomes g (s.slot t x)) is ((later_run g law (e ∷ []) s (may.0, tt)).words t x))
 
-        -- and by the others
+        -- and after the others
         became_then : (w : Word P) → (after s e).slot t x ≡ w → Becomes g w (Buried q)
         became_then w is = subst (λ v. Becomes g v (Buried q)) is
             (subst (Becomes g ((after s e).slot t x)) buried ((later_run g law fs (after s e) may.1).words t x))

@@ -1,4 +1,4 @@
--- The invariant, and what a search finds, under one setting are the same under each setting that
+-- The invariant, and the result of a search, under one setting are the same under each setting that
 -- agrees with it on the tables of the chain.
 use Rattle.std.proofs.Common.{true, ◌≡◌, ◌⊎◌, inl, inr, ⊎_elim, ℕ, ◌<◌, Bool, cond, Option, None, Some, refl, sym, ap, ◌∙◌, subst}
 use Rattle.papaya_words_law.specs.Exchange.{Word, Empty, Closed, Live, Marked, Copied, Buried, Setting, State}
@@ -15,7 +15,7 @@ use Rattle.papaya_words_law.proofs.Chain.{next_on}
 use Rattle.papaya_words_law.proofs.Blocking.States.{target_aborted}
 use mathlib.Core.Path.{fun_ext}
 
--- one class of keys, where n' and S' agree with n and S on the chain
+-- one class of keys, if n' and S' agree with n and S on the chain
 module _ {P : Type 0} (On : ℕ → Type 0) (n n' : ℕ → ℕ) (V : ℕ → ℕ → View P) (places : (t : ℕ) → On t → n' t ≡ n t) where
   -- a place of the one is a place of the other
   to : (t j : ℕ) → On t → j < n t → j < n' t
@@ -38,7 +38,7 @@ module _ {P : Type 0} (On : ℕ → Type 0) (n n' : ℕ → ℕ) (V : ℕ → �
   has_agrees : (t : ℕ) → On t → HasWord n V t → HasWord n' V t
   has_agrees t on h = (h.0, to t h.0 on h.1, h.2)
 
-  -- what stands at no place of the chain's tables doesn't matter
+  -- words at places of tables that are off the chain don't matter
   module _ (S S' : ℕ → ℕ → ℕ) (slots : (t j : ℕ) → On t → S' t j ≡ S t j) (same_slot : (t i j : ℕ) → S' t i ≡ S' t j → V t i ≡ V t j) where
     -- in both modes
     base_agrees : IsBase On n S V → IsBase On n' S' V
@@ -136,7 +136,7 @@ module _ {K P : Type 0} (g g' : Setting K P) (s : State P) (sound : IsSound g s)
   same_key : (k : K) (p : P) → g'.same k (g'.key p) ≡ g.same k (g.key p)
   same_key k p = agrees.same k (g'.key p) ∙ ap (g.same k) (agrees.key p)
 
-  -- a word tells a key the same
+  -- a key has the same view of a word
   pub view_agrees : (k : K) (w : Word P) → view g' k w ≡ view g k w
   view_agrees k Empty = refl
   view_agrees k Closed = refl
@@ -145,7 +145,7 @@ module _ {K P : Type 0} (g g' : Setting K P) (s : State P) (sound : IsSound g s)
   view_agrees k (Copied p) = ap (λ b. cond b (Gone p) Foreign) (same_key k p)
   view_agrees k (Buried p) = ap (λ b. cond b (Grave p) Foreign) (same_key k p)
 
-  -- each key sees the same at each place: of a table off the chain nothing but Empty
+  -- each key has the same view at each place, and only Empty words in a table off the chain
   look_at : (k : K) (t j : ℕ) → look g' s k t j ≡ look g s k t j
   look_at k t j =
       view_agrees k (s.slot t (g'.place k t j)) ∙ ⊎_elim
@@ -156,17 +156,17 @@ module _ {K P : Type 0} (g g' : Setting K P) (s : State P) (sound : IsSound g s)
       there : IsOn s.first s.next t → view g k (s.slot t (g'.place k t j)) ≡ view g k (s.slot t (g.place k t j))
       there on = ap (λ x. view g k (s.slot t x)) (agrees.place k t j on)
 
-  -- the same of all places
+  -- the same for all places
   pub look_agrees : (k : K) → look g' s k ≡ look g s k
   look_agrees k = fun_ext (λ t. fun_ext (λ j. look_at k t j))
 
-  -- the same of a pair's key
+  -- the same for a pair's key
   pub look_pair : (p : P) → look g' s (g'.key p) ≡ look g s (g.key p)
   look_pair p = ap (look g' s) (agrees.key p) ∙ look_agrees (g.key p)
 
-  -- what a search or a copier saw of a table of the chain
+  -- the views of a search or a copier in a table of the chain
   module _ (V V' : ℕ → ℕ → View P) (is : V' ≡ V) (t : ℕ) (on : IsOn s.first s.next t) where
-    -- a search goes past it
+    -- a search passes it
     pub passed_carries : IsPassed g.places V t → IsPassed g'.places V' t
     passed_carries h = subst (λ W. IsPassed g'.places W t) (sym is) (passed_agrees (IsOn s.first s.next) g.places g'.places V agrees.places t on h)
 
@@ -178,7 +178,7 @@ module _ {K P : Type 0} (g g' : Setting K P) (s : State P) (sound : IsSound g s)
     pub has_carries : HasWord g.places V t → HasWord g'.places V' t
     has_carries h = subst (λ W. HasWord g'.places W t) (sym is) (has_agrees (IsOn s.first s.next) g.places g'.places V agrees.places t on h)
 
-  -- a settled word is settled
+  -- a word that is settled in one setting is settled in the other
   pub settled_carries : (t : ℕ) → IsOn s.first s.next t → (w : Word P) → IsSettled g s t w → IsSettled g' s t w
   settled_carries t on Empty h = h
   settled_carries t on Closed h = h
@@ -187,7 +187,7 @@ module _ {K P : Type 0} (g g' : Setting K P) (s : State P) (sound : IsSound g s)
   settled_carries t on (Copied p) h = h
   settled_carries t on (Buried p) h = h
 
-  -- of the words themselves
+  -- for the words themselves
   sound_carries : IsSound g' s
   sound_carries = record {
     rises = sound.rises;
@@ -215,7 +215,7 @@ module _ {K P : Type 0} (g g' : Setting K P) (s : State P) (sound : IsSound g s)
       subst (λ y. y < g'.chunks n) (sym (agrees.chunk_of x))
       (subst (λ y. g.chunk_of x < y) (sym (agrees.chunks n on-n)) (covers x (subst (λ y. x < y) (agrees.size t on) lt)))
 
-  -- a slot tells a key one thing
+  -- a key has one view of a slot
   one_slot : (k : K) (t i j : ℕ) → g'.place k t i ≡ g'.place k t j → look g s k t i ≡ look g s k t j
   one_slot k t i j e = sym (look_at k t i) ∙ (ap (λ x. view g' k (s.slot t x)) e ∙ look_at k t j)
 
@@ -283,7 +283,7 @@ module _ {K P : Type 0} (g g' : Setting K P) (s : State P) (sound : IsSound g s)
       root_on : (t : ℕ) → IsOn s.first s.next t → IsOn s.first s.next s.root
       root_on t on = ⊎_elim (λ r. absurd (no_root g s sound r.0 t on)) (λ h. h) sound.root
 
--- The law of tables that come later: what is kept doesn't ask what they are.
+-- The law of tables that come later: the invariant does not depend on them.
 pub keeping_carries : {K P : Type 0} (g g' : Setting K P) (s : State P) (m : K → Option P) → Agrees (IsOn s.first s.next) g g' → IsKeeping g s m
     → IsKeeping g' s m
 keeping_carries g g' s m agrees (inl h) = inl (agrees.blocking ∙ h.0, incremental_carries g g' s h.1.sound agrees m h.1)

@@ -1,4 +1,4 @@
--- The chain: the tables that links lead to. Each link goes to a table with a greater number.
+-- The chain: the tables that are reached by links. Each link is to a table with a greater number.
 use Rattle.std.proofs.Common.{◌≡◌, inl, inr, ⊎_elim, ℕ, zero, suc, ◌+◌, ◌-◌, ◌<◌, ◌≤◌, true, false, refl, sym, ap, ◌∙◌, subst, arith, ◌==◌, eqb-true}
 use Rattle.std.proofs.lemmas.Bool.{cases_order, cases_lt, cases_Bool, cond-true, cond-false}
 use Rattle.papaya_words_law.specs.Exchange.{walk, at_put}
@@ -9,7 +9,7 @@ module _ (next : ℕ → ℕ) (rises : Rises next) where
   pub next_zero : next 0 ≡ 0
   next_zero = ⊎_elim (λ e. e) (λ h. absurd (omega (arith, h.0))) (rises 0)
 
-  -- a walk that ends at a table is at a table all the way
+  -- if there is a table after n + 1 links, there is one after n links
   pub walk_back : (n t : ℕ) → 0 < walk next (suc n) t → 0 < walk next n t
   walk_back n t h =
       ⊎_elim
@@ -17,11 +17,11 @@ module _ (next : ℕ → ℕ) (rises : Rises next) where
       (⊎_elim (λ (l : walk next n t < 0). absurd (omega arith)) (λ (l : 0 < walk next n t). l))
       (cases_order (walk next n t) 0)
 
-  -- a link goes up
+  -- a link is to a greater number
   step_up : (t : ℕ) → 0 < next t → t < next t
   step_up t h = ⊎_elim (λ e. absurd (omega arith)) (λ r. r.1) (rises t)
 
-  -- a longer walk ends further up
+  -- after more links the number is greater
   walk_up : (d n t : ℕ) → 0 < walk next (d + n) t → walk next n t ≤ walk next (d + n) t
   walk_up zero n t h = let z : zero + n ≡ n = omega arith in let e : walk next (zero + n) t ≡ walk next n t = ap (λ y. walk next y t) z in omega arith
   walk_up (suc d) n t h =
@@ -32,13 +32,13 @@ module _ (next : ℕ → ℕ) (rises : Rises next) where
       let c : walk next n t ≤ walk next (suc (d + n)) t = omega arith in
       subst (λ y. walk next n t ≤ walk next y t) (sym e) c
 
-  -- the same of walks by their lengths
+  -- the same for two numbers of links
   pub walk_le : (n k t : ℕ) → n ≤ k → 0 < walk next k t → walk next n t ≤ walk next k t
   walk_le n k t l h =
       let e : (k - n) + n ≡ k = omega arith in
       subst (λ y. walk next n t ≤ walk next y t) e (walk_up (k - n) n t (subst (λ y. 0 < walk next y t) (sym e) h))
 
-  -- nothing of the chain lies between a table and the next
+  -- no table of the chain is between a table and the next
   pub none_between : (first a l : ℕ) → IsOn first next a → IsOn first next l → a < l → l < next a → ⊥
   none_between first a l (pa, (ka, ea)) (pl, (kl, el)) lo hi =
       ⊎_elim
@@ -78,14 +78,15 @@ module _ (next : ℕ → ℕ) (rises : Rises next) where
           all_zero (suc d) n z h = let e : suc d + n ≡ suc (d + n) = omega arith in
               all_zero d n z (walk_back (d + n) first (subst (λ y. 0 < walk next y first) e h))
 
-  -- a walk from a table of the chain stays on the chain
+  -- the table after some links from a table of the chain is on the chain
   pub walk_on : (first from n : ℕ) → IsOn first next from → 0 < walk next n from → IsOn first next (walk next n from)
   walk_on first from zero on h = on
   walk_on first from (suc n) on h =
       let prev = walk_on first from n on (walk_back n from h) in
       (h, (suc (prev.1.0), ap next (prev.1.1)))
 
-  -- what lies on the chain from a table on and before the end of a walk is on that walk
+  -- a table of the chain between two tables, one of which is some links after the other, is on the
+  -- way
   pub on_walk : (first from l n : ℕ) → IsOn first next from → IsOn first next l → from ≤ l → 0 < walk next n from → l < walk next n from → (i : ℕ)
       × (i < n) × (walk next i from ≡ l)
   on_walk first from l zero on onl lo h hi = absurd (omega arith)
@@ -98,7 +99,7 @@ module _ (next : ℕ → ℕ) (rises : Rises next) where
       (λ (c : walk next n from < l). absurd (none_between first (walk next n from) l (walk_on first from n on back) onl c hi)))
       (cases_order l (walk next n from))
 
-  -- a walk that ends at a table is at tables before
+  -- if there is a table after some links, there is one after fewer
   pub pos_before : (i k t : ℕ) → i ≤ k → 0 < walk next k t → 0 < walk next i t
   pos_before i zero t l h = let e : i ≡ 0 = omega arith in subst (λ y. 0 < walk next y t) (sym e) h
   pos_before i (suc k) t l h =
@@ -123,7 +124,7 @@ module _ (next : ℕ → ℕ) (rises : Rises next) where
   pub next_on : (first t : ℕ) → IsOn first next t → 0 < next t → IsOn first next (next t)
   next_on first t on h = (h, (suc (on.1.0), ap next on.1.1))
 
-  -- a walk from a table of the chain on: where it ends, and that what lies between is on it
+  -- the table after some links from a table of the chain, with a fact about all tables between
   pub walk_between : (Q : ℕ → Type 0) (first t links n : ℕ) → IsOn first next t → walk next (suc links) t ≡ n → 0 < n
       → ((i : ℕ) → i < links → Q (walk next (suc i) t))
       → IsOn first next n × (t < n) × ((l : ℕ) → IsOn first next l → t < l → l < n → Q l)
@@ -143,7 +144,7 @@ module _ (next : ℕ → ℕ) (rises : Rises next) where
 
 -- a link is made from t, the last table of the chain or no table of it
 module _ (next : ℕ → ℕ) (rises : Rises next) (t n : ℕ) (none : next t ≡ 0) (some : 0 < t) (up : t < n) where
-  -- links go up still
+  -- links are still to greater numbers
   pub link_rises : Rises (at_put next t n)
   link_rises u =
       ⊎_elim
@@ -156,7 +157,7 @@ module _ (next : ℕ → ℕ) (rises : Rises next) (t n : ℕ) (none : next t �
       ⊎_elim (λ z. inl (e ∙ z)) (λ r. inr (r.0, subst (λ y. u < y) (sym e) r.1)) (rises u))
       (cases_Bool (u == t))
 
-  -- a walk along old links stays
+  -- a table after old links stays the table after as many links
   link_walk : (k first : ℕ) → 0 < walk next k first → walk (at_put next t n) k first ≡ walk next k first
   link_walk zero first h = refl
   link_walk (suc k) first h =
@@ -167,11 +168,11 @@ module _ (next : ℕ → ℕ) (rises : Rises next) (t n : ℕ) (none : next t �
       (λ (q : (walk next k first == t) ≡ false). cond-false (walk next k first == t) n (next (walk next k first)) q)
       (cases_Bool (walk next k first == t))
 
-  -- what was on the chain is on it
+  -- a table that was on the chain is on it
   pub link_on : (first u : ℕ) → IsOn first next u → IsOn first (at_put next t n) u
   link_on first u (h, (k, e)) = (h, (k, link_walk k first (subst (λ y. 0 < y) (sym e) h) ∙ e))
 
-  -- what comes before a table that was in the chain was in it
+  -- a table before one that was on the chain was on it too
   pub link_older : (first l u : ℕ) → IsOn first (at_put next t n) l → IsOn first next u → l < u → IsOn first next l
   link_older first l u (pl, (kl, el)) (pu, (ku, eu)) lt =
       let hu : 0 < walk next ku first = subst (λ y. 0 < y) (sym eu) pu in

@@ -1,4 +1,4 @@
--- What the tables of the chain have together is the map, as a list in which no two pairs have equal
+-- The pairs of all tables of the chain are the map, as a list in which no two pairs have equal
 -- keys.
 use Rattle.std.proofs.Common.{◌≡◌, ◌⊎◌, ⊎_elim, ℕ, zero, suc, ◌<◌, ◌≤◌, ◌==◌, true, false, Option}
 use Rattle.std.proofs.Common.{None, Some, List, [], refl, sym, ap, ◌∙◌, subst, arith, eqb-true}
@@ -20,7 +20,7 @@ use Rattle.papaya_words_law.proofs.Content.{held_word, at_place, apart_in, conte
 use Rattle.papaya_words_law.proofs.Incremental.States.{reached_front}
 use Rattle.papaya_words_law.proofs.OneMap.{keeping_sound, root_reached, means}
 
--- a walk by its first link
+-- the table after n + 1 links, by the first of them
 pub walk_first : (next : ℕ → ℕ) (n t : ℕ) → walk next (suc n) t ≡ walk next n (next t)
 walk_first next zero t = refl
 walk_first next (suc n) t = ap next (walk_first next n t)
@@ -30,12 +30,12 @@ module _ {K P : Type 0} (g : Setting K P) (law : IsLawful g) (s : State P) where
   abbrev pub table : ℕ → List P
   table t = pairs_in (s.slot t) (g.size t)
 
-  -- where there is no table there is no pair
+  -- without a table there is no pair
   pub chain_end : (n t : ℕ) → t ≡ 0 → chain_from g s n t ≡ []
   chain_end zero t e = refl
   chain_end (suc n) t e = cond-true (t == 0) [] (joined g.same g.key (table t) (chain_from g s n (s.next t))) (eq-eqb t 0 e)
 
-  -- else those of the table and of what is behind it
+  -- else those of the table and of the tables behind it
   pub chain_more : (n t : ℕ) → 0 < t → chain_from g s (suc n) t ≡ joined g.same g.key (table t) (chain_from g s n (s.next t))
   chain_more n t some =
       ⊎_elim
@@ -44,7 +44,7 @@ module _ {K P : Type 0} (g : Setting K P) (law : IsLawful g) (s : State P) where
       (cases_Bool (t == 0))
 
   module _ (m : K → Option P) (keeps : IsKeeping g s m) where
-    -- no key stands twice
+    -- no two pairs have equal keys
     pub chain_apart : (n t : ℕ) → AreApart g.same g.key (chain_from g s n t)
     chain_apart zero t = tt
     chain_apart (suc n) t =
@@ -55,7 +55,7 @@ module _ {K P : Type 0} (g : Setting K P) (law : IsLawful g) (s : State P) where
         (cases_lt 0 t)
 
     module _ (k : K) where
-      -- a table's pair of the key stands at a place of the key
+      -- a table's pair of the key is at a place of the key
       found_in : (t : ℕ) (p : P) → lookup g.same g.key (table t) k ≡ Some p → (j : ℕ) × (j < g.places t)
           × ((look g s k t j ≡ Here p) ⊎ (look g s k t j ≡ Leaving p))
       found_in t p e =
@@ -63,14 +63,14 @@ module _ {K P : Type 0} (g : Setting K P) (law : IsLawful g) (s : State P) where
           let a = at_place g law s m keeps t r.0 p r.2 k r.3 in
           (a.0, a.1, a.3)
 
-      -- where a table's list has none, no place of the key shows one
+      -- if a table's list has no pair of the key, no place of the key has one
       none_in : (t : ℕ) → lookup g.same g.key (table t) k ≡ None → (j : ℕ) → j < g.places t → held (look g s k t j) ≡ true → ⊥
       none_in t e j lt h =
           let w = held_word g k (s.slot t (g.place k t j)) (look g s k t j) refl h in
           let other = table_none g (s.slot t) (g.size t) k e (g.place k t j) (law.within k t j lt) w.0 w.1 in
           let same = w.2 in cc (other, same)
 
-      -- where no place of the key shows a pair, the table's list has none
+      -- if no place of the key has a pair, the table's list has none
       table_without : (t : ℕ) → ((j : ℕ) → j < g.places t → held (look g s k t j) ≡ true → ⊥) → lookup g.same g.key (table t) k ≡ None
       table_without t bare = by_found (lookup g.same g.key (table t) k) refl
         where
@@ -78,7 +78,7 @@ module _ {K P : Type 0} (g : Setting K P) (law : IsLawful g) (s : State P) where
           by_found None e = e
           by_found (Some p) e = let r = found_in t p e in absurd (bare r.0 r.1 (held_of (look g s k t r.0) p r.2))
 
-      -- where no table from t on has a pair of the key, the chain has none
+      -- if no table from t on has a pair of the key, the chain has none
       chain_none : (n t : ℕ) → ((u : ℕ) → t ≤ u → lookup g.same g.key (table u) k ≡ None) → lookup g.same g.key (chain_from g s n t) k ≡ None
       chain_none zero t bare = refl
       chain_none (suc n) t bare =
@@ -97,7 +97,8 @@ module _ {K P : Type 0} (g : Setting K P) (law : IsLawful g) (s : State P) where
               (λ r. ih (λ u le. bare u (let up = r.1 in omega (arith, up, le))))
               ((keeping_sound g s m keeps).rises t)
 
-      -- where table u of the chain has the key's pair, and no table of the chain before it has one, the chain has that pair
+      -- if table u of the chain has the key's pair, and no table of the chain before it has one,
+      -- the chain has that pair
       chain_some : (p : P) (u : ℕ) → IsOn s.first s.next u → lookup g.same g.key (table u) k ≡ Some p → (n t : ℕ) → IsOn s.first s.next t → t ≤ u
           → walk s.next n t ≡ 0
           → ((l : ℕ) → IsOn s.first s.next l → t ≤ l → l < u → lookup g.same g.key (table l) k ≡ None) → lookup g.same g.key (chain_from g s n t) k ≡ Some p
@@ -165,7 +166,7 @@ module _ {K P : Type 0} (g : Setting K P) (law : IsLawful g) (s : State P) where
             by_value None e = nothing (subst (IsTied (IsOn s.first s.next) g.places (look g s k)) e (holds.class k).tied) ∙ sym e
             by_value (Some p) e = first_table p e (subst (IsTied (IsOn s.first s.next) g.places (look g s k)) e (holds.class k).tied) ∙ sym e
 
-        -- with blocking: the root has each pair, and the tables behind it copies alone
+        -- with blocking: the root has each pair, and the tables behind it have only copies
         chain_blocking : g.blocking ≡ true → IsBlockingState g s m → lookup g.same g.key (chain_content g s n) k ≡ m k
         chain_blocking blocks holds = by_value (m k) refl
           where
@@ -190,7 +191,7 @@ module _ {K P : Type 0} (g : Setting K P) (law : IsLawful g) (s : State P) where
     pub no_chain : s.root ≡ 0 → (n : ℕ) → chain_content g s n ≡ []
     no_chain none n = chain_end n s.root none
 
-    -- what the tables of the chain have together is the map
+    -- the pairs of all tables of the chain are the map
     pub chain_is : (n : ℕ) → walk s.next n s.root ≡ 0 → (k : K) → lookup g.same g.key (chain_content g s n) k ≡ m k
     chain_is n ends k =
         ⊎_elim

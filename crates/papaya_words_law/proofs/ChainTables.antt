@@ -1,5 +1,5 @@
--- The list of a chain: over how many tables it goes, how long it is, when it is that of the root
--- alone, and what else it equals.
+-- The list of a chain: the number of its tables, its length, when it is that of the root alone, and
+-- the lists that it equals.
 use Rattle.std.proofs.Common.{◌≡◌, ◌⊎◌, inl, inr, ⊎_elim, ℕ, zero, suc, ◌+◌, ◌*◌, ◌<◌, ◌≤◌, ◌++◌}
 use Rattle.std.proofs.Common.{false, Option, None, Some, List, [], ◌∷◌, length, refl, sym, ap, ◌∙◌}
 use Rattle.std.proofs.Common.{arith}
@@ -19,7 +19,7 @@ use Rattle.papaya_words_law.proofs.Content.{apart_in, content_is, no_content}
 use Rattle.papaya_words_law.proofs.ChainContent.{walk_first, chain_end, chain_more, chain_apart, chain_is, no_chain}
 use Rattle.papaya_words_law.proofs.OneMap.{keeping_sound}
 
--- a walk that is at a table is so far up
+-- the table after n links has a number that is at least n greater
 walk_far : (next : ℕ → ℕ) → Rises next → (n t : ℕ) → (walk next n t ≡ 0) ⊎ (t + n ≤ walk next n t)
 walk_far next rises zero t = inr (omega arith)
 walk_far next rises (suc n) t =
@@ -99,7 +99,7 @@ module _ {K P : Type 0} (g : Setting K P) where
           from_none none zero = none
           from_none none (suc d) = ap s.next (from_none none d) ∙ next_zero s.next (keeping_sound g s m keeps).rises
 
-      -- with blocking, or where the root has no next table, it is the root's list
+      -- with blocking, or if the root has no next table, it is the root's list
       pub chain_alone : (g.blocking ≡ false → s.next s.root ≡ 0) → (n : ℕ) → walk s.next n s.root ≡ 0 → chain_content g s n ≡ content g s
       chain_alone last zero ends = sym (no_content g law s m keeps ends)
       chain_alone last (suc n) ends =
@@ -152,7 +152,7 @@ module _ {K P : Type 0} (g : Setting K P) where
 
       module _ (list : ℕ → ℕ → List P) (none : (t : ℕ) → list 0 t ≡ []) (end : (n : ℕ) → list (suc n) 0 ≡ [])
           (more : (n t : ℕ) → IsOn s.first s.next t → list (suc n) t ≡ joined g.same g.key (pairs_in (s.slot t) (g.size t)) (list n (s.next t))) where
-        -- what is put together alike along the chain is the chain's list
+        -- a list that is put together in the same way along the chain is the chain's list
         alike_from : (n t : ℕ) → (t ≡ 0) ⊎ IsOn s.first s.next t → list n t ≡ chain_from g s n t
         alike_from zero t h = none t
         alike_from (suc n) t (inl e) = ap (list (suc n)) e ∙ (end n ∙ sym (chain_end g law s (suc n) t e))

@@ -1,6 +1,6 @@
--- One class of keys: what its words in the tables are, without blocking. `On` says which tables are
--- on the chain, n at how many places a search looks, S which slot a place has, and V what a search
--- finds there.
+-- One class of keys: its words in the tables, without blocking. `On` says which tables are on the
+-- chain, n at how many places a search looks, S which slot a place has, and V the view of a search
+-- there.
 use Rattle.std.proofs.Common.{◌≡◌, ◌⊎◌, inl, inr, ⊎_elim, ℕ, ◌<◌, Bool, true, Option, None, Some, refl, sym, ap, ◌∙◌, subst}
 use Rattle.std.proofs.lemmas.Bool.{cases_order}
 use Rattle.papaya_words_law.specs.View.{View, Free, Here, Leaving, Gone, own, active, held, beyond, foreign, IsPassed, IsFull}
@@ -23,7 +23,7 @@ module _ {P : Type 0} where
     passed_not_held t j (inl (i, p, lt, e)) l h = let q = same_active t i j lt l (ap active e) (held-active (V t j) h) in cc (q, e, h)
     passed_not_held t j (inr all) l h = beyond_not_active (V t j) (all j l) (held-active (V t j) h)
 
-    -- behind an Empty place that a claim or a copy may take stands no word that it must not pass
+    -- behind an Empty place that a claim or a copy may take there is no word that it must not pass
     before_free : (test bad : View P → Bool) (clash : (v : View P) → test v ≡ true → bad v ≡ true → ⊥) (bad-own : (v : View P) → bad v ≡ true → own v ≡ true)
         → (t j i : ℕ) → V t j ≡ Free → ((l : ℕ) → l < j → test (V t l) ≡ true) → i < n t → bad (V t i) ≡ true → ⊥
     before_free test bad clash bad-own t j i free before lt h =
@@ -34,11 +34,11 @@ module _ {P : Type 0} where
         (⊎_elim (λ (q : j < f.at). f.before j q free) (λ (q : f.at < j). clash (V t f.at) (before f.at q) (ap bad e ∙ h)))
         (cases_order j f.at)
 
-    -- where a claim may stand, no place has or had the pair
+    -- if a claim may be put there, no place has or had the pair
     pub free_not_active : (t j i : ℕ) → V t j ≡ Free → ((l : ℕ) → l < j → beyond (V t l) ≡ true) → i < n t → active (V t i) ≡ true → ⊥
     free_not_active = before_free beyond active beyond_not_active active-own
 
-    -- where a copy may stand, no place has a word of the key
+    -- if a copy may be put there, no place has a word of the key
     pub free_not_own : (t j i : ℕ) → V t j ≡ Free → ((l : ℕ) → l < j → foreign (V t l) ≡ true) → i < n t → own (V t i) ≡ true → ⊥
     free_not_own = before_free foreign own foreign_not_own (λ v h. h)
 
@@ -50,13 +50,13 @@ module _ {P : Type 0} where
         (⊎_elim (λ (q : t < u). absurd (passed_not_held t i (g t a q) lt h)) (λ (q : u < t). absurd (passed_not_held u j (f u b q) lu e)))
         (cases_order t u)
 
-  -- nothing of the key stands behind a table that a search doesn't pass, but a copy of what leaves it
+  -- a table of the chain is passed if a later table has a Leaving pair of the key
   pub passed_or_copy : (On : ℕ → Type 0) (n : ℕ → ℕ) (S : ℕ → ℕ → ℕ) (V : ℕ → ℕ → View P) (m : Option P) (k : IsIncrementalClass On n S V m)
       → (t u j : ℕ) (p : P) → On t → t < u → j < n u → V u j ≡ Leaving p → IsPassed n V t
   passed_or_copy On n S V m k t u j p a lt lu e =
       elim (k.order t u j a lt lu (ap own e)) [ inl h ↦ h | inr c ↦ absurd (let q = c.copy in cc (q, e)) ]
 
-  -- what a search finds is the map's
+  -- a pair that a search finds is the map's
   pub found_is : (On : ℕ → Type 0) (n : ℕ → ℕ) (S : ℕ → ℕ → ℕ) (V : ℕ → ℕ → View P) (m : Option P) (k : IsIncrementalClass On n S V m) (t j : ℕ) (p : P)
       → On t → IsFront On n V t → j < n t → (V t j ≡ Here p) ⊎ (V t j ≡ Leaving p) → m ≡ Some p
   found_is On n S V None k t j p a f lt h = absurd (k.tied t j lt (held_of (V t j) p h))
@@ -74,7 +74,8 @@ module _ {P : Type 0} where
       (λ (x : V t j ≡ Leaving p). ⊎_elim (λ (y : V t o.at ≡ Here q). cc) (λ (y : V t o.at ≡ Leaving q). cc) has)
       h
 
-  -- where a search that comes to t can't find the pair in it or before it, and nothing but copies can stand behind it, the map has none
+  -- if a search that reaches t can't find the pair in it or before it, and only copies can be
+  -- behind it, the map has none
   pub none_is : (On : ℕ → Type 0) (n : ℕ → ℕ) (S : ℕ → ℕ → ℕ) (V : ℕ → ℕ → View P) (m : Option P) (k : IsIncrementalClass On n S V m) (t : ℕ)
       → IsFront On n V t → ((i : ℕ) → i < n t → held (V t i) ≡ true → ⊥)
       → ((u j : ℕ) → On u → t < u → j < n u → held (V u j) ≡ true → IsFront On n V u → ⊥) → m ≡ None
@@ -111,14 +112,14 @@ module _ {P : Type 0} where
   pub record IsTurn (S : ℕ → ℕ → ℕ) (V V' : ℕ → ℕ → View P) (t x : ℕ) (a b : View P) : Type 0 where
     pub each : (u j : ℕ) → ((V' u j ≡ V u j) × ((u ≡ t) × (S u j ≡ x) → ⊥)) ⊎ ((u ≡ t) × (S u j ≡ x) × (V u j ≡ a) × (V' u j ≡ b))
 
-  -- what a turn has to meet in both modes
+  -- the conditions of a change in both modes
   pub record IsSafeBase (On : ℕ → Type 0) (n : ℕ → ℕ) (S : ℕ → ℕ → ℕ) (V : ℕ → ℕ → View P) (t x : ℕ) (a b : View P) : Type 0 where
     pub fills : b ≡ Free → ⊥
     pub on : own b ≡ true → On t
     pub filled : own b ≡ true → (own a ≡ true) ⊎ IsFilled n S V t x
     pub lone : active b ≡ true → (active a ≡ true) ⊎ ((j : ℕ) → j < n t → active (V t j) ≡ true → ⊥)
 
-  -- what it has to meet without blocking
+  -- its conditions without blocking
   pub record IsSafe (On : ℕ → Type 0) (n : ℕ → ℕ) (S : ℕ → ℕ → ℕ) (V : ℕ → ℕ → View P) (t x : ℕ) (a b : View P) : Type 0 where
     pub base : IsSafeBase On n S V t x a b
     pub changes : unfinished a ≡ true
@@ -128,7 +129,7 @@ module _ {P : Type 0} where
     pub gone : (p : P) → b ≡ Gone p → IsGoneTo On n V t
 
   module _ (On : ℕ → Type 0) (n : ℕ → ℕ) (S : ℕ → ℕ → ℕ) (V V' : ℕ → ℕ → View P) (t x : ℕ) (a b : View P) (turn : IsTurn S V V' t x a b) where
-    -- what is finished stands
+    -- if the old word of the changed slot is unfinished, each finished word stays
     pub still : (u j : ℕ) → unfinished a ≡ true → (unfinished (V u j) ≡ true → ⊥) → V' u j ≡ V u j
     still u j unf done = ⊎_elim (λ h. h.0) (λ h. absurd (done (let e = h.2 in ap unfinished e ∙ unf))) (turn.each u j)
 
@@ -141,11 +142,11 @@ module _ {P : Type 0} where
     full_on : unfinished a ≡ true → (u : ℕ) → IsFull n V u → IsFull n V' u
     full_on unf u all j lt = ap foreign (still u j unf (λ h. beyond_not_unfinished (V u j) (foreign-beyond (V u j) (all j lt)) h)) ∙ all j lt
 
-    -- a search comes where it came
+    -- a search reaches the tables that it reached
     pub front_on : unfinished a ≡ true → (u : ℕ) → IsFront On n V u → IsFront On n V' u
     front_on unf u f l o lt = passed_on unf l (f l o lt)
 
-    -- what was full between two tables stays full
+    -- if all tables between two were full, they stay full
     all_full_on : unfinished a ≡ true → (u w : ℕ) → AllFull On n V u w → AllFull On n V' u w
     all_full_on unf u w f l o lu lw = full_on unf l (f l o lu lw)
 
@@ -162,7 +163,7 @@ module _ {P : Type 0} where
     filled_on fills u y f = record { at = f.at; within = f.within; is = f.is; before = λ i lt. not_free_on fills u i (f.before i lt) }
 
     module _ (k : IsBase On n S V) (safe : IsSafeBase On n S V t x a b) where
-      -- a slot tells one thing still
+      -- a slot still has one view
       turn_same_slot : (u i j : ℕ) → S u i ≡ S u j → V' u i ≡ V' u j
       turn_same_slot u i j e = go (turn.each u i) (turn.each u j)
         where
@@ -173,7 +174,7 @@ module _ {P : Type 0} where
           go (inr p) (inl q) = absurd (q.1 (p.0, sym e ∙ p.1))
           go (inr p) (inr q) = p.3 ∙ sym q.3
 
-      -- words of the key stand on the chain still
+      -- words of the key are still on the chain
       turn_on : (u j : ℕ) → own (V' u j) ≡ true → On u
       turn_on u j h =
           ⊎_elim (λ r. k.on u j (ap own (sym r.0) ∙ h)) (λ r. subst On (sym r.0) (safe.on (ap own (sym r.3) ∙ h))) (turn.each u j)
@@ -210,12 +211,12 @@ module _ {P : Type 0} where
           go (inr r) (inl s) = mixed i j li lj p q r s.0
           go (inr r) (inr s) = r.1 ∙ sym s.1
 
-      -- what both modes keep is kept
+      -- the invariant of both modes is kept
       pub base_after : IsBase On n S V'
       base_after = record { same_slot = turn_same_slot; on = turn_on; filled = turn_filled; one = turn_one }
 
     module _ (m : Option P) (k : IsIncrementalClass On n S V m) (safe : IsSafe On n S V t x a b) where
-      -- a copy stays one, or what it was copied from is Copied
+      -- a copy stays one, or the word from which it was copied is Copied
       copy_on : (u w j : ℕ) → (c : IsCopy On n V u w (V w j)) → V' w j ≡ V w j → IsPassed n V' u ⊎ IsCopy On n V' u w (V' w j)
       copy_on u w j c e =
           ⊎_elim
@@ -231,7 +232,7 @@ module _ {P : Type 0} where
           (λ r. inl (inl (c.at, c.pair, c.within, r.3 ∙ safe.leaves c.pair (sym r.2 ∙ c.leaving))))
           (turn.each u c.at)
 
-      -- what stands behind a table is a copy still, or the table is passed
+      -- a word behind a table is still a copy, or the table is passed
       turn_order : (u w j : ℕ) → On u → u < w → j < n w → own (V' w j) ≡ true → IsPassed n V' u ⊎ IsCopy On n V' u w (V' w j)
       turn_order u w j o l lt h = go (turn.each w j)
         where
@@ -260,7 +261,7 @@ module _ {P : Type 0} where
               (turn.each u c.at))
               (safe.order (ap own (sym r.3) ∙ h) u o (subst (λ y. u < y) r.0 l))
 
-      -- where a copy went it stays
+      -- a copy stays in its table
       gone_on : (u : ℕ) → IsGoneTo On n V u → IsGoneTo On n V' u
       gone_on u g = record {
         table = g.table;
@@ -272,7 +273,7 @@ module _ {P : Type 0} where
         full = all_full_on safe.changes u g.table g.full;
       }
 
-      -- what is Copied came to a later table
+      -- a pair that is Copied came to a later table
       turn_gone : (u i : ℕ) (p : P) → i < n u → V' u i ≡ Gone p → IsGoneTo On n V' u
       turn_gone u i p lt e =
           ⊎_elim
@@ -280,11 +281,11 @@ module _ {P : Type 0} where
           (λ r. gone_on u (subst (IsGoneTo On n V) (sym r.0) (safe.gone p (sym r.3 ∙ e))))
           (turn.each u i)
 
-      -- all is kept, once the map is tied anew
+      -- the whole invariant is kept, once the map is tied again
       pub kept_after : (m' : Option P) → IsTied On n V' m' → IsIncrementalClass On n S V' m'
       kept_after m' tied = record { base = base_after k.base safe.base; order = turn_order; gone = turn_gone; tied = tied }
 
-  -- the chain grows: what both modes keep
+  -- the chain grows: the invariant of both modes
   pub longer_base : (On On' : ℕ → Type 0) (n : ℕ → ℕ) (S : ℕ → ℕ → ℕ) (V : ℕ → ℕ → View P) → ((t : ℕ) → On t → On' t) → IsBase On n S V → IsBase On' n S V
   longer_base On On' n S V more k = record { same_slot = k.same_slot; on = λ t j h. more t (k.on t j h); filled = k.filled; one = k.one }
 

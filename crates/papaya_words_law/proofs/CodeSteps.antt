@@ -12,7 +12,7 @@ use Rattle.papaya_words_law.proofs.Codes.{code_kind, code_pair}
 use Rattle.papaya_words_law.proofs.Slots.{put_there, put_elsewhere}
 
 module _ {K P : Type 0} (g : Setting K P) (c : Coding K P) where
-  -- what the kinds of two words ask of their numbers
+  -- the step between the numbers of two words, from the condition on the words' kinds
   step_of_words : (v w : Word P) → MayBecome (kind v) (kind w) (code g c v) (code g c w) → IsSlotStep (code g c v) (code g c w)
   step_of_words v w h =
       let first : MayBecome (kind_of (code g c v)) (kind w) (code g c v) (code g c w) = subst (λ a. MayBecome a (kind w) (code g c v) (code g c w))

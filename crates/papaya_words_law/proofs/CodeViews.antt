@@ -1,4 +1,4 @@
--- What a search for a key learns from the number that it loads, and from comparing the key.
+-- The view of a search for a key, by the number that it loads and by comparing the key.
 use Rattle.std.proofs.Common.{◌≡◌, ⊎_elim, true, false, Some, refl, sym, ap, ◌∙◌, subst}
 use Rattle.std.proofs.lemmas.Bool.{cases_Bool, cond-true, cond-false}
 use Rattle.papaya_words.specs.declared.word.Kind.TheVariants as kinds
@@ -19,7 +19,7 @@ own_kind (Copied p) = (p, refl)
 own_kind (Buried p) = (p, refl)
 
 module _ {K P : Type 0} (g : Setting K P) where
-  -- a word of another key says: go on
+  -- a search continues after a word of another key
   pub other_key : (k : K) (w : Word P) (p : P) → named w ≡ Some p → g.same k (g.key p) ≡ false → view g k w ≡ Foreign
   other_key k Empty p e n = absurd cc
   other_key k Closed p e n = refl
@@ -28,7 +28,7 @@ module _ {K P : Type 0} (g : Setting K P) where
   other_key k (Copied q) p e n = let is : q ≡ p = cc e in cond-false (g.same k (g.key q)) (View.Gone q) Foreign (ap (λ r. g.same k (g.key r)) is ∙ n)
   other_key k (Buried q) p e n = let is : q ≡ p = cc e in cond-false (g.same k (g.key q)) (Grave q) Foreign (ap (λ r. g.same k (g.key r)) is ∙ n)
 
-  -- a buried one says so too, whatever its key
+  -- and after a buried one, whatever its key
   buried_beyond : (k : K) (p : P) → beyond (view g k (Buried p)) ≡ true
   buried_beyond k p =
       ⊎_elim
@@ -37,11 +37,11 @@ module _ {K P : Type 0} (g : Setting K P) where
       (cases_Bool (g.same k (g.key p)))
 
   module _ (c : Coding K P) where
-    -- the kind of a number says what the word is
+    -- the kind of a number determines its word
     pub word_of_kind : (w : Word P) → IsOfKind (kind_of (code g c w)) w
     word_of_kind w = subst (λ a. IsOfKind a w) (sym (code_kind g c w)) (own_kind w)
 
-    -- so a search goes past a Buried and a Closed word without comparing
+    -- so a search passes a Buried and a Closed word without comparing
     pub past_buried : (k : K) (w : Word P) → kind_of (code g c w) ≡ kinds.Buried → beyond (view g k w) ≡ true
     past_buried k w e = let r : IsOfKind kinds.Buried w = subst (λ a. IsOfKind a w) e (word_of_kind w) in
         ap (λ v. beyond (view g k v)) r.1 ∙ buried_beyond k r.0

@@ -1,4 +1,4 @@
--- What the root has is the map, as a list in which no two pairs have equal keys.
+-- The pairs of the root are the map, as a list in which no two pairs have equal keys.
 use Rattle.std.proofs.Common.{◌≡◌, ◌⊎◌, inl, inr, ⊎_elim, ℕ, ◌<◌, true, false, Option, None, Some, [], refl, sym, ap, ◌∙◌, arith}
 use Rattle.std.proofs.lemmas.Bool.{cases_Bool, cases_lt, cond-true, cond-false}
 use Rattle.papaya_words_law.specs.Exchange.{Word, Empty, Closed, Live, Marked, Copied, Buried, Setting, State}
@@ -31,7 +31,7 @@ module _ {K P : Type 0} (g : Setting K P) where
   held_word k w (Grave p) e h = absurd cc
 
   module _ (law : IsLawful g) (s : State P) (m : K → Option P) (keeps : IsKeeping g s m) where
-    -- a pair stands at a place of each key that is equal to its own
+    -- a pair is at a place of each key that is equal to its own
     pub at_place : (t x : ℕ) (p : P) → Holds (s.slot t x) p → (k : K) → g.same k (g.key p) ≡ true → (j : ℕ) × (j < g.places t) × (g.place k t j ≡ x)
         × ((look g s k t j ≡ Here p) ⊎ (look g s k t j ≡ Leaving p))
     at_place t x p h k same =
@@ -58,7 +58,7 @@ module _ {K P : Type 0} (g : Setting K P) where
         (held-active (look g s (g.key q) t b.0) (held_of (look g s (g.key q) t b.0) q b.3)) in
         sym a.2 ∙ one ∙ b.2
 
-    -- so in a table no key stands twice
+    -- so no two pairs in a table have equal keys
     pub apart_in : (t n : ℕ) → AreApart g.same g.key (pairs_in (s.slot t) n)
     apart_in t n = table_apart g law.back (s.slot t) (one_slot t) n
 
@@ -81,7 +81,7 @@ module _ {K P : Type 0} (g : Setting K P) where
     pub no_content : s.root ≡ 0 → content g s ≡ []
     no_content none = table_empty g (s.slot s.root) (g.size s.root) (empty_off s.root (λ on. omega (arith, on.0, none)))
 
-    -- what the root's table has is the map, with blocking or where it has no next table
+    -- the pairs of the root's table are the map, with blocking or if it has no next table
     pub content_is : (g.blocking ≡ false → s.next s.root ≡ 0) → (k : K) → lookup g.same g.key (content g s) k ≡ m k
     content_is last k = ⊎_elim (λ some. by_found some (lookup g.same g.key (content g s) k) refl) (λ none. rootless (omega (arith, none))) (cases_lt 0 s.root)
       where

@@ -1,5 +1,5 @@
--- What a copier can rely on once it has gathered its facts: which tables it names, and that its
--- facts last.
+-- The facts on which a copier can rely once it has gathered them: they name tables of the chain,
+-- and they last.
 use Rattle.std.proofs.Common.{◌≡◌, ◌⊎◌, inl, inr, ⊎_elim, ℕ, suc, ◌<◌, ◌≤◌, true, false, Option, Some, sym, ap, ◌∙◌, subst, arith}
 use Rattle.std.proofs.lemmas.Bool.{cases_order, cond-true}
 use Rattle.papaya_words_law.specs.Exchange.{Word, Empty, Closed, Live, Marked, Copied, Buried, Setting, State}
@@ -32,7 +32,7 @@ module _ {K P : Type 0} (g : Setting K P) (s : State P) (rises : Rises s.next) w
   pub taker_on : (k : K) (t n : ℕ) → IsOn s.first s.next t → IsTaker g s k t n → IsOn s.first s.next n
   taker_on k t n on r = subst (IsOn s.first s.next) r.is (walk_on s.next rises s.first t (suc r.links) on (subst (λ y. 0 < y) (sym r.is) r.made))
 
--- the root that was found without a next table is the root as that was told
+-- a table that was the root, and that has no next table, is the root
 pub last_root : {K P : Type 0} (g : Setting K P) (s : State P) (m : K → Option P) → IsKeeping g s m → (t : ℕ) → s.was_root t ≡ true → s.next t ≡ 0 → s.root ≡ t
 last_root g s m keeps t was last =
     let sound = keeping_sound g s m keeps in
@@ -47,7 +47,7 @@ last_root g s m keeps t was last =
     (λ (c : s.root < t). let l = w.1 in absurd (omega (arith, l, c))))
     (cases_order t s.root)
 
--- what a copier knows of the pair that it carries lasts
+-- the facts of a copier about the pair that it moves last
 pub putting_lasts : {K P : Type 0} (g : Setting K P) → IsLawful g → (s s' : State P) → s.next 0 ≡ 0 → IsLater g s s' → (t x : ℕ) (p : P) (n j : ℕ)
     → IsPutting g s t x p n j → IsPutting g s' t x p n j
 putting_lasts g law s s' zero_next later t x p n j r =
@@ -61,12 +61,13 @@ putting_lasts g law s s' zero_next later t x p n j r =
       before = λ i lt. all.foreign_at (g.key p) n i (r.before i lt);
     }
 
--- slots that are settled stay so
+-- slots that are settled stay settled
 pub settled_lasts : {K P : Type 0} (g : Setting K P) → IsLawful g → (s s' : State P) → s.next 0 ≡ 0 → IsLater g s s' → (t n a b : ℕ)
     → ((x : ℕ) → a ≤ x → x < b → IsSettled g s n (s.slot t x)) → (x : ℕ) → a ≤ x → x < b → IsSettled g s' n (s'.slot t x)
 settled_lasts g law s s' zero_next later t n a b h x lo hi = (lasts g law s s' zero_next later).settled n t x (h x lo hi)
 
--- without blocking: where the slot is settled in which a call met its key's pair leaving, the search goes past the table
+-- without blocking: if the slot is settled in which a call met its key's pair leaving, the search
+-- passes the table
 pub moved : {K P : Type 0} (g : Setting K P) (s : State P) → g.blocking ≡ false → (k : K) (t j n : ℕ) (p : P) → j < g.places t
     → (look g s k t j ≡ Leaving p) ⊎ (look g s k t j ≡ Gone p) → IsSettled g s n (s.slot t (g.place k t j)) → IsPassed g.places (look g s k) t
 moved g s inc k t j n p lt (inr e) settled = inl (j, p, lt, e)

@@ -50,7 +50,8 @@ module _ {K P : Type 0} (g : Setting K P) (s : State P) where
   putting_copied : (t x : ℕ) (p : P) (n j : ℕ) → IsPutting g s t x p n j → IsCopied g s n p
   putting_copied t x p n j r = record { from = t; slot = x; stood = r.stood; taker = r.taker }
 
-  -- what a copier meets next: another key's word or Closed, and it goes on; an empty place; or a word of the key
+  -- the next word for a copier: another key's word or Closed, after which it continues; an empty
+  -- place; or a word of the key
   pub meets : (t x : ℕ) (p : P) (n j : ℕ) → IsPutting g s t x p n j → IsPutting g s t x p n (suc j) ⊎ (look g s (g.key p) n j ≡ Free)
       ⊎ (own (look g s (g.key p) n j) ≡ true)
   meets t x p n j r = by_view (look g s (g.key p) n j) refl
@@ -82,11 +83,11 @@ module _ {K P : Type 0} (g : Setting K P) (s : State P) where
   put_full : (t x : ℕ) (p : P) (n : ℕ) → IsPutting g s t x p n (g.places n) → IsFull g.places (look g s (g.key p)) n
   put_full t x p n r j lt = r.before j lt
 
-  -- where no place is left, with blocking, the table may be aborted
+  -- if no place is left, with blocking, the table may be aborted
   pub may_abort : (t x : ℕ) (p : P) (n : ℕ) → IsPutting g s t x p n (g.places n) → g.blocking ≡ true → s.aborted n ≡ false → MayAbort g s n
   may_abort t x p n r blocks live = record { before = live; mode = blocks; pair = p; source = putting_copied t x p n (g.places n) r; full = put_full t x p n r }
 
-  -- without blocking the copier goes on to the next table
+  -- without blocking the copier continues in the next table
   pub put_next : (t x : ℕ) (p : P) (n : ℕ) → IsPutting g s t x p n (g.places n) → g.blocking ≡ false → 0 < s.next n → IsPutting g s t x p (s.next n) 0
   put_next t x p n r inc some = record {
     stood = r.stood;
@@ -95,7 +96,7 @@ module _ {K P : Type 0} (g : Setting K P) (s : State P) where
         absurd (omega arith);
   }
 
-  -- where a word of the key stands, without blocking, the mark may be finished
+  -- if there is a word of the key, without blocking, the mark may be finished
   pub may_finish : (t x : ℕ) (p : P) (n j : ℕ) → IsPutting g s t x p n j → HasWord g.places (look g s (g.key p)) n → g.blocking ≡ false
       → s.slot t x ≡ Marked p → MayFinish g s t x p
   may_finish t x p n j r has inc old = record { marked = old; mode = inc; to = n; taker = r.taker; has = has }

@@ -15,11 +15,11 @@ use Rattle.papaya_words_law.proofs.OneMap.{keeping_sound}
 use Rattle.papaya_words_law.proofs.Content.{empty_off, no_content}
 
 module _ {K P : Type 0} (g : Setting K P) (law : IsLawful g) (s : State P) (m : K → Option P) (keeps : IsKeeping g s m) (alone : (t : ℕ) → s.next t ≡ 0) where
-  -- no link leads anywhere
+  -- no table has a link
   no_walk : (n t u : ℕ) → walk s.next (suc n) t ≡ u → 0 < u → ⊥
   no_walk n t u is some = let z = alone (walk s.next n t) in omega (arith, is, some, z)
 
-  -- so a walk stays where it began
+  -- so a table that is reached along links is the one where they begin
   short_walk : (n t u : ℕ) → walk s.next n t ≡ u → 0 < u → t ≡ u
   short_walk zero t u is some = is
   short_walk (suc n) t u is some = absurd (no_walk n t u is some)
@@ -28,7 +28,7 @@ module _ {K P : Type 0} (g : Setting K P) (law : IsLawful g) (s : State P) (m : 
   on_first : (t : ℕ) → IsOn s.first s.next t → s.first ≡ t
   on_first t on = short_walk on.1.0 s.first t on.1.1 on.0
 
-  -- a search stands in the root
+  -- a search stays in the root
   reached_root : (k : K) (t : ℕ) → IsReached g s k t → t ≡ s.root
   reached_root k t r =
       let sound = keeping_sound g s m keeps in
@@ -50,7 +50,7 @@ module _ {K P : Type 0} (g : Setting K P) (law : IsLawful g) (s : State P) (m : 
       let old : length (pairs_of_word (s.slot s.root x)) ≡ length (pairs_of_word (s.slot t x)) = ap (λ v. length (pairs_of_word v)) there.1 in
       omega (arith, change, new, old)
 
-  -- where a word names a pair there is a slot
+  -- if a word names a pair, its slot is one of the table
   slot_within : (t x : ℕ) (p : P) (w : Word P) → s.slot t x ≡ w → named w ≡ Some p → x < g.size t
   slot_within t x p w e name = let o = (keeping_sound g s m keeps).placed t x p (ap named e ∙ name) in
       subst (λ y. y < g.size t) o.is (law.within (g.key p) t o.at o.within)

@@ -12,7 +12,7 @@ use Rattle.papaya_words_law.specs.Example.{by_two, two_tables, of_one, three_tab
 same_back : (k l : ℕ) → (k == l) ≡ true → (l == k) ≡ true
 same_back k l e = eq-eqb l k (sym (eqb-true k l e))
 
--- and leads on
+-- and transitive
 same_through : (k l m : ℕ) → (k == l) ≡ true → (l == m) ≡ true → (k == m) ≡ true
 same_through k l m a b = eq-eqb k m (eqb-true k l a ∙ eqb-true l m b)
 

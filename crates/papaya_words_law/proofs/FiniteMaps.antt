@@ -29,7 +29,7 @@ module _ {K P : Type 0} (g : Setting K P) where
   without_behind : (p : P) (a : List P) (k : K) → g.same k (g.key p) ≡ false → without (p ∷ a) k ≡ p ∷ without a k
   without_behind p a k n = cond-false (g.same k (g.key p)) a (p ∷ without a k) n
 
-  -- where the key has a pair, one pair is taken out
+  -- if the key has a pair, one pair is taken out
   without_length : (a : List P) (k : K) (p : P) → lookup g.same g.key a k ≡ Some p → length a ≡ suc (length (without a k))
   without_length [] k p e = absurd cc
   without_length (q ∷ a) k p e =
@@ -91,7 +91,7 @@ module _ {K P : Type 0} (g : Setting K P) where
         (cases_Bool (g.same l (g.key p))))
         (cases_Bool (g.same k (g.key p)))
 
-    -- and no key stands twice still
+    -- and still no two pairs have equal keys
     without_apart : (a : List P) (k : K) → AreApart g.same g.key a → AreApart g.same g.key (without a k)
     without_apart [] k h = tt
     without_apart (p ∷ a) k h =
@@ -132,7 +132,7 @@ module _ {K P : Type 0} (g : Setting K P) where
           (λ (n : g.same l k ≡ false). without_other a k l n ∙ (before l ∙ (sym (other l n) ∙ sym (without_other b k l n))))
           (cases_Bool (g.same l k)))
 
-      -- where a key has no pair, none is taken out
+      -- if a key has no pair, none is taken out
       without_none : (c : List P) (k : K) → lookup g.same g.key c k ≡ None → length (without c k) ≡ length c
       without_none [] k e = refl
       without_none (p ∷ c) k e =

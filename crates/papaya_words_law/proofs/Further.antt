@@ -16,7 +16,7 @@ module _ {K P : Type 0} (g : Setting K P) (matches : K → Bool) (hash : ℕ) wh
   some_key : (k l : K) → Some l ≡ Some k → l ≡ k
   some_key k l e = cc e
 
-  -- pairs are seen alike with the further key and without
+  -- the views of pairs are the same with the further key and without
   pub key_alike : AreAlike g (with_key g matches hash)
   key_alike = record {
     blocking = refl;
@@ -57,7 +57,7 @@ module _ {K P : Type 0} (g : Setting K P) (matches : K → Bool) (hash : ℕ) wh
     key_itself (Some k) = law.lawful.itself k
     key_itself None = refl
 
-    -- equal keys are so both ways
+    -- equality of keys is symmetric
     key_back : (k l : Option K) → same_with g.same matches k l ≡ true → same_with g.same matches l k ≡ true
     key_back (Some k) (Some l) e = law.lawful.back k l e
     key_back (Some k) None e = e
@@ -65,7 +65,7 @@ module _ {K P : Type 0} (g : Setting K P) (matches : K → Bool) (hash : ℕ) wh
     key_back None None e = e
 
     module _ (form : IsLawfulKey g c matches hash) where
-      -- what equals an equal key is equal
+      -- a key that equals an equal key is equal
       key_through : (k l m : Option K) → same_with g.same matches k l ≡ true → same_with g.same matches l m ≡ true → same_with g.same matches k m ≡ true
       key_through (Some k) (Some l) (Some m) d e = law.lawful.through k l m d e
       key_through (Some k) (Some l) None d e = form.class l e k ∙ law.lawful.back k l d
@@ -139,7 +139,7 @@ key_agrees {K = K} On g g' agrees matches
     places (Some k) t j on = agrees.place k t j on
     places None t j on = ap (λ n. place hash n j) (agrees.size t on)
 
--- where keys are looked for by their hash, so is the further one
+-- in a plan by hash the further key is placed by its hash too
 pub key_planned : {K P : Type 0} (blocking : Bool) (chunk_of : ℕ → ℕ) (most : Option ℕ) (key : P → K) (same : K → K → Bool) (hash_of : K → ℕ)
     (size places chunks : ℕ → ℕ) (matches : K → Bool) (hash : ℕ)
     → with_key (planned (hashed blocking chunk_of most key same hash_of) size places chunks) matches hash ≡ planned

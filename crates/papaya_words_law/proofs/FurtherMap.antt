@@ -1,5 +1,5 @@
--- The map in a setting with one further key: the map itself and, for that key, what the map has for
--- the keys that it matches.
+-- The map in a setting with one further key: the map itself and, for that key, the pair of the keys
+-- that it matches.
 use Rattle.std.proofs.Common.{◌≡◌, ◌↔◌, ℕ, Bool, true, false, cond, Option, None, Some, List, [], ◌∷◌, ◌++◌, refl, sym, ap, ◌∙◌, subst}
 use Rattle.papaya_words_law.specs.Exchange.{Setting, State, Exchange, Open, Claim, Replace, Bury, Link}
 use Rattle.papaya_words_law.specs.Exchange.{Mark, Close, Place, Finish, Advance, Promote, Abort, Take}
@@ -34,7 +34,7 @@ module _ {K P : Type 0} (g : Setting K P) (matches : K → Bool) (hash : ℕ) wh
   own_of [] m m' own k = own k
   own_of (e ∷ es) m m' own k = own_of es (map_after g m e) (map_after (with_key g matches hash) m' e) (own_after m m' own e) k
 
-  -- an exchange is legal with the further key where it is without
+  -- an exchange is legal with the further key if it is without
   pub key_legal : (m : K → Option P) (m' : Option K → Option P) → ((k : K) → m' (Some k) ≡ m k) → (e : Exchange P)
       → IsLegal g m e ↔ IsLegal (with_key g matches hash) m' e
   key_legal m m' own (Open t) = (λ h. h, λ h. h)
@@ -61,7 +61,7 @@ module _ {K P : Type 0} (g : Setting K P) (matches : K → Bool) (hash : ℕ) wh
       (λ h. (one.0 h.0, rest.0 h.1), λ h. (one.1 h.0, rest.1 h.1))
 
   module _ (c : Coding K P) (form : IsLawfulKey g c matches hash) where
-    -- a matched key has what the further one has, after an exchange
+    -- a matched key has the pair of the further one, after an exchange
     matched_after : (m : K → Option P) (m' : Option K → Option P) (k : K) → matches k ≡ true → m' None ≡ m k → (e : Exchange P)
         → map_after (with_key g matches hash) m' e None ≡ map_after g m e k
     matched_after m m' k h is (Open t) = is
@@ -88,7 +88,7 @@ module _ {K P : Type 0} (g : Setting K P) (matches : K → Bool) (hash : ℕ) wh
     abbrev IsFinding : Option P → Type 0
     IsFinding value = (p : P) → value ≡ Some p → matches (g.key p) ≡ true
 
-    -- of two values, where each is such
+    -- for either of two values, if each is one
     finding_cond : (b : Bool) (v w : Option P) → (b ≡ true → IsFinding v) → IsFinding w → IsFinding (cond b v w)
     finding_cond true v w f h = f refl
     finding_cond false v w f h = h
@@ -131,7 +131,7 @@ module _ {K P : Type 0} (g : Setting K P) (matches : K → Bool) (hash : ℕ) wh
     pub key_left : (es : List (Exchange P)) → AllAllowed g start es → IsMapWith g matches (map_left g es) (map_left (with_key g matches hash) es)
     key_left es may = key_map (λ k. None) (λ k. None) (record { own = λ k. refl; matched = λ k h. refl; found = λ p e. absurd (cc e) }) start es may
 
-    -- what the further key had at a moment, the keys that it matches had there
+    -- the value of the further key at some point is that of the keys that it matches
     pub key_moment : (begun since : List (Exchange P)) → AllAllowed g start (begun ++ since) → (value : Option P)
         → IsAtMoment (with_key g matches hash) (map_left (with_key g matches hash) begun) since None value
         → IsMatchedAtMoment g matches (map_left g begun) since value

@@ -1,5 +1,5 @@
--- What a caller has loaded, and which exchanges and lists of them are allowed, is the same under
--- each setting that agrees with this one on the tables of the chain.
+-- The facts that a caller has loaded, and the exchanges and lists of them that are allowed, are the
+-- same under each setting that agrees with this one on the tables of the chain.
 use Rattle.std.proofs.Common.{MatchOption, ◌≡◌, inl, inr, ⊎_elim, ℕ, suc, ◌<◌, ◌≤◌, ◌==◌, Bool}
 use Rattle.std.proofs.Common.{true, cond, Option, None, Some, List, [], ◌∷◌, refl, sym, ap, ◌∙◌}
 use Rattle.std.proofs.Common.{subst, arith, eqb-true, eq-eqb}
@@ -23,12 +23,12 @@ use Rattle.papaya_words_law.proofs.OneMap.{keeping_sound, step_keeps}
 use mathlib.Core.Path.{fun_ext}
 
 module _ {K P : Type 0} (g g' : Setting K P) (s : State P) (sound : IsSound g s) (agrees : Agrees (IsOn s.first s.next) g g') where
-  -- each table that a walk from a table of the chain comes to is on the chain
+  -- each table on the way along links from a table of the chain is on the chain
   on_way : (from links n i : ℕ) → IsOn s.first s.next from → walk s.next links from ≡ n → 0 < n → i ≤ links → IsOn s.first s.next (walk s.next i from)
   on_way from links n i on is made le = walk_on s.next sound.rises s.first from i on
       (pos_before s.next sound.rises i links from le (subst (λ y. 0 < y) (sym is) made))
 
-  -- a search comes where it came
+  -- a search reaches the same tables
   pub reached_carries : (k : K) (t : ℕ) → IsReached g s k t → IsReached g' s k t
   reached_carries k t r = record {
     from = r.from;
@@ -45,7 +45,7 @@ module _ {K P : Type 0} (g g' : Setting K P) (s : State P) (sound : IsSound g s)
   reached_pair : (p : P) (t : ℕ) → IsReached g s (g.key p) t → IsReached g' s (g'.key p) t
   reached_pair p t r = subst (λ k. IsReached g' s k t) (sym (agrees.key p)) (reached_carries (g.key p) t r)
 
-  -- where copies go
+  -- the table for a copy
   pub taker_carries : (p : P) (t n : ℕ) → IsOn s.first s.next t → IsTaker g s (g.key p) t n → IsTaker g' s (g'.key p) t n
   taker_carries p t n on r = record {
     links = r.links;
@@ -61,7 +61,7 @@ module _ {K P : Type 0} (g g' : Setting K P) (s : State P) (sound : IsSound g s)
         (r.over i lt);
   }
 
-  -- what a table is copied to
+  -- the target of a table's copy
   pub target_carries : (t n : ℕ) → IsTarget g s t n → IsTarget g' s t n
   target_carries t n r = record { links = r.links; is = r.is; made = r.made; over = r.over; mode = ⊎_elim (λ e. inl e) (λ b. inr (agrees.blocking ∙ b)) r.mode }
 
@@ -83,20 +83,21 @@ module _ {K P : Type 0} (g g' : Setting K P) (s : State P) (sound : IsSound g s)
   pub copied_carries : (n : ℕ) (p : P) → IsCopied g s n p → IsCopied g' s n p
   copied_carries n p c = record { from = c.from; slot = c.slot; stood = c.stood; taker = taker_carries p c.from n (source_on n p c) c.taker }
 
-  -- where a walk from a table of the chain ends is on the chain
+  -- the table after some links from a table of the chain is on the chain
   end_on : (from links n : ℕ) → IsOn s.first s.next from → walk s.next links from ≡ n → 0 < n → IsOn s.first s.next n
   end_on from links n on is made = subst (IsOn s.first s.next) is (on_way from links n links on is made (omega arith))
 
-  -- where a taker is, is on the chain
+  -- a table that takes a pair is on the chain
   taker_on : (k : K) (t n : ℕ) → IsOn s.first s.next t → IsTaker g s k t n → IsOn s.first s.next n
   taker_on k t n on r = end_on t (suc r.links) n on r.is r.made
 
-  -- what is copied to the next table
+  -- a table that is copied to the next table
   pub linking_carries : (from t : ℕ) → IsLinking g s from t → IsLinking g' s from t
   linking_carries from t (inl h) = inl (h.0, λ b. h.1 (sym agrees.blocking ∙ b))
   linking_carries from t (inr h) = inr (agrees.blocking ∙ h.0, h.1, target_carries from t h.2, h.3)
 
-  -- an exchange that is allowed under the one is allowed under the other, where both give the table that it links as many words for chunks
+  -- an exchange that is allowed under the one is allowed under the other, if both give the table
+  -- that it links as many words for chunks
   pub allows_carries : (e : Exchange P) → ((n : ℕ) → brings e n ≡ true → g'.chunks n ≡ g.chunks n) → Allows g s e → Allows g' s e
   allows_carries (Open t) chunks may = may
   allows_carries (Claim t x p) chunks may =
@@ -195,11 +196,11 @@ module _ {K P : Type 0} (g g' : Setting K P) (On : ℕ → Type 0) (agrees : Agr
     place = λ k t j h. agrees.place k t j (on t h);
   }
 
-  -- what two pairs' keys are to each other
+  -- the relation between the keys of two pairs
   same_pairs : (p q : P) → g.key q ≡ g.key p → g'.key q ≡ g'.key p
   same_pairs p q h = agrees.key q ∙ h ∙ sym (agrees.key p)
 
-  -- what a word may become
+  -- a word that a word may become
   pub becomes_carries : (u w : Word P) → Becomes g u w → Becomes g' u w
   becomes_carries Empty w b = b
   becomes_carries Closed w b = b
@@ -291,7 +292,7 @@ module _ {K P : Type 0} (g : Setting K P) (law : IsLawful g) where
   on_run (e ∷ es) s m keeps may t on = on_run es (after s e) (map_after g m e) (step_keeps g law s m keeps e may.0).1 may.1 t
       (on_after s (keeping_sound g s m keeps) e may.0 t on)
 
-  -- Of a list: it's enough that the settings agree on the chain that it leaves.
+  -- For a list it is enough that the settings agree on the chain that it leaves.
   pub all_carries : (g' : Setting K P) (es : List (Exchange P)) (s : State P) (m : K → Option P) → IsKeeping g s m → AllAllowed g s es
       → Agrees (IsOn (run es s).first (run es s).next) g g' → AllAllowed g' s es
   all_carries g' [] s m keeps may agrees = tt

@@ -1,5 +1,4 @@
--- What a hint says stays true, and a search goes past a hint with another hash byte, or of a closed
--- slot.
+-- A hint stays true, and a search passes a hint with another hash byte, or of a closed slot.
 use Rattle.std.proofs.Common.{◌≡◌, ◌⊎◌, inl, inr, ⊎_elim, ℕ, true, false, refl, sym, ap, ◌∙◌, subst, ◌==◌, eq-eqb}
 use Rattle.std.proofs.lemmas.Bool.{cases_Bool, cond-false, or_parts}
 use Rattle.papaya_words.specs.Word.{hint_of, may_hold}
@@ -9,7 +8,7 @@ use Rattle.papaya_words_law.specs.Code.{Coding, IsLawfulCoding}
 use Rattle.papaya_words_law.specs.Hints.{IsHintOf, IsHint, hint_of_pair}
 use Rattle.papaya_words_law.specs.Later.{Becomes, IsLater}
 
--- a hint that says of another key than one with this hash
+-- a hint that excludes this hash is neither 0 nor its hash byte
 says_other : (n hash : ℕ) → may_hold n hash ≡ false → (n ≡ 0 → ⊥) × (n ≡ hint_of hash → ⊥)
 says_other n hash e =
     let parts = or_parts (n == 0) (n == hint_of hash) e in
@@ -30,11 +29,11 @@ module _ {K P : Type 0} (g : Setting K P) (c : Coding K P) where
     hint_same : (p q : P) → g.key q ≡ g.key p → hint_of_pair g c p ≡ hint_of_pair g c q
     hint_same p q e = ap (λ k. hint_of (c.hash k)) (sym e)
 
-    -- of a pair that gives way to one of an equal key
+    -- the hint of a pair is that of a pair of an equal key in its place
     hint_by : (p q : P) (n : ℕ) → g.key q ≡ g.key p → (n ≡ 0) ⊎ (n ≡ hint_of_pair g c p) → (n ≡ 0) ⊎ (n ≡ hint_of_pair g c q)
     hint_by p q n e h = ⊎_elim (λ z. inl z) (λ y. inr (y ∙ hint_same p q e)) h
 
-    -- what a hint says stays true of whatever the word becomes
+    -- a hint stays true of every word that the word may become
     pub hint_becomes : (v w : Word P) (n : ℕ) → Becomes g v w → IsHintOf g c v n → IsHintOf g c w n
     hint_becomes Empty w n b h = subst (IsHintOf g c w) (sym h) (hint_none w)
     hint_becomes Closed w n b h = subst (λ y. IsHintOf g c y n) (sym b) h
@@ -48,7 +47,7 @@ module _ {K P : Type 0} (g : Setting K P) (c : Coding K P) where
     hint_becomes (Copied p) w n b h = subst (λ y. IsHintOf g c y n) (sym b) h
     hint_becomes (Buried p) w n b h = subst (λ y. IsHintOf g c y n) (sym b) h
 
-    -- whatever others exchange
+    -- after any exchanges of others
     pub hint_lasts : (s s' : State P) → IsLater g s s' → (t x n : ℕ) → IsHint g c s t x n → IsHint g c s' t x n
     hint_lasts s s' l t x n h = hint_becomes (s.slot t x) (s'.slot t x) n (l.words t x) h
 
@@ -61,7 +60,7 @@ module _ {K P : Type 0} (g : Setting K P) (c : Coding K P) where
         (λ (f : g.same k (g.key p) ≡ false). f)
         (cases_Bool (g.same k (g.key p)))
 
-    -- so a search for the key goes on, without the word
+    -- so a search for the key continues, without the word
     pub hint_passes : (k : K) (w : Word P) (n : ℕ) → IsHintOf g c w n → may_hold n (c.hash k) ≡ false → view g k w ≡ Foreign
     hint_passes k Empty n h other = absurd ((says_other n (c.hash k) other).0 h)
     hint_passes k Closed n h other = refl
@@ -74,7 +73,7 @@ module _ {K P : Type 0} (g : Setting K P) (c : Coding K P) where
     pub hint_fills : (k : K) (w : Word P) (p : P) → w ≡ Live p → g.same k (g.key p) ≡ true → IsHintOf g c w (hint_of (c.hash k))
     hint_fills k w p e y = subst (λ v. IsHintOf g c v (hint_of (c.hash k))) (sym e) (inr (ap hint_of (law.respects k (g.key p) y)))
 
--- the hint of a word is the same where pairs have the same keys
+-- the hint of a word is the same if pairs have the same keys
 module _ {K P : Type 0} (g g' : Setting K P) (c : Coding K P) (keys : (p : P) → g'.key p ≡ g.key p) where
   pair_agrees : (p : P) (n : ℕ) → (n ≡ 0) ⊎ (n ≡ hint_of_pair g c p) → (n ≡ 0) ⊎ (n ≡ hint_of_pair g' c p)
   pair_agrees p n h = ⊎_elim (λ z. inl z) (λ e. inr (e ∙ ap (λ l. hint_of (c.hash l)) (sym (keys p)))) h

@@ -35,7 +35,7 @@ module _ {K P : Type 0} (g : Setting K P) where
   )
 
   module _ (law : IsLawful g) where
-    -- where one list has a pair of a key and another none of q's, the keys differ
+    -- if one list has a pair of a key and another none of q's, the keys differ
     differs : (ps : List P) (k : K) (q : P) (p : P) → lookup g.same g.key ps k ≡ Some p → lookup g.same g.key ps (g.key q) ≡ None → g.same k (g.key q) ≡ false
     differs ps k q p e none =
         ⊎_elim
@@ -52,7 +52,7 @@ module _ {K P : Type 0} (g : Setting K P) where
         (λ (n : g.same k (g.key q) ≡ false). n)
         (cases_Bool (g.same k (g.key q)))
 
-    -- a key of the first list has no pair in what is added
+    -- a key of the first list has no pair among the added ones
     missing_none : (ps qs : List P) (k : K) (p : P) → lookup g.same g.key ps k ≡ Some p → lookup g.same g.key (missing_in g.same g.key ps qs) k ≡ None
     missing_none ps [] k p e = refl
     missing_none ps (q ∷ qs) k p e = by_found (missing_none ps qs k p e) (lookup g.same g.key ps (g.key q)) refl
@@ -64,7 +64,7 @@ module _ {K P : Type 0} (g : Setting K P) where
             ∙ (look_behind g q (missing_in g.same g.key ps qs) k (differs ps k q p e f) ∙ ih)
         by_found ih (Some r) f = ap (λ zs. lookup g.same g.key zs k) (missing_out ps q qs r f) ∙ ih
 
-    -- any other key has there what it has in the second list
+    -- any other key has there its pair of the second list
     missing_some : (ps qs : List P) (k : K) → lookup g.same g.key ps k ≡ None → lookup g.same g.key (missing_in g.same g.key ps qs) k ≡ lookup g.same g.key qs k
     missing_some ps [] k e = refl
     missing_some ps (q ∷ qs) k e = by_found (missing_some ps qs k e) (lookup g.same g.key ps (g.key q)) refl
@@ -89,7 +89,7 @@ module _ {K P : Type 0} (g : Setting K P) where
     pub joined_rest : (ps qs : List P) (k : K) → lookup g.same g.key ps k ≡ None → lookup g.same g.key (joined g.same g.key ps qs) k ≡ lookup g.same g.key qs k
     joined_rest ps qs k e = lookup_rest g ps (missing_in g.same g.key ps qs) k e ∙ missing_some ps qs k e
 
-    -- what is added has no key twice
+    -- no two of the added pairs have equal keys
     missing_apart : (ps qs : List P) → AreApart g.same g.key qs → AreApart g.same g.key (missing_in g.same g.key ps qs)
     missing_apart ps [] h = tt
     missing_apart ps (q ∷ qs) h = by_found (missing_apart ps qs h.1) (lookup g.same g.key ps (g.key q)) refl

@@ -1,4 +1,5 @@
--- What no allowed exchange undoes, so that a caller can still use what it has loaded earlier.
+-- The facts that no allowed exchange undoes, so that a caller can still use the ones that it has
+-- loaded earlier.
 use Rattle.std.proofs.Common.{◌≡◌, ◌⊎◌, inl, inr, ⊎_elim, ℕ, zero, suc, ◌<◌, ◌≤◌, Bool, true, false}
 use Rattle.std.proofs.Common.{cond, ◌==◌, List, [], ◌∷◌, refl, sym, ap, ◌∙◌, subst, arith, eqb-true}
 use Rattle.std.proofs.lemmas.Bool.{cases_lt, cases_Bool, cond-true, cond-false}
@@ -14,7 +15,7 @@ use Rattle.papaya_words_law.specs.Later.{Becomes, IsLater, IsLasting}
 use Rattle.papaya_words_law.proofs.Base.{done_stays}
 use Rattle.papaya_words_law.proofs.Slots.{slot_cases, same_right}
 
--- what a key may see next
+-- the next view of a key
 abbrev pub Sees : {P : Type 0} → View P → View P → Type 0
 Sees Free v = Unit {0}
 Sees Foreign v = v ≡ Foreign
@@ -36,7 +37,7 @@ foreign_sees (Leaving p) w h f = absurd cc
 foreign_sees (Gone p) w h f = absurd cc
 foreign_sees (Grave p) w h f = absurd cc
 
--- what is passed stays passed
+-- a word that is passed stays passed
 beyond_sees : {P : Type 0} → (v w : View P) → Sees v w → beyond v ≡ true → beyond w ≡ true
 beyond_sees Free w h f = absurd cc
 beyond_sees Foreign w h f = ap beyond h
@@ -68,7 +69,7 @@ module _ {K P : Type 0} (g : Setting K P) (law : IsLawful g) where
   becomes_itself (Copied p) = refl
   becomes_itself (Buried p) = refl
 
-  -- of a pair that gave way to one of an equal key
+  -- for a pair that was replaced by one of an equal key
   live_through : (p q : P) → g.key q ≡ g.key p → (w : Word P) → Becomes g (Live q) w → Becomes g (Live p) w
   live_through p q h Empty b = b
   live_through p q h Closed b = b
@@ -103,7 +104,7 @@ module _ {K P : Type 0} (g : Setting K P) (law : IsLawful g) where
         becomes_itself (s.slot t x);
   }
 
-  -- and later than what it is later than is
+  -- and `IsLater` is transitive
   pub later_through : (s s' s'' : State P) → IsLater g s s' → IsLater g s' s'' → IsLater g s s''
   later_through s s' s'' a b = record {
     was = λ t h. b.was t (a.was t h);
@@ -128,7 +129,7 @@ module _ {K P : Type 0} (g : Setting K P) (law : IsLawful g) where
         (slot_cases s t x w' u y);
   }
 
-  -- nothing of this asks that the words are as they have to be
+  -- this does not need the invariant of the words
   pub later_step : (s : State P) (e : Exchange P) → Allows g s e → IsLater g s (after s e)
   later_step s (Open t) may = let l = later_itself s in
       record { was = put_on s.was_root t; next = l.next; aborted = l.aborted; done = l.done; made = l.made; words = l.words }
@@ -163,12 +164,12 @@ module _ {K P : Type 0} (g : Setting K P) (law : IsLawful g) where
   later_step s (Take m) may = let l = later_itself s in
       record { was = l.was; next = l.next; aborted = l.aborted; done = l.done; made = let e = may.0 in omega arith; words = l.words }
 
-  -- the same of a list
+  -- the same for a list
   pub later_run : (es : List (Exchange P)) (s : State P) → AllAllowed g s es → IsLater g s (run es s)
   later_run [] s may = later_itself s
   later_run (e ∷ es) s may = later_through s (after s e) (run es (after s e)) (later_step s e may.0) (later_run es (after s e) may.1)
 
-  -- what a key sees of a word that becomes another
+  -- a key's view of a word that becomes another
   live_sees : (k : K) (p q : P) (v : View P) → g.same (g.key p) (g.key q) ≡ true → own v ≡ true → (b : Bool) → g.same k (g.key p) ≡ b
       → Sees (cond b (Here p) Foreign) (cond (g.same k (g.key q)) v Foreign)
   live_sees k p q v h o true e = ap own (cond-true (g.same k (g.key q)) v Foreign (sym (same_right g law k (g.key p) (g.key q) h) ∙ e)) ∙ o
@@ -178,12 +179,12 @@ module _ {K P : Type 0} (g : Setting K P) (law : IsLawful g) where
   at_live : (k : K) (p q : P) (v : View P) → g.same (g.key p) (g.key q) ≡ true → own v ≡ true → Sees (view g k (Live p)) (cond (g.same k (g.key q)) v Foreign)
   at_live k p q v h o = live_sees k p q v h o (g.same k (g.key p)) refl
 
-  -- a word that stays shows the same
+  -- a word that stays has the same view
   sees_itself : (v : View P) → (b : Bool) (w : View P) → w ≡ cond b v Foreign → own v ≡ true → ((u : View P) → u ≡ v → Sees v u) → Sees (cond b v Foreign) w
   sees_itself v true w e o self = self w e
   sees_itself v false w e o self = e
 
-  -- what a word may become is what a key may see
+  -- the view of a word changes as the word may
   pub sees_later : (k : K) (u w : Word P) → Becomes g u w → Sees (view g k u) (view g k w)
   sees_later k Empty w b = tt
   sees_later k Closed w b = ap (view g k) b
@@ -222,7 +223,7 @@ module _ {K P : Type 0} (g : Setting K P) (law : IsLawful g) where
     has_later : (k : K) (t : ℕ) → HasWord g.places (look g s k) t → HasWord g.places (look g s' k) t
     has_later k t h = (h.0, h.1, own_sees (look g s k t h.0) (look g s' k t h.0) (look_later k t h.0) h.2)
 
-    -- a walk stays
+    -- the table after some links stays
     walk_later : (n t : ℕ) → 0 < walk s.next n t → walk s'.next n t ≡ walk s.next n t
     walk_later zero t h = refl
     walk_later (suc n) t h =
@@ -231,7 +232,7 @@ module _ {K P : Type 0} (g : Setting K P) (law : IsLawful g) where
         absurd (omega arith)) (cases_lt 0 (walk s.next n t)) in
         ap s'.next (walk_later n t some) ∙ l.next (walk s.next n t) h
 
-    -- a walk that ends at a table is at tables before
+    -- if there is a table after some links, there are tables on the way
     some_before : (i n t : ℕ) → i ≤ n → 0 < walk s.next n t → 0 < walk s.next i t
     some_before i zero t le h = let e : i ≡ 0 = omega arith in subst (λ y. 0 < walk s.next y t) (sym e) h
     some_before i (suc n) t le h =
@@ -298,7 +299,7 @@ module _ {K P : Type 0} (g : Setting K P) (law : IsLawful g) where
     settled_later n (Copied p) w' b h = subst (IsSettled g s' n) (sym b) tt
     settled_later n (Buried p) w' b h = subst (IsSettled g s' n) (sym b) tt
 
-    -- a mark stood
+    -- a word that is Marked or Copied with p stays one of the two
     stood_later : (t x : ℕ) (p : P) → (s.slot t x ≡ Marked p) ⊎ (s.slot t x ≡ Copied p) → (s'.slot t x ≡ Marked p) ⊎ (s'.slot t x ≡ Copied p)
     stood_later t x p (inl e) = subst (λ w. Becomes g w (s'.slot t x)) e (l.words t x)
     stood_later t x p (inr e) = inr (subst (λ w. Becomes g w (s'.slot t x)) e (l.words t x))

@@ -1,8 +1,8 @@
--- The proof of the law. An exchange changes one word, and by that what a search for each class of
--- equal keys finds. The proof goes from one class to all words, and from one exchange to lists. In
--- the order in which it may be read:
+-- The proof of the law. An exchange changes one word, and by that the result of a search for each
+-- class of equal keys. The proof proceeds from one class to all words, and from one exchange to
+-- lists. In the order in which it may be read:
 
--- one word, one class of keys, the chain of tables, one slot, and what both modes keep
+-- one word, one class of keys, the chain of tables, one slot, and the invariant of both modes
 pub mod Views
 pub mod Class
 pub mod Chain
@@ -11,7 +11,7 @@ pub mod Base
 -- each exchange, without blocking and with it
 pub mod Incremental
 pub mod Blocking
--- what lasts, and what was at a moment
+-- facts that last, and facts at one point
 pub mod Later
 pub mod Moments
 pub mod Readers
@@ -20,7 +20,7 @@ pub mod Burials
 pub mod Apart
 pub mod OneMap
 pub mod Unique
--- what machines use: going on, walks, copying
+-- facts for machines: continuing a search, iterations, copying
 pub mod Onward
 pub mod Turns
 pub mod Walks

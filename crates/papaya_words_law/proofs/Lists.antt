@@ -12,7 +12,7 @@ abbrev pub Holds : {P : Type 0} → Word P → P → Type 0
 Holds w p = (w ≡ Live p) ⊎ (w ≡ Marked p)
 
 module _ {K P : Type 0} (g : Setting K P) where
-  -- what is found in a list is found in a longer one
+  -- a pair that is found in a list is found in a longer one
   pub lookup_first : (a b : List P) (k : K) (p : P) → lookup g.same g.key a k ≡ Some p → lookup g.same g.key (a ++ b) k ≡ Some p
   lookup_first [] b k p e = absurd cc
   lookup_first (q ∷ a) b k p e =
@@ -23,7 +23,7 @@ module _ {K P : Type 0} (g : Setting K P) where
       ∙ lookup_first a b k p (sym (cond-false (g.same k (g.key q)) (Some q) (lookup g.same g.key a k) n) ∙ e))
       (cases_Bool (g.same k (g.key q)))
 
-  -- where nothing is found, it is looked up in the rest
+  -- if nothing is found, it is looked up in the rest
   pub lookup_rest : (a b : List P) (k : K) → lookup g.same g.key a k ≡ None → lookup g.same g.key (a ++ b) k ≡ lookup g.same g.key b k
   lookup_rest [] b k e = refl
   lookup_rest (q ∷ a) b k e =
@@ -42,12 +42,12 @@ module _ {K P : Type 0} (g : Setting K P) where
       (λ (n : g.same k (g.key q) ≡ false). absurd (let s = cond-false (g.same k (g.key q)) (Some q) None n in cc (s, e)))
       (cases_Bool (g.same k (g.key q)))
 
-  -- and where it isn't the key's
+  -- and if it isn't the key's
   one_none : (q : P) (k : K) → lookup g.same g.key (q ∷ []) k ≡ None → g.same k (g.key q) ≡ false
   one_none q k e = ⊎_elim (λ (y : g.same k (g.key q) ≡ true). absurd (let s = cond-true (g.same k (g.key q)) (Some q) None y in cc (s, e)))
       (λ (n : g.same k (g.key q) ≡ false). n) (cases_Bool (g.same k (g.key q)))
 
-  -- what is found in a word's list stands in it
+  -- a pair that is found in a word's list is held by the word
   word_found : (w : Word P) (k : K) (p : P) → lookup g.same g.key (pairs_of_word w) k ≡ Some p → Holds w p × (g.same k (g.key p) ≡ true)
   word_found Empty k p e = absurd cc
   word_found Closed k p e = absurd cc
@@ -56,12 +56,12 @@ module _ {K P : Type 0} (g : Setting K P) where
   word_found (Copied q) k p e = absurd cc
   word_found (Buried q) k p e = absurd cc
 
-  -- where nothing is found, the word's pair has another key
+  -- if nothing is found, the word's pair has another key
   word_none : (w : Word P) (k : K) (p : P) → lookup g.same g.key (pairs_of_word w) k ≡ None → Holds w p → g.same k (g.key p) ≡ false
   word_none w k p e (inl h) = one_none p k (subst (λ v. lookup g.same g.key (pairs_of_word v) k ≡ None) h e)
   word_none w k p e (inr h) = one_none p k (subst (λ v. lookup g.same g.key (pairs_of_word v) k ≡ None) h e)
 
-  -- what is found in a table stands in one of its slots
+  -- a pair that is found in a table is in one of its slots
   pub table_found : (slot : ℕ → Word P) (n : ℕ) (k : K) (p : P) → lookup g.same g.key (pairs_in slot n) k ≡ Some p → (x : ℕ) × (x < n)
       × Holds (slot x) p × (g.same k (g.key p) ≡ true)
   table_found slot zero k p e = absurd cc
@@ -74,7 +74,7 @@ module _ {K P : Type 0} (g : Setting K P) where
           let is : q ≡ p = let s = lookup_first (pairs_in slot n) (pairs_of_word (slot n)) k q f in cc (s, e) in
           let r = ih (f ∙ ap Some is) in (r.0, omega (arith, r.1), r.2, r.3)
 
-  -- where nothing is found, no slot has a pair of the key
+  -- if nothing is found, no slot has a pair of the key
   pub table_none : (slot : ℕ → Word P) (n : ℕ) (k : K) → lookup g.same g.key (pairs_in slot n) k ≡ None → (x : ℕ) → x < n → (p : P) → Holds (slot x) p
       → g.same k (g.key p) ≡ false
   table_none slot zero k e x lt p h = absurd (omega (arith, lt))
@@ -102,7 +102,7 @@ module _ {K P : Type 0} (g : Setting K P) where
       let first : pairs_in slot' n ≡ pairs_in slot n = table_same slot slot' n (λ x lt. all x (omega (arith, lt))) in
       ap (λ a. a ++ pairs_of_word (slot' n)) first ∙ ap (λ w. pairs_in slot n ++ pairs_of_word w) (all n (omega arith))
 
-  -- where one slot's word changes, what it held is taken out, and what it holds is put in
+  -- if one slot's word changes, its old pair is taken out, and its new one is put in
   pub table_change : (slot slot' : ℕ → Word P) (x n : ℕ) → ((y : ℕ) → (y ≡ x → ⊥) → slot' y ≡ slot y) → x < n
       → length (pairs_in slot' n) + length (pairs_of_word (slot x)) ≡ length (pairs_in slot n) + length (pairs_of_word (slot' x))
   table_change slot slot' x zero other lt = absurd (omega (arith, lt))
@@ -142,7 +142,7 @@ module _ {K P : Type 0} (g : Setting K P) where
       differ = ⊎_elim (λ (y : g.same (g.key p) (g.key q) ≡ true). absurd (let b = back (g.key p) (g.key q) y in let o = other in cc (b, o)))
           (λ (n : g.same (g.key p) (g.key q) ≡ false). n) (cases_Bool (g.same (g.key p) (g.key q)))
 
-  -- no key stands twice in a table where no two slots have pairs of one key
+  -- no two pairs of a table have equal keys, if no two slots have pairs of one key
   pub table_apart : (back : (k l : K) → g.same k l ≡ true → g.same l k ≡ true) (slot : ℕ → Word P)
       → ((x y : ℕ) (p q : P) → Holds (slot x) p → Holds (slot y) q → g.same (g.key q) (g.key p) ≡ true → x ≡ y) → (n : ℕ)
       → AreApart g.same g.key (pairs_in slot n)

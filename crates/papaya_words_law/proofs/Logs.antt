@@ -1,5 +1,5 @@
--- The setting that a log gives: later entries change nothing about the tables that earlier entries
--- put on the chain.
+-- The setting that is given by a log: later entries change nothing about the tables that earlier
+-- entries put on the chain.
 use Rattle.std.proofs.Common.{◌≡◌, ◌⊎◌, inl, inr, ⊎_elim, ℕ, zero, suc, ◌<◌, ◌==◌, true, None, List, [], ◌∷◌, ◌++◌, refl, sym, ap, ◌∙◌, subst, arith, eq-eqb}
 use Rattle.std.proofs.lemmas.Bool.{cases_Bool, cond-true, cond-false, or_cases, or_left, or_right}
 use Rattle.papaya_words_law.specs.Exchange.{Exchange, Open, Claim, Replace, Bury, Link, Mark, Close}
@@ -40,7 +40,7 @@ pub on_comes : {P : Type 0} (s : State P) (t : ℕ) → IsOn s.first s.next t �
 on_comes s t (some, (zero, e)) = inl e
 on_comes s t (some, (suc k, e)) = inr (walk s.next k s.first, e)
 
--- a table that comes in a state was brought by an entry, or came before
+-- a table that has come in a state came by an entry, or had come before
 brought : {P : Type 0} (es : List (Entry P)) (s : State P) (t : ℕ) → Comes (run (exchanges es) s) t → (is_brought es t ≡ true) ⊎ Comes s t
 brought [] s t c = inr c
 brought (e ∷ es) s t c =
@@ -54,11 +54,11 @@ none_at_start : (P : Type 0) (t : ℕ) → 0 < t → Comes {P = P} start t → �
 none_at_start P t some (inl e) = omega arith
 none_at_start P t some (inr (u, e)) = omega arith
 
--- each table of the chain was brought by an entry
+-- each table of the chain came by an entry
 on_brought : {P : Type 0} (es : List (Entry P)) (t : ℕ) → IsOn (run (exchanges es) start).first (run (exchanges es) start).next t → is_brought es t ≡ true
 on_brought {P = P} es t on = ⊎_elim (λ h. h) (λ c. absurd (none_at_start P t on.0 c)) (brought es start t (on_comes (run (exchanges es) start) t on))
 
--- what an entry says of a table, later ones don't change
+-- a later entry does not change the size that an earlier one gives a table
 size_stable : {P : Type 0} (es fs : List (Entry P)) (t : ℕ) → is_brought es t ≡ true → size_in (es ++ fs) t ≡ size_in es t
 size_stable [] fs t h = absurd cc
 size_stable (e ∷ es) fs t h =
@@ -69,7 +69,7 @@ size_stable (e ∷ es) fs t h =
     ∙ sym (cond-false (brings e.by t) e.size (size_in es t) b)))
     (cases_Bool (brings e.by t))
 
--- the same of its number of places
+-- the same for its number of places
 places_stay : {P : Type 0} (es fs : List (Entry P)) (t : ℕ) → is_brought es t ≡ true → places_in (es ++ fs) t ≡ places_in es t
 places_stay [] fs t h = absurd cc
 places_stay (e ∷ es) fs t h =
@@ -80,7 +80,7 @@ places_stay (e ∷ es) fs t h =
     ∙ sym (cond-false (brings e.by t) e.places (places_in es t) b)))
     (cases_Bool (brings e.by t))
 
--- the same of its number of words for chunks
+-- the same for its number of words for chunks
 chunks_stay : {P : Type 0} (es fs : List (Entry P)) (t : ℕ) → is_brought es t ≡ true → chunks_in (es ++ fs) t ≡ chunks_in es t
 chunks_stay [] fs t h = absurd cc
 chunks_stay (e ∷ es) fs t h =
@@ -97,7 +97,7 @@ exchanges-append [] fs = refl
 exchanges-append (e ∷ es) fs = ap (λ l. e.by ∷ l) (exchanges-append es fs)
 
 module _ {K P : Type 0} (h : Plan K P) where
-  -- settings of one plan agree where their sizes and numbers of places do
+  -- settings of one plan agree if their sizes and numbers of places do
   pub planned_agrees : (On : ℕ → Type 0) (size size' places places' chunks chunks' : ℕ → ℕ) → ((t : ℕ) → On t → size' t ≡ size t)
       → ((t : ℕ) → On t → places' t ≡ places t) → ((t : ℕ) → On t → chunks' t ≡ chunks t)
       → Agrees On (planned h size places chunks) (planned h size' places' chunks')
@@ -115,7 +115,7 @@ module _ {K P : Type 0} (h : Plan K P) where
         place = λ k t j on. ap (λ n. h.probe k n j) (a t on);
       }
 
-  -- and are lawful where each table has a slot and a place
+  -- and are lawful if each table has a slot and a place
   pub planned_lawful : IsLawfulPlan h → (size places chunks : ℕ → ℕ) → ((t : ℕ) → 0 < size t) → ((t : ℕ) → 0 < places t)
       → IsLawful (planned h size places chunks)
   planned_lawful law size places chunks a b = record {
@@ -150,7 +150,8 @@ module _ {K P : Type 0} (h : Plan K P) where
       (places_in (es ++ fs)) (chunks_in es) (chunks_in (es ++ fs))
       (λ t on. size_stable es fs t (on_brought es t on)) (λ t on. places_stay es fs t (on_brought es t on)) (λ t on. chunks_stay es fs t (on_brought es t on))
 
-  -- A log grows by an entry that is allowed under the setting with its own table: the longer log is allowed as a whole.
+  -- A log grows by an entry that is allowed under the setting with its own table: the longer log is
+  -- allowed as a whole.
   pub log_grows : (es : List (Entry P)) (e : Entry P) → IsLawful (setting_in h es) → AllAllowed (setting_in h es) start (exchanges es)
       → Allows (setting_in h (es ++ e ∷ [])) (run (exchanges es) start) e.by
       → AllAllowed (setting_in h (es ++ e ∷ [])) start (exchanges (es ++ e ∷ []))

@@ -1,4 +1,4 @@
--- Moments of a list of exchanges, and what a slow caller finds with blocking.
+-- Points in a list of exchanges, and the result of a slow caller's search with blocking.
 use Rattle.std.proofs.Common.{◌≡◌, ◌⊎◌, inl, inr, ⊎_elim, ℕ, ◌<◌, true, false, Option, List, [], ◌∷◌, ◌++◌, refl, sym, ap, ◌∙◌, subst, arith}
 use Rattle.papaya_words_law.specs.Exchange.{Word, Empty, Closed, Live, Marked, Copied, Buried, Setting}
 use Rattle.papaya_words_law.specs.Exchange.{State, Exchange, Open, Claim, Replace, Bury, Link, Mark}
@@ -39,7 +39,8 @@ module _ {K P : Type 0} (g : Setting K P) where
   allowed_append [] fs s a b = b
   allowed_append (e ∷ es) fs s a b = (a.0, allowed_append es fs (after s e) a.1 b)
 
-  -- a moment of fs, at which t is the root and at which each key sees in it what it sees at the end
+  -- a point of fs at which t is the root, and at which each key has the same view of it as at the
+  -- end
   pub record IsRootMoment (s : State P) (t : ℕ) (fs : List (Exchange P)) : Type 0 where
     pub so_far : List (Exchange P)
     pub rest : List (Exchange P)
@@ -48,7 +49,7 @@ module _ {K P : Type 0} (g : Setting K P) where
     pub sees : (k : K) (j : ℕ) → j < g.places t → look g (run fs s) k t j ≡ look g (run so_far s) k t j
 
   module _ (law : IsLawful g) (blocks : g.blocking ≡ true) where
-    -- where the root changes, its words stand for good
+    -- when the root changes, no word of the old one is Empty or Live
     promoted : (s : State P) (m : K → Option P) → IsBlockingState g s m → (t n : ℕ) → MayPromote g s t n → (x : ℕ) → x < g.size t → plain (s.slot t x) ≡ false
     promoted s m holds t n may x lt =
         let was : s.was_root t ≡ true = subst (λ y. s.was_root y ≡ true) may.root (holds.root_was (subst (λ y. 0 < y) (sym may.root) may.made)) in
@@ -59,7 +60,7 @@ module _ {K P : Type 0} (g : Setting K P) where
         subst (λ y. plain (s.slot y x) ≡ false) may.root
         (settled_not_plain g s n (s.slot s.root x) (d.settled x whole (subst (λ y. x < g.size y) (sym may.root) lt)))
 
-    -- a word that no copier has to come to stands
+    -- a word that is neither Empty nor Live stays as it is, unless it becomes Copied
     stands : (u w : Word P) → plain u ≡ false → ((p : P) → w ≡ Copied p → ⊥) → Becomes g u w → w ≡ u
     stands Empty w h c b = absurd cc
     stands Closed w h c b = b
@@ -84,7 +85,7 @@ module _ {K P : Type 0} (g : Setting K P) where
     keeps_root s t is some (Abort n) may = inl is
     keeps_root s t is some (Take n) may = inl is
 
-    -- a root of the past was seen so at a moment when it was the root
+    -- a table that was the root had the same views at a point when it was the root
     pub root_moment : (fs : List (Exchange P)) (s : State P) (m : K → Option P) → IsBlockingState g s m → AllAllowed g s fs → (t : ℕ) → s.root ≡ t
         → 0 < t → IsRootMoment s t fs
     root_moment [] s m holds may t is some = record { so_far = []; rest = []; is = refl; root = is; sees = λ k j lt. refl }

@@ -1,5 +1,5 @@
--- In both modes: the law of one step, the law of lists from the first exchange on, and what lasts
--- and is found after more exchanges.
+-- In both modes: the law of one step, the law of lists from the first exchange on, and the facts
+-- that last, or that a search finds after more exchanges.
 use Rattle.std.proofs.Common.{◌≡◌, ◌⊎◌, inl, inr, ⊎_elim, ℕ, ◌<◌, true, false, Option, None, Some, List, [], ◌∷◌, ◌++◌, refl, sym, subst, arith}
 use Rattle.std.proofs.lemmas.Bool.{cases_Bool}
 use Rattle.papaya_words_law.specs.Exchange.{Setting, State, Exchange, after, run, start}
@@ -20,7 +20,7 @@ use Rattle.papaya_words_law.proofs.Readers.{slow_found, slow_empty, slow_over}
 use Rattle.papaya_words_law.proofs.Apart.{apart_incremental, apart_blocking}
 
 module _ {K P : Type 0} (g : Setting K P) (s : State P) (m : K → Option P) (keeps : IsKeeping g s m) where
-  -- what is kept in a known mode
+  -- the invariant in a known mode
   pub incremental_state : g.blocking ≡ false → IsIncrementalState g s m
   incremental_state inc = ⊎_elim (λ h. h.1) (λ h. absurd (let b = h.0 in cc (b, inc))) keeps
 
@@ -65,7 +65,7 @@ module _ {K P : Type 0} (g : Setting K P) (law : IsLawful g) where
   step_keeps s m (inl h) e may = let r = step_incremental g law h.0 s m h.1 e may in (r.0, inl (h.0, r.1))
   step_keeps s m (inr h) e may = let r = step_blocking g law h.0 s m h.1 e may in (r.0, inr (h.0, r.1))
 
-  -- what is kept is what the words mean
+  -- the invariant gives the meaning of the words
   pub means : (s : State P) (m : K → Option P) → IsKeeping g s m → (k : K) → IsMeaning g s k (m k)
   means s m (inl h) k = meaning_incremental g law h.0 s m h.1 k
   means s m (inr h) k = meaning_blocking g law h.0 s m h.1 k
@@ -80,7 +80,7 @@ module _ {K P : Type 0} (g : Setting K P) (law : IsLawful g) where
   run_keeps [] s m keeps may = keeps
   run_keeps (e ∷ es) s m keeps may = run_keeps es (after s e) (map_after g m e) (step_keeps s m keeps e may.0).1 may.1
 
-  -- each of its changes takes out what was there
+  -- each of its changes takes out the pair that was there
   pub run_legal : (es : List (Exchange P)) (s : State P) (m : K → Option P) → IsKeeping g s m → AllAllowed g s es → AllLegal g m es
   run_legal [] s m keeps may = tt
   run_legal (e ∷ es) s m keeps may = let r = step_keeps s m keeps e may.0 in (r.0, run_legal es (after s e) (map_after g m e) r.1 may.1)
@@ -94,7 +94,7 @@ module _ {K P : Type 0} (g : Setting K P) (law : IsLawful g) where
     pub means_map : (k : K) → IsMeaning g (run es start) k (map_left g es k)
     means_map = means (run es start) (map_left g es) keeping
 
-    -- each change takes out what was there
+    -- each change takes out the pair that was there
     pub legal_changes : AllLegal g (λ k. None) es
     legal_changes = run_legal es start (λ k. None) start_keeps may
 
@@ -106,7 +106,7 @@ module _ {K P : Type 0} (g : Setting K P) (law : IsLawful g) where
   pub root_is_reached : (es : List (Exchange P)) → AllAllowed g start es → (k : K) → 0 < (run es start).root → IsReached g (run es start) k (run es start).root
   root_is_reached es may = root_reached g (run es start) (map_left g es) (keeping es may)
 
-  -- a later moment
+  -- a later point
   module _ (es fs : List (Exchange P)) (may : AllAllowed g start (es ++ fs)) where
     -- the state after more exchanges is later
     pub later : IsLater g (run es start) (run (es ++ fs) start)
@@ -118,7 +118,7 @@ module _ {K P : Type 0} (g : Setting K P) (law : IsLawful g) where
 
     -- a reader that took t for the root after es, and now finds a word in it
     module _ (blocks : g.blocking ≡ true) (t : ℕ) (root : (run es start).root ≡ t) (some : 0 < t) (k : K) where
-      -- what was kept after es
+      -- the invariant after es
       holds : IsBlockingState g (run es start) (map_left g es)
       holds = blocking_state g (run es start) (map_left g es) (keeping es (allowed_first g es fs start may)) blocks
 

@@ -1,4 +1,4 @@
--- If a search has met a copier's work, it has a next table to go on to; if there is none, the map
+-- If a search has met a copier's work, it can continue in a next table; if there is none, the map
 -- has no pair.
 use Rattle.std.proofs.Common.{◌≡◌, ◌⊎◌, inl, inr, ⊎_elim, ℕ, suc, ◌<◌, ◌≤◌, true, false, Option, None, sym, ap, subst, arith}
 use Rattle.std.proofs.lemmas.Bool.{cases_lt}
@@ -9,7 +9,7 @@ use Rattle.papaya_words_law.specs.Invariant.{shut, IsKeeping}
 use Rattle.papaya_words_law.proofs.Slots.{view_leaving, view_gone}
 use Rattle.papaya_words_law.proofs.OneMap.{keeping_sound, means}
 
--- Without blocking: where a search is past a reached table, the next one is reached.
+-- Without blocking: if a search is past a reached table, the next one is reached.
 pub next_reached : {K P : Type 0} (g : Setting K P) (s : State P) → g.blocking ≡ false → (k : K) (t : ℕ) → IsReached g s k t
     → IsPassed g.places (look g s k) t → 0 < s.next t → IsReached g s k (s.next t)
 next_reached g s inc k t r pass some = record {

@@ -1,5 +1,5 @@
--- With blocking, what a reader returns was in the map at some moment since it loaded the root.
--- (Without blocking `IsMeaning` says this of the last load itself.)
+-- With blocking, the result of a reader was in the map at some point since it loaded the root.
+-- (Without blocking `IsMeaning` says this for the last load itself.)
 use Rattle.std.proofs.Common.{◌≡◌, ◌⊎◌, inl, inr, ⊎_elim, ℕ, ◌<◌, true, Option, None, Some, List, refl, sym, ap, ◌∙◌, subst, arith}
 use Rattle.papaya_words_law.specs.Exchange.{Setting, State, Exchange, run}
 use Rattle.papaya_words_law.specs.View.{Free, Here, Leaving, beyond, look, IsPassed, IsReached}
@@ -11,19 +11,19 @@ use Rattle.papaya_words_law.proofs.Moments.{IsRootMoment, root_moment, allowed_f
 
 module _ {K P : Type 0} (g : Setting K P) (law : IsLawful g) (blocks : g.blocking ≡ true) (s : State P) (m : K → Option P)
     (holds : IsBlockingState g s m) (t : ℕ) (root : s.root ≡ t) (some : 0 < t) (fs : List (Exchange P)) (may : AllAllowed g s fs) (k : K) where
-  -- a moment when t was the root and was seen so
+  -- a point when t was the root and had these views
   pub moment : IsRootMoment g s t fs
   moment = root_moment g law blocks fs s m holds may t root some
 
-  -- what was kept then
+  -- the invariant at that point
   then_good : IsBlockingState g (run moment.so_far s) (map_of g m moment.so_far)
   then_good = run_blocking g law blocks moment.so_far s m holds (allowed_first g moment.so_far moment.rest s (subst (AllAllowed g s) (sym moment.is) may))
 
-  -- what the words meant then
+  -- the meaning of the words at that point
   then_means : IsMeaning g (run moment.so_far s) k (map_of g m moment.so_far k)
   then_means = meaning_blocking g law blocks (run moment.so_far s) (map_of g m moment.so_far) then_good k
 
-  -- t was reached then
+  -- t was reached at that point
   then_reached : IsReached g (run moment.so_far s) k t
   then_reached = record {
     from = t;
@@ -35,7 +35,7 @@ module _ {K P : Type 0} (g : Setting K P) (law : IsLawful g) (blocks : g.blockin
     was = subst (λ y. (run moment.so_far s).was_root y ≡ true) moment.root (then_good.root_was (subst (λ y. 0 < y) (sym moment.root) some));
   }
 
-  -- what the map had then it had at a moment of fs
+  -- the map's pair at that point is its pair at a point of fs
   at_moment : (value : Option P) → map_of g m moment.so_far k ≡ value → IsAtMoment g m fs k value
   at_moment value e = record { so_far = moment.so_far; rest = moment.rest; is = moment.is; value_is = e }
 

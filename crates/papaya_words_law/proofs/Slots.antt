@@ -1,4 +1,4 @@
--- One slot's word changes: what a search for each class of keys finds there.
+-- One slot's word changes: the view of a search for each class of keys there.
 use Rattle.std.proofs.Common.{◌≡◌, ◌⊎◌, inl, inr, ⊎_elim, ℕ, true, false, cond, ◌==◌, ◌&&◌, refl, sym, ap, ◌∙◌, eqb-true, eq-eqb}
 use Rattle.std.proofs.lemmas.Bool.{and_parts, and_from, cond-true, cond-false, cases_Bool}
 use Rattle.papaya_words_law.specs.Exchange.{Word, Empty, Closed, Live, Marked, Copied, Buried, Setting, State, slot_put}
@@ -34,7 +34,7 @@ pub put_elsewhere : {P : Type 0} → (s : State P) (t x : ℕ) (w : Word P) (u y
 put_elsewhere s t x w u y other = ⊎_elim (λ h. h.0) (λ h. absurd (other (sym h.0, sym h.1))) (slot_cases s t x w u y)
 
 module _ {K P : Type 0} (g : Setting K P) where
-  -- a slot's change is a turn for each key
+  -- a slot's change is a change of view for each key
   pub slot_turn : (s : State P) (k : K) (t x : ℕ) (w w' : Word P) → s.slot t x ≡ w
       → IsTurn (g.place k) (look g s k) (look g (slot_put s t x w') k) t x (view g k w) (view g k w')
   slot_turn s k t x w w' old = record {
@@ -45,7 +45,7 @@ module _ {K P : Type 0} (g : Setting K P) where
         (slot_cases s t x w' u (g.place k u j));
   }
 
-  -- what a word is, by what a key sees of it
+  -- a Marked word, by a key's view of it
   pub view_leaving : (k : K) (w : Word P) (p : P) → view g k w ≡ Leaving p → (w ≡ Marked p) × (g.same k (g.key p) ≡ true)
   view_leaving k Empty p e = absurd cc
   view_leaving k Closed p e = absurd cc
@@ -59,7 +59,7 @@ module _ {K P : Type 0} (g : Setting K P) where
   view_leaving k (Buried q) p e = ⊎_elim (λ h. let c = cond-true (g.same k (g.key q)) (Grave q) Foreign h in absurd (cc (c, e)))
       (λ h. let c = cond-false (g.same k (g.key q)) (Grave q) Foreign h in absurd (cc (c, e))) (cases_Bool (g.same k (g.key q)))
 
-  -- of a Copied one
+  -- a Copied one
   pub view_gone : (k : K) (w : Word P) (p : P) → view g k w ≡ Gone p → (w ≡ Copied p) × (g.same k (g.key p) ≡ true)
   view_gone k Empty p e = absurd cc
   view_gone k Closed p e = absurd cc
@@ -73,7 +73,7 @@ module _ {K P : Type 0} (g : Setting K P) where
   view_gone k (Buried q) p e = ⊎_elim (λ h. let c = cond-true (g.same k (g.key q)) (Grave q) Foreign h in absurd (cc (c, e)))
       (λ h. let c = cond-false (g.same k (g.key q)) (Grave q) Foreign h in absurd (cc (c, e))) (cases_Bool (g.same k (g.key q)))
 
-  -- of a Buried word
+  -- a Buried one
   pub view_grave : (k : K) (w : Word P) (p : P) → view g k w ≡ Grave p → (w ≡ Buried p) × (g.same k (g.key p) ≡ true)
   view_grave k Empty p e = absurd cc
   view_grave k Closed p e = absurd cc
@@ -87,7 +87,7 @@ module _ {K P : Type 0} (g : Setting K P) where
       (ap Buried same, ap (λ y. g.same k (g.key y)) (sym same) ∙ h))
       (λ h. let c = cond-false (g.same k (g.key q)) (Grave q) Foreign h in absurd (cc (c, e))) (cases_Bool (g.same k (g.key q)))
 
-  -- of a Live one
+  -- a Live one
   pub view_here : (k : K) (w : Word P) (p : P) → view g k w ≡ Here p → w ≡ Live p
   view_here k Empty p e = absurd cc
   view_here k Closed p e = absurd cc
@@ -113,7 +113,7 @@ module _ {K P : Type 0} (g : Setting K P) where
         (cases_Bool (g.same l m)))
         (cases_Bool (g.same k m))
 
-    -- a word tells equal keys the same
+    -- equal keys have the same view of a word
     view_same : (k l : K) → g.same k l ≡ true → (w : Word P) → view g k w ≡ view g l w
     view_same k l h Empty = refl
     view_same k l h Closed = refl
@@ -122,7 +122,7 @@ module _ {K P : Type 0} (g : Setting K P) where
     view_same k l h (Copied p) = ap (λ b. cond b (Gone p) Foreign) (same_test k l (g.key p) h)
     view_same k l h (Buried p) = ap (λ b. cond b (Grave p) Foreign) (same_test k l (g.key p) h)
 
-    -- equal keys see the same
+    -- equal keys have the same views
     pub look_same : (s : State P) (k l : K) → g.same k l ≡ true → look g s k ≡ look g s l
     look_same s k l h = fun_ext (λ t. fun_ext (λ j. ap (λ x. view g k (s.slot t x)) (law.places_same k l h t j) ∙ view_same k l h (s.slot t (g.place l t j))))
 

@@ -100,7 +100,8 @@ module _ {K P : Type 0} (g : Setting K P) where
   by_finish s t x (Abort n) may old new = absurd (cc (old, new))
   by_finish s t x (Take n) may old new = absurd (cc (old, new))
 
-  -- a slot whose word of key k was not Buried, and now is: at a moment since then the map had none
+  -- a slot whose word of key k was not Buried, and now is: at some point since then the map had
+  -- none
   pub none_since : (law : IsLawful g) (m : K → Option P) (k : K) (t x : ℕ) (fs : List (Exchange P)) (s : State P) → AllAllowed g s fs
       → buried (s.slot t x) ≡ false → (p : P) → (run fs s).slot t x ≡ Buried p → g.same k (g.key p) ≡ true → IsAtMoment g m fs k None
   none_since law m k t x fs s may old p now same =

@@ -43,7 +43,7 @@ run_bounded [] s h = h
 run_bounded (e ∷ es) s h = run_bounded es (after s e) (step_bounded s e h)
 
 module _ {K P : Type 0} (g : Setting K P) (s : State P) (k : K) (v w : Option P) (mv : IsMeaning g s k v) (mw : IsMeaning g s k w) where
-  -- the first place that doesn't lead on, or none
+  -- the first place at which a search does not continue, or none
   cursor : (t n : ℕ) → ((j : ℕ) × (j < n) × ((i : ℕ) → i < j → beyond (look g s k t i) ≡ true) × (beyond (look g s k t j) ≡ false))
       ⊎ ((j : ℕ) → j < n → beyond (look g s k t j) ≡ true)
   cursor t zero = inr (λ j lt. absurd (omega arith))
@@ -77,7 +77,7 @@ module _ {K P : Type 0} (g : Setting K P) (s : State P) (k : K) (v w : Option P)
     at_end : (t : ℕ) → IsReached g s k t → IsPassed g.places (look g s k) t → g.blocking ≡ false → s.next t ≡ 0 → v ≡ w
     at_end t r pass b z = mv.over t r pass (inr (b, z)) ∙ sym (mw.over t r pass (inr (b, z)))
 
-    -- in a table and behind it, by what holds behind it
+    -- in a table and behind it, if the values behind it are equal
     on_from : (t : ℕ) → IsReached g s k t → (g.blocking ≡ true → s.root ≡ t) → ((u : ℕ) → t < u → IsReached g s k u → g.blocking ≡ false → v ≡ w) → v ≡ w
     on_from t r at ih =
         ⊎_elim

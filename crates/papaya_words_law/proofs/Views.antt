@@ -1,4 +1,4 @@
--- Facts about what one word tells a search.
+-- Facts about the view of one word by a search.
 use Rattle.std.proofs.Common.{◌≡◌, Bool, true, false, refl}
 use Rattle.papaya_words_law.specs.View.{View, Free, Foreign, Here, Leaving, Gone, Grave, own, active, held, beyond, foreign}
 
@@ -29,7 +29,7 @@ active-own (Leaving p) h = refl
 active-own (Gone p) h = refl
 active-own (Grave p) h = refl
 
--- what a search passes isn't active
+-- a word that a search passes isn't active
 pub beyond_not_active : {P : Type 0} → (v : View P) → beyond v ≡ true → active v ≡ true → ⊥
 beyond_not_active Free h a = cc
 beyond_not_active Foreign h a = cc
@@ -56,7 +56,7 @@ foreign-beyond (Leaving p) h = h
 foreign-beyond (Gone p) h = h
 foreign-beyond (Grave p) h = refl
 
--- what is passed may not change
+-- a word that a search passes no longer changes
 pub beyond_not_unfinished : {P : Type 0} → (v : View P) → beyond v ≡ true → unfinished v ≡ true → ⊥
 beyond_not_unfinished Free h a = cc
 beyond_not_unfinished Foreign h a = cc

@@ -1,4 +1,4 @@
--- What an iteration over the slots of a root meets.
+-- The words that an iteration over the slots of a root meets.
 use Rattle.std.proofs.Common.{◌≡◌, ◌⊎◌, inl, inr, ⊎_elim, ℕ, ◌<◌, true, false, Option, None, Some, List, ◌∷◌, refl, sym, ap, ◌∙◌, subst, arith}
 use Rattle.std.proofs.lemmas.Bool.{cases_order, cases_Bool, cond-true}
 use Rattle.papaya_words_law.specs.Exchange.{Word, Empty, Closed, Live, Marked, Copied, Buried, Setting, State, Exchange, Finish, run}
@@ -84,7 +84,7 @@ module _ {K P : Type 0} (g : Setting K P) (law : IsLawful g) where
   stood_buried (Copied q) p h b = absurd cc
   stood_buried (Buried q) p h b = sym b
 
-  -- Buried where it wasn't: at a moment since the map had none
+  -- Buried, but not before: at some point since the map had none
   pub buried_since : (m : K → Option P) (k : K) (t j : ℕ) (p : P) (fs : List (Exchange P)) (s : State P) → AllAllowed g s fs
       → (look g s k t j ≡ Grave p → ⊥) → look g (run fs s) k t j ≡ Grave p → IsAtMoment g m fs k None
   buried_since m k t j p fs s may old now =
@@ -99,7 +99,8 @@ module _ {K P : Type 0} (g : Setting K P) (law : IsLawful g) where
       (cases_Bool (buried (s.slot t x))) in
       none_since g law m k t x fs s may not_yet p w.0 w.1
 
-  -- where a slot had the key's pair, its word shows a pair of the key still, or the map had none at a moment since
+  -- if a slot had the key's pair, its word is still an active one of the key, or the map had none
+  -- at some point since
   pub still_there : (m : K → Option P) (k : K) (t j : ℕ) (fs : List (Exchange P)) (s : State P) → AllAllowed g s fs → held (look g s k t j) ≡ true
       → (active (look g (run fs s) k t j) ≡ true) ⊎ IsAtMoment g m fs k None
   still_there m k t j fs s may h = by_view (look g (run fs s) k t j) refl
@@ -115,7 +116,7 @@ module _ {K P : Type 0} (g : Setting K P) (law : IsLawful g) where
       by_view (Gone p) e o = inl refl
       by_view (Grave p) e o = inr (buried_since m k t j p fs s may (λ q. cc (q, h)) e)
 
-  -- a Copied word where it wasn't: its pair was the map's at a moment since
+  -- Copied, but not before: its pair was the map's at some point since
   pub copied_since : g.blocking ≡ false → (s : State P) (m : K → Option P) → IsIncrementalState g s m
       → (k : K) (t j : ℕ) (p : P) (fs : List (Exchange P)) → AllAllowed g s fs → IsReached g s k t → j < g.places t
       → (look g s k t j ≡ Gone p → ⊥) → look g (run fs s) k t j ≡ Gone p → IsAtMoment g m fs k (Some p)

@@ -1,6 +1,6 @@
--- One class of keys with blocking: the root has the map, and the tables after it have copies of
--- what leaves the root. `On` says which tables are on the chain, r is the root, `Was` says which
--- tables were the root, and `ab` which are aborted.
+-- One class of keys with blocking: the root has the map, and the tables after it have copies of the
+-- pairs that leave the root. `On` says which tables are on the chain, r is the root, `Was` says
+-- which tables were the root, and `ab` which are aborted.
 use Rattle.std.proofs.Common.{◌≡◌, ◌⊎◌, inl, inr, ⊎_elim, ℕ, ◌<◌, ◌≤◌, Bool, true, false, Option, None, Some, refl, sym, ap, ◌∙◌, subst, arith}
 use Rattle.std.proofs.lemmas.Bool.{cases_lt}
 use Rattle.papaya_words_law.specs.View.{View, Free, Foreign, Here, Leaving, Grave, own, active, held, beyond, foreign, HasWord}
@@ -13,7 +13,7 @@ use mathlib.Core.Path.{fun_ext}
 
 module _ {P : Type 0} where
   module _ (On : ℕ → Type 0) (Was ab : ℕ → Bool) (r : ℕ) (n : ℕ → ℕ) (S : ℕ → ℕ → ℕ) (V : ℕ → ℕ → View P) where
-    -- what a search finds in the root is the map's
+    -- a pair that a search finds in the root is the map's
     pub root_found : (m : Option P) → IsBlockingClass On Was ab r n S V m → (j : ℕ) (p : P) → j < n r → (V r j ≡ Here p) ⊎ (V r j ≡ Leaving p) → m ≡ Some p
     root_found None k j p lt h = absurd (k.tied j lt (held_of (V r j) p h))
     root_found (Some q) k j p lt h =
@@ -25,7 +25,7 @@ module _ {P : Type 0} where
         (λ (x : V r j ≡ Leaving p). ⊎_elim (λ (y : V r o.at ≡ Here q). cc) (λ (y : V r o.at ≡ Leaving q). cc) o.has)
         h
 
-    -- where the root holds no pair of the key, the map has none
+    -- if the root holds no pair of the key, the map has none
     pub root_none : (m : Option P) → IsBlockingClass On Was ab r n S V m → ((j : ℕ) → j < n r → held (V r j) ≡ true → ⊥) → m ≡ None
     root_none None k none = refl
     root_none (Some q) k none = let o : IsRootOwner n V r q = k.tied in absurd (none o.at o.within (held_of (V r o.at) q o.has))
@@ -36,7 +36,8 @@ module _ {P : Type 0} where
     root_empty m k j lt before free = root_none m k (λ i l h. free_not_active On n S V k.base r j i free before l (held-active (V r i) h))
 
     module _ (V' : ℕ → ℕ → View P) (t x : ℕ) (m : Option P) (k : IsBlockingClass On Was ab r n S V m) where
-      -- a turn by which nothing leaves or comes behind the root
+      -- each word behind the root is still a copy, if the old word was of no leaving pair and the
+      -- new one is not behind the root
       plain_ahead : (a b : View P) → IsTurn S V V' t x a b → ((p : P) → a ≡ Leaving p → ⊥) → (own b ≡ true → r < t → ⊥) → (u j : ℕ) → r < u → j < n u
           → own (V' u j) ≡ true → IsRootCopy On ab n V' r u (V' u j)
       plain_ahead a b turn never here u j lt l h =
@@ -59,7 +60,8 @@ module _ {P : Type 0} where
       has_on : (a b : View P) → IsTurn S V V' t x a b → (own a ≡ true → own b ≡ true) → (u : ℕ) → HasWord n V u → HasWord n V' u
       has_on a b turn stays u w = (w.0, w.1, own_on On n S V V' t x a b turn stays u w.0 w.2)
 
-      -- what left a root is handed on still
+      -- a pair that leaves a table that was the root still has a word in the next table that is not
+      -- aborted
       plain_handed : (a b : View P) → IsTurn S V V' t x a b → (own a ≡ true → own b ≡ true) → ((p : P) → b ≡ Leaving p → t ≡ r)
           → (l u i : ℕ) (p : P) → Was l ≡ true → On u → l < u → u ≤ r → AllAborted On ab l u → ab u ≡ false → i < n l → V' l i ≡ Leaving p → HasWord n V' u
       plain_handed a b turn stays new l u i p was on lo hi all live lt e =
@@ -68,7 +70,8 @@ module _ {P : Type 0} where
           (λ h. absurd (let q : t ≡ r = new p (sym h.3 ∙ e) in let q' : l ≡ t = h.0 in omega arith))
           (turn.each l i)
 
-      -- no word of the class in the root turns that has the pair
+      -- the map stays tied to the root if the old word holds no pair, and the new one holds none in
+      -- the root
       stays_tied : (a b : View P) → IsTurn S V V' t x a b → (held a ≡ true → ⊥) → (held b ≡ true → t ≡ r → ⊥) → (v : Option P) → IsRootTied n V r v
           → IsRootTied n V' r v
       stays_tied a b turn ha hb None h = λ j lt e. ⊎_elim (λ q. h j lt (ap held (sym q.0) ∙ e)) (λ q. hb (ap held (sym q.3) ∙ e) (sym q.0)) (turn.each r j)
@@ -203,7 +206,8 @@ module _ {P : Type 0} where
           source_is_root : r < t → u ≡ r
           source_is_root lt = ⊎_elim (λ (c : u < r). absurd (let h = all r on-r c lt in cc (h, root))) (λ (c : r ≤ u). omega arith) (cases_lt u r)
 
-  -- the root is promoted: r' is not aborted, all between r and it is, and what the root holds stands in it
+  -- the root is promoted: r' is not aborted, each table between r and r' is, and r' has the pairs
+  -- that the root holds
   pub promote_kept_blocking : (On : ℕ → Type 0) (Was Was' ab : ℕ → Bool) (r r' : ℕ) (n : ℕ → ℕ) (S : ℕ → ℕ → ℕ) (V : ℕ → ℕ → View P) (m : Option P)
       → IsBlockingClass On Was ab r n S V m
       → On r → ab r ≡ false → On r' → ab r' ≡ false → r < r' → AllAborted On ab r r'

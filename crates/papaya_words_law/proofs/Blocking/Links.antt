@@ -12,7 +12,7 @@ use Rattle.papaya_words_law.proofs.Chain.{has_next, link_rises, next_on, none_be
 use Rattle.papaya_words_law.proofs.Base.{link_more}
 use Rattle.papaya_words_law.proofs.Blocking.States.{root_alive, root_on, target_aborted}
 
--- to what a table is copied depends on links and on tables that are given up alone
+-- the target of a table's copy depends only on links and on aborted tables
 pub same_target : {K P : Type 0} (g : Setting K P) (s s' : State P) → s'.next ≡ s.next → s'.aborted ≡ s.aborted → (t n : ℕ) → IsTarget g s' t n
     → IsTarget g s t n
 same_target g s s' e f t n r = record {
@@ -24,7 +24,7 @@ same_target g s s' e f t n r = record {
 }
 
 module _ (next : ℕ → ℕ) (rises : Rises next) (t n : ℕ) (none : next t ≡ 0) (some : 0 < t) (up : t < n) where
-  -- a walk along the new links that has not come past t went along old ones
+  -- if the table after some new links is no greater than t, it is the table after as many old links
   walk_before : (k u : ℕ) → 0 < walk (at_put next t n) k u → walk (at_put next t n) k u ≤ t → walk next k u ≡ walk (at_put next t n) k u
   walk_before zero u h le = refl
   walk_before (suc k) u h le =
@@ -38,7 +38,8 @@ module _ (next : ℕ → ℕ) (rises : Rises next) (t n : ℕ) (none : next t �
       (cases_Bool (walk (at_put next t n) k u == t))
 
 module _ {K P : Type 0} (g : Setting K P) (s : State P) (m : K → Option P) (holds : IsBlockingState g s m) where
-  -- what was the root, leads behind the root and has aborted tables between alone is the root
+  -- a table that was the root, and from which only aborted tables separate a table behind the root,
+  -- is the root
   pub from_root : (from n : ℕ) → s.was_root from ≡ true → s.root < n → AllAborted (IsOn s.first s.next) s.aborted from n → from ≡ s.root
   from_root from n was lt all =
       let w = holds.was from was in
@@ -66,7 +67,7 @@ module _ {K P : Type 0} (g : Setting K P) (s : State P) (m : K → Option P) (ho
         ⊎_elim (λ (c : 0 < s.next n). absurd (last n (holds.linked n c) may.rises)) (λ (c : s.next n ≤ 0). omega arith) (cases_lt 0 (s.next n)))
         (cases_Bool (n == t))
 
-    -- a root that is copied to t, which was given up, is copied to the new table
+    -- a table that was the root, and whose target is t, which was aborted, is the root
     root_before : (u : ℕ) → s.was_root u ≡ true → IsTarget g s u t → s.aborted t ≡ true → u ≡ s.root
     root_before u was target gone =
         let w = holds.was u was in

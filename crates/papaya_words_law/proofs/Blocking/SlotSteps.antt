@@ -30,17 +30,17 @@ module _ {K P : Type 0} (g : Setting K P) (law : IsLawful g) (blocks : g.blockin
       (λ e. subst (KeptRoot g s' k) (sym (cond-false (g.same k (g.key p)) v (m k) e)) (no' e))
       (cases_Bool (g.same k (g.key p)))
 
-  -- what a key sees of a pair's word
+  -- a key's view of a pair's word
   sees : (k : K) (p : P) (v : View P) (b : Bool) → g.same k (g.key p) ≡ b → cond (g.same k (g.key p)) v Foreign ≡ cond b v Foreign
   sees k p v b e = ap (λ c. cond c v Foreign) e
 
-  -- another key's word gives way to another
+  -- another key's word is replaced with another
   other_kept : (t x : ℕ) (w w' : Word P) (k : K) → s.slot t x ≡ w → view g k w ≡ Foreign → view g k w' ≡ Foreign → KeptRoot g (slot_put s t x w') k (m k)
   other_kept t x w w' k old e f =
       same_kept_blocking (IsOn s.first s.next) s.was_root s.aborted s.root g.places (g.place k) (look g s k) (look g (slot_put s t x w') k) t x (m k)
       (holds.class k) (turn_own g s k t x w w' Foreign Foreign old e f)
 
-  -- the same of an Empty word
+  -- the same for an Empty word
   fills_kept : (t x : ℕ) (w' : Word P) (k : K) → s.slot t x ≡ Empty → view g k w' ≡ Foreign → KeptRoot g (slot_put s t x w') k (m k)
   fills_kept t x w' k old f =
       fill_kept_blocking (IsOn s.first s.next) s.was_root s.aborted s.root g.places (g.place k) (look g s k) (look g (slot_put s t x w') k) t x (m k)
@@ -70,7 +70,7 @@ module _ {K P : Type 0} (g : Setting K P) (law : IsLawful g) (blocks : g.blockin
           t x (m k) (holds.class k) (holds.was t was).0 root r.at r.within r.is p
           (turn_own g s k t x Empty (Live p) Free (Here p) may.empty refl (sees k p (Here p) true e)) r.before
 
-  -- an own Live word of a table that was the root stands in the root
+  -- a Live word of the key in a table that was the root is in the root
   module _ (t x : ℕ) (p : P) (live : s.slot t x ≡ Live p) (was : s.was_root t ≡ true) where
     -- so the table is the root
     live_root : t ≡ s.root

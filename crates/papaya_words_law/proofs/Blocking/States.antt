@@ -1,4 +1,4 @@
--- What every allowed exchange preserves with blocking, of all words and all keys.
+-- The facts about all words and all keys that every allowed exchange preserves with blocking.
 use Rattle.std.proofs.Common.{◌≡◌, ◌⊎◌, ⊎_elim, ℕ, ◌<◌, ◌≤◌, true, false, Option, Some, refl, sym, ap, ◌∙◌, subst, arith}
 use Rattle.std.proofs.lemmas.Bool.{cases_lt, cases_Bool, cond-true, cond-false}
 use Rattle.papaya_words_law.specs.Exchange.{Word, Empty, Closed, Live, Marked, Copied, Buried, Setting, State, slot_put, walk}
@@ -12,7 +12,7 @@ use Rattle.papaya_words_law.proofs.Chain.{walk_between}
 use Rattle.papaya_words_law.proofs.Slots.{slot_cases}
 use Rattle.papaya_words_law.proofs.Base.{slot_sound, turn_own}
 
--- what key k sees of the slot's change: another key's word stays another's, and an own one an own
+-- the view of key k changes so: another key's word stays another's, and its own word stays its own
 pub record IsMild {K P : Type 0} (g : Setting K P) (s : State P) (t x : ℕ) (w' : Word P) (k : K) : Type 0 where
   pub a : View P
   pub b : View P
@@ -32,7 +32,7 @@ module _ {K P : Type 0} (g : Setting K P) (s : State P) where
     own_on = λ e. absurd cc;
   }
 
-  -- a Live word gives way
+  -- a Live word is replaced
   pub mild_live : (t x : ℕ) (p : P) (w' : Word P) (k : K) → s.slot t x ≡ Live p → (g.same k (g.key p) ≡ true → own (view g k w') ≡ true)
       → (g.same k (g.key p) ≡ false → view g k w' ≡ Foreign) → IsMild g s t x w' k
   mild_live t x p w' k old mine other =
@@ -87,7 +87,7 @@ module _ {K P : Type 0} (g : Setting K P) (s : State P) where
   settled_not_plain u (Buried p) h = refl
 
   module _ (m : K → Option P) (holds : IsBlockingState g s m) where
-    -- where a word is Empty or Live in a table that was the root, that table is the root
+    -- if a word is Empty or Live in a table that was the root, that table is the root
     pub is_root : (t x : ℕ) (w : Word P) → s.was_root t ≡ true → s.slot t x ≡ w → plain w ≡ true → x < g.size t → t ≡ s.root
     is_root t x w was old p lt =
         ⊎_elim
@@ -95,7 +95,7 @@ module _ {K P : Type 0} (g : Setting K P) (s : State P) where
         (λ (c : s.root ≤ t). let l = (holds.was t was).1 in omega arith)
         (cases_lt t s.root)
 
-    -- where another word than Empty and Live stands, the table was the root
+    -- if a word is neither Empty nor Live, its table was the root
     pub was_root_of : (t x : ℕ) (w : Word P) → s.slot t x ≡ w → plain w ≡ false → s.was_root t ≡ true
     was_root_of t x w old p = ⊎_elim (λ e. e) (λ e. absurd (let f = holds.fresh t x e in let q = ap plain old in cc (f, q, p))) (cases_Bool (s.was_root t))
 
@@ -107,7 +107,7 @@ module _ {K P : Type 0} (g : Setting K P) (s : State P) where
     pub root_alive : (t : ℕ) → IsOn s.first s.next t → t ≤ s.root → s.aborted s.root ≡ false
     root_alive t on le = holds.alive s.root (holds.root_was (let p = on.0 in omega arith))
 
-    -- a slot's word changes, and the classes are as they have to be
+    -- a slot's word changes, and each class keeps its invariant
     pub slot_blocking : (t x : ℕ) (w w' : Word P) → s.slot t x ≡ w → plain w ≡ true → (plain w' ≡ true) ⊎ (s.was_root t ≡ true)
         → ((p : P) → w' ≡ Copied p → ⊥) → IsOn s.first s.next t
         → ((p : P) → named w' ≡ Some p → IsPlaceOf g t x p) → (shut w' ≡ true → 0 < s.next t) → ((k : K) → IsMild g s t x w' k) → (m' : K → Option P)
@@ -152,7 +152,7 @@ module _ {K P : Type 0} (g : Setting K P) (s : State P) where
         same u y f = ⊎_elim (λ r. r.0) (λ r. absurd (let e : s.slot u y ≡ w = cc (r.0, r.1, old) in let e' = ap plain e in cc (e', f, p)))
             (slot_cases s t x w' u y)
 
-  -- with blocking a table is reached just where it was the root
+  -- with blocking a table that is reached was the root
   pub reached_was : g.blocking ≡ true → (k : K) (t : ℕ) → IsReached g s k t → s.was_root t ≡ true
   reached_was blocks k t r =
       ⊎_elim
@@ -161,13 +161,13 @@ module _ {K P : Type 0} (g : Setting K P) (s : State P) where
       r.mode
 
   module _ (sound : IsSound g s) where
-    -- where a copy of a pair may go, with aborted tables before it
+    -- the table for a copy of a pair, with aborted tables before it
     pub taker_aborted : g.blocking ≡ true → (k : K) (t n : ℕ) → IsOn s.first s.next t → IsTaker g s k t n → IsOn s.first s.next n × (t < n)
         × AllAborted (IsOn s.first s.next) s.aborted t n
     taker_aborted blocks k t n on r =
         walk_between s.next sound.rises (λ l. s.aborted l ≡ true) s.first t r.links n on r.is r.made
         (λ i lt. ⊎_elim (λ h. h.1) (λ h. absurd (let b = h.0 in cc (b, blocks))) (r.over i lt))
 
-    -- where a root is copied to, with aborted tables before it
+    -- the target of a root's copy, with aborted tables before it
     pub target_aborted : (t n : ℕ) → IsOn s.first s.next t → IsTarget g s t n → IsOn s.first s.next n × (t < n) × AllAborted (IsOn s.first s.next) s.aborted t n
     target_aborted t n on r = walk_between s.next sound.rises (λ l. s.aborted l ≡ true) s.first t r.links n on r.is r.made r.over

@@ -48,7 +48,7 @@ module _ {K P : Type 0} (g : Setting K P) (law : IsLawful g) (blocks : g.blockin
     },
   )
 
-  -- what is kept is what the words mean
+  -- the invariant gives the meaning of the words
   pub meaning_blocking : (s : State P) (m : K → Option P) → IsBlockingState g s m → (k : K) → IsMeaning g s k (m k)
   meaning_blocking s m holds k = record {
     no_root = λ e. root_none (IsOn s.first s.next) s.was_root s.aborted s.root g.places (g.place k) (look g s k) (m k) (holds.class k)
@@ -72,7 +72,7 @@ module _ {K P : Type 0} (g : Setting K P) (law : IsLawful g) (blocks : g.blockin
         last;
   }
 
-  -- every moment of an allowed list, and every change, from a state that keeps a map
+  -- every point of an allowed list, and every change in it, from a state that keeps a map
   pub run_blocking : (es : List (Exchange P)) (s : State P) (m : K → Option P) → IsBlockingState g s m → AllAllowed g s es
       → IsBlockingState g (run es s) (map_of g m es)
   run_blocking [] s m holds may = holds

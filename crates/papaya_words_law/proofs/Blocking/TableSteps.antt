@@ -20,12 +20,12 @@ use Rattle.papaya_words_law.proofs.Chain.{pos_before}
 use Rattle.papaya_words_law.proofs.Blocking.Links.{from_root, link_covered, same_target}
 use Rattle.papaya_words_law.proofs.Blocking.States.{was_root_of, taker_aborted, target_aborted, settled_not_plain}
 
--- what isn't true with n wasn't without
+-- a flag that is false with n was false without it
 put_false : (f : ℕ → Bool) (n u : ℕ) → at_put f n true u ≡ false → f u ≡ false
 put_false f n u h = ⊎_elim (λ q. absurd (let e = cond-true (u == n) true (f u) q in cc (e, h))) (λ q. sym (cond-false (u == n) true (f u) q) ∙ h)
     (cases_Bool (u == n))
 
--- what is true with n is n, or was true
+-- a flag that is true with n is that of n, or was true
 put_cases : (f : ℕ → Bool) (n u : ℕ) → at_put f n true u ≡ true → (u ≡ n) ⊎ (f u ≡ true)
 put_cases f n u h = ⊎_elim (λ q. inl (eqb-true u n q)) (λ q. inr (sym (cond-false (u == n) true (f u) q) ∙ h)) (cases_Bool (u == n))
 
@@ -33,7 +33,7 @@ put_cases f n u h = ⊎_elim (λ q. inl (eqb-true u n q)) (λ q. inr (sym (cond-
 put_same : {Y : Type 0} (f : ℕ → Y) (n : ℕ) (y : Y) (u : ℕ) → (u ≡ n → ⊥) → at_put f n y u ≡ f u
 put_same f n y u h = ⊎_elim (λ q. absurd (h (eqb-true u n q))) (λ q. cond-false (u == n) y (f u) q) (cases_Bool (u == n))
 
--- where no table is in the chain, what is tied to one root is tied to another
+-- if no word is of the key, a map that is tied to one root is tied to another
 none_tied : {P : Type 0} → (n : ℕ → ℕ) (V : ℕ → ℕ → View P) (r r' : ℕ) → ((u j : ℕ) → own (V u j) ≡ true → ⊥) → (v : Option P) → IsRootTied n V r v
     → IsRootTied n V r' v
 none_tied n V r r' none None h = λ j lt e. none r' j (active-own (V r' j) (held-active (V r' j) e))
@@ -61,11 +61,11 @@ module _ {K P : Type 0} (g : Setting K P) where
   }
 
   module _ (s : State P) (m : K → Option P) (holds : IsBlockingState g s m) where
-    -- where there is no root, no word is of a key
+    -- if there is no root, no word is of a key
     pub none_own : s.root ≡ 0 → (k : K) (u j : ℕ) → own (look g s k u j) ≡ true → ⊥
     none_own e k u j h = no_root g s holds.sound e u ((holds.class k).base.on u j h)
 
-    -- where there is no root all classes are kept
+    -- if there is no root, all classes are kept
     rootless : (On' : ℕ → Type 0) (Was' ab' : ℕ → Bool) (r' : ℕ) → s.root ≡ 0 → (k : K)
         → IsBlockingClass On' Was' ab' r' g.places (g.place k) (look g s k) (m k)
     rootless On' Was' ab' r' e k = record {
@@ -316,7 +316,7 @@ module _ {K P : Type 0} (g : Setting K P) where
               absurd (foreign_not_own (look g s (g.key p) n w.0) (may.full w.0 w.1) w.2))
               (cases_lt s.root n)
 
-          -- a root is copied where it was: nothing comes after the table that is given up
+          -- a root has the same target: no table comes after the one that is aborted
           target_kept : (u l : ℕ) → IsTarget g (after s (Abort n)) u l → IsTarget g s u l
           target_kept u l r = record {
             links = r.links;

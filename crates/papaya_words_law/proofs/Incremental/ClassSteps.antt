@@ -1,4 +1,4 @@
--- What each kind of exchange of a slot does to one class of keys, without blocking.
+-- The effect of each kind of exchange of a slot on one class of keys, without blocking.
 use Rattle.std.proofs.Common.{◌≡◌, ◌⊎◌, inl, inr, ⊎_elim, ℕ, ◌<◌, true, Option, None, Some, refl, sym, ap, ◌∙◌, subst}
 use Rattle.std.proofs.lemmas.Bool.{cases_order}
 use Rattle.papaya_words_law.specs.View.{View, Free, Foreign, Here, Leaving, Gone, Grave, own, active, held, beyond, foreign, IsPassed}
@@ -9,15 +9,15 @@ use Rattle.papaya_words_law.proofs.Class.{free_not_own, passed_or_copy, found_is
 use Rattle.papaya_words_law.proofs.Class.{passed_on, kept_after}
 
 module _ {P : Type 0} where
-  -- at the slot that turns
+  -- at the slot that changes
   pub turned : (S : ℕ → ℕ → ℕ) (V V' : ℕ → ℕ → View P) (t x : ℕ) (a b : View P) → IsTurn S V V' t x a b → (j : ℕ) → S t j ≡ x → (V t j ≡ a) × (V' t j ≡ b)
   turned S V V' t x a b turn j e = ⊎_elim (λ r. absurd (r.1 (refl, e))) (λ r. (r.2, r.3)) (turn.each t j)
 
-  -- a word that isn't the one that turns
+  -- a word that isn't the one that changes
   pub unturned : (S : ℕ → ℕ → ℕ) (V V' : ℕ → ℕ → View P) (t x : ℕ) (a b : View P) → IsTurn S V V' t x a b → (u j : ℕ) → (V u j ≡ a → ⊥) → V' u j ≡ V u j
   unturned S V V' t x a b turn u j h = ⊎_elim (λ r. r.0) (λ r. absurd (h r.2)) (turn.each u j)
 
-  -- the owner is found still, where another word turned
+  -- the owner is still found, if another word changed
   owner_on : (On : ℕ → Type 0) (n : ℕ → ℕ) (S : ℕ → ℕ → ℕ) (V V' : ℕ → ℕ → View P) (t x : ℕ) (a b : View P) → IsTurn S V V' t x a b → unfinished a ≡ true
       → (p : P) → (o : IsOwner On n V p) → (V o.table o.at ≡ a → ⊥) → IsOwner On n V' p
   owner_on On n S V V' t x a b turn unf p o h =
@@ -154,7 +154,7 @@ module _ {P : Type 0} where
     -- a copy of p is placed in t, of a word of table u that is or was marked; the tables between are full for the key
     module _ (on : On t) (at : ℕ) (within : at < n t) (is : S t at ≡ x) (before : (i : ℕ) → i < at → foreign (V t i) ≡ true)
         (u i : ℕ) (p : P) (on-u : On u) (later : u < t) (within-u : i < n u) (full : AllFull On n V u t) where
-      -- before the copy is placed nothing of the key stands behind u
+      -- before the copy is placed no word of the key is behind u
       no_copy : V t at ≡ Free → (w j : ℕ) → On w → u < w → j < n w → own (V w j) ≡ true → AllFull On n V u w → ⊥
       no_copy free w j o l lt h f =
           ⊎_elim
@@ -197,7 +197,8 @@ module _ {P : Type 0} where
           tied leaving None h = absurd (h u i within-u (ap held leaving))
           tied leaving (Some q) o = owner_on On n S V V' t x Free (Here p) turn refl q o (λ e. ⊎_elim (λ r. cc (r, e)) (λ r. cc (r, e)) o.has)
 
-    -- the marked word of p in t is finished, and a word of the key stands where its copy goes
+    -- the marked word of p in t is finished, and there is a word of the key in the table for its
+    -- copy
     pub finish_kept : (at : ℕ) (p : P) → On t → at < n t → S t at ≡ x → IsTurn S V V' t x (Leaving p) (Gone p) → IsGoneTo On n V t
         → IsIncrementalClass On n S V' m
     finish_kept at p on within is turn to =

@@ -38,13 +38,13 @@ module _ {K P : Type 0} (g : Setting K P) (law : IsLawful g) (inc : g.blocking �
       same_kept (IsOn s.first s.next) g.places (g.place k) (look g s k) (look g (slot_put s t x w') k) t x (m k) (holds.class k)
       (turn_own g s k t x w w' Foreign Foreign old e f)
 
-  -- the same of an Empty word
+  -- the same for an Empty word
   fills_kept : (t x : ℕ) (w' : Word P) (k : K) → s.slot t x ≡ Empty → view g k w' ≡ Foreign → Kept g (slot_put s t x w') k (m k)
   fills_kept t x w' k old f =
       fill_kept (IsOn s.first s.next) g.places (g.place k) (look g s k) (look g (slot_put s t x w') k) t x (m k) (holds.class k)
       (turn_own g s k t x Empty w' Free Foreign old refl f)
 
-  -- what a key sees of a pair's word
+  -- a key's view of a pair's word
   sees : (k : K) (p : P) (v : View P) (b : Bool) → g.same k (g.key p) ≡ b → cond (g.same k (g.key p)) v Foreign ≡ cond b v Foreign
   sees k p v b e = ap (λ c. cond c v Foreign) e
 

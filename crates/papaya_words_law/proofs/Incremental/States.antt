@@ -1,4 +1,4 @@
--- What every allowed exchange preserves without blocking, of all words and all keys.
+-- The facts about all words and all keys that every allowed exchange preserves without blocking.
 use Rattle.std.proofs.Common.{◌≡◌, ◌⊎◌, inl, inr, ⊎_elim, ℕ, zero, suc, ◌<◌, ◌≤◌, true, false, cond, Option, None, Some, refl, sym, ap, ◌∙◌, subst, arith}
 use Rattle.std.proofs.lemmas.Bool.{cases_lt, cases_Bool, cond-true, cond-false}
 use Rattle.papaya_words_law.specs.Exchange.{Word, Empty, Closed, Live, Marked, Copied, Buried, Setting, State, slot_put, walk}
@@ -22,7 +22,7 @@ same_kept On n S V V' t x m k turn =
     subst (λ W. IsIncrementalClass On n S W m) (fun_ext (λ u. fun_ext (λ j. ⊎_elim (λ r. sym r.0) (λ r. r.2 ∙ sym r.3) (turn.each u j)))) k
 
 module _ {K P : Type 0} (g : Setting K P) (law : IsLawful g) (inc : g.blocking ≡ false) where
-  -- a finished table is passed by each key: one of its words is there to say so, or none is
+  -- a finished table is passed by each key: one of its words is there for this, or none is
   passed_finished : (s : State P) (k : K) (t : ℕ) → ((x : ℕ) → x < g.size t → finished (s.slot t x) ≡ true) → IsPassed g.places (look g s k) t
   passed_finished s k t all = ⊎_elim (λ f. inl (f.0, f.1, f.2, f.3)) (λ f. inr f) (cursor (g.places t) (λ j lt. all (g.place k t j) (law.within k t j lt)))
     where
@@ -52,7 +52,7 @@ module _ {K P : Type 0} (g : Setting K P) (law : IsLawful g) (inc : g.blocking �
           (cursor n (λ j lt. h j (omega arith)))
 
   module _ (s : State P) (m : K → Option P) (holds : IsIncrementalState g s m) where
-    -- a table that is reached is in the chain, and a search goes past all before it
+    -- a table that is reached is on the chain, and a search passes all before it
     pub reached_front : (k : K) (t : ℕ) → IsReached g s k t → IsOn s.first s.next t × IsFront (IsOn s.first s.next) g.places (look g s k) t
     reached_front k t r =
         let from = holds.was r.from r.was in
@@ -67,20 +67,20 @@ module _ {K P : Type 0} (g : Setting K P) (law : IsLawful g) (inc : g.blocking �
               (cases_lt l r.from),
         )
 
-    -- where a copy of a key's pair may go
+    -- the table for a copy of a key's pair
     pub taker_full : (k : K) (t n : ℕ) → IsOn s.first s.next t → IsTaker g s k t n → IsOn s.first s.next n × (t < n)
         × AllFull (IsOn s.first s.next) g.places (look g s k) t n
     taker_full k t n on r =
         walk_between s.next holds.rises (λ l. IsFull g.places (look g s k) l) s.first t r.links n on r.is r.made
         (λ i lt. ⊎_elim (λ h. let b : g.blocking ≡ true = h.0 in absurd (cc (b, inc))) (λ h. h.1) (r.over i lt))
 
-    -- the same of a key that is equal
+    -- the same for an equal key
     pub front_same : (k l : K) (t : ℕ) → g.same k l ≡ true → IsReached g s l t → IsOn s.first s.next t × IsFront (IsOn s.first s.next) g.places (look g s k) t
     front_same k l t h r =
         let f = reached_front l t r in
         (f.0, subst (λ V. IsFront (IsOn s.first s.next) g.places V t) (sym (look_same g law s k l h)) f.1)
 
-    -- a slot's word changes, and the classes are as they have to be
+    -- a slot's word changes, and each class keeps its invariant
     pub slot_incremental : (t x : ℕ) (w w' : Word P) → s.slot t x ≡ w → finished w ≡ false → IsOn s.first s.next t
         → ((p : P) → named w' ≡ Some p → IsPlaceOf g t x p) → (shut w' ≡ true → 0 < s.next t) → (m' : K → Option P)
         → ((k : K) → IsIncrementalClass (IsOn s.first s.next) g.places (g.place k) (look g (slot_put s t x w') k) (m' k))

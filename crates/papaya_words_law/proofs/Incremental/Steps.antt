@@ -38,7 +38,7 @@ module _ {K P : Type 0} (g : Setting K P) (law : IsLawful g) (inc : g.blocking �
   step_incremental s m holds (Take k) may =
       (tt, record { sound = take_sound g s holds.sound k; settled = holds.settled; done = holds.done; covered = holds.covered; class = holds.class })
 
-  -- what is kept is what the words mean
+  -- the invariant gives the meaning of the words
   pub meaning_incremental : (s : State P) (m : K → Option P) → IsIncrementalState g s m → (k : K) → IsMeaning g s k (m k)
   meaning_incremental s m holds k = record {
     no_root = λ e. over_none e;
@@ -58,7 +58,7 @@ module _ {K P : Type 0} (g : Setting K P) (law : IsLawful g) (inc : g.blocking �
           away : (u j : ℕ) → held (look g s k u j) ≡ true → ⊥
           away u j h = no_root g s holds.sound e u ((holds.class k).base.on u j (active-own (look g s k u j) (held-active (look g s k u j) h)))
 
-  -- every moment of an allowed list, and every change, from a state that keeps a map
+  -- every point of an allowed list, and every change in it, from a state that keeps a map
   pub run_incremental : (es : List (Exchange P)) (s : State P) (m : K → Option P) → IsIncrementalState g s m → AllAllowed g s es
       → IsIncrementalState g (run es s) (map_of g m es)
   run_incremental [] s m holds may = holds

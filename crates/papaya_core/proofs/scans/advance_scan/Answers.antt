@@ -42,7 +42,7 @@ returns-in-Some-reply-clause-goes g c =
       shard = c.perform_scan-answer.ensures.shard;
     }
 
--- and lists what it gave
+-- and lists the pairs that it returned
 pub returns-in-Some-reply-clause-walked : goal.returns-in-Some-reply-clause-walked
 returns-in-Some-reply-clause-walked g c =
     let a = c.perform_scan-answer.result in
@@ -58,7 +58,7 @@ returns-in-Some-reply-clause-walked g c =
     subst (λ l. ListsGiven c.args.scanning.scanner.scan l c.outcome_of.result) given
     (subst (λ scan. ListsGiven scan later.given c.outcome_of.result) (ap (λ m. m.scan) is_after) c.outcome_of.ensures.listed)
 
--- or goes on
+-- or continues
 pub returns-in-None-reply-clause-goes : goal.returns-in-None-reply-clause-goes
 returns-in-None-reply-clause-goes g c =
     let a = c.perform_scan-answer.result in
@@ -76,7 +76,7 @@ returns-in-None-reply-clause-goes g c =
       shard = c.perform_scan-answer.ensures.shard;
     }
 
--- what its ask is answered by fits it: a core with these tables and no callers is in order
+-- the answer fits the ask: a core with these tables and no callers is in order
 pub answer-requires-clause-fit : goal.answer-requires-clause-fit
 answer-requires-clause-fit g c =
     let mode : Mode = record { resize = c.args.scanning.scanner.mode; limit = None } in

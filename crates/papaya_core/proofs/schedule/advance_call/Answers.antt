@@ -9,7 +9,7 @@ use Rattle.papaya_core_timeline.proofs.StoreLemmas.{performed_ask, unnumbered}
 use Rattle.papaya_core.proofs.schedule.advance_call.Goals as goal
 use Rattle.papaya_core.proofs.schedule.advance_call.Given.{Over}
 
--- what the closures' answers give
+-- the results of the closures' answers
 abbrev says : (g : Over) → Says g.row.K.Denot g.row.V.Denot g.row.A.Denot
 says g = record { op = g.A.Answers.op_gives; yes = g.A.Answers.yes_gives }
 

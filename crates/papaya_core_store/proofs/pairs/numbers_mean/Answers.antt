@@ -1,7 +1,7 @@
 use Rattle.papaya_core_store.proofs.pairs.numbers_mean.Goals as goal
 use Rattle.papaya_core_store.proofs.Logs.{of_logged, own_logged, pair-more}
 
--- a number stands for the same pair in a longer arena
+-- a number names the same pair in a longer arena
 pub returns-clause-stays : goal.returns-clause-stays
 returns-clause-stays g c = λ s more n p h. pair-more s more n p h
 

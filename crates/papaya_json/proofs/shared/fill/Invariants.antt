@@ -6,7 +6,7 @@ use Rattle.papaya_json.specs.Objects.{IsPair}
 use Rattle.papaya_json.specs.Shared.{IsEachStored}
 use Rattle.papaya_json.proofs.shared.fill.Given as goal
 
--- The pass is of this map, and what was read from the members so far was stored.
+-- The pass is of this map, and the results of reading the members so far were stored.
 abbrev pub invariant-loop-name : goal.invariant-loop-name
 invariant-loop-name g l = (l.pass.book ≡ l.fn.map.book)
     × IsEachStored (IsPair (FnReturnsAt g.T.Fn l.fn.key) (FnReturnsAt g.W.Fn l.fn.value))

@@ -8,7 +8,7 @@ use Rattle.papaya_map_book.specs.Parts.{begun_of}
 use Rattle.papaya_map_book.specs.Windows.{Does, Sees}
 use Rattle.papaya_map_change.proofs.insertion.drive.Given as goal
 
--- The insertion relies on what has been observed now, and asks for itself.
+-- The insertion relies on what has been observed now, and is in phase `Calling`.
 abbrev pub invariant-loop : goal.invariant-loop
 invariant-loop g l =
     Continues g.K.PartialEq.eq (hash_of g.K.Hash.hash_input g.S.BuildHasher.build_hasher g.S.Hasher.Hasher.write g.S.Hasher.Hasher.finish)

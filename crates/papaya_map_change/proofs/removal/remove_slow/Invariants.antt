@@ -10,7 +10,7 @@ use Rattle.papaya_map_change.specs.Removing.{IsUnderWay}
 use Rattle.papaya_map_change.specs.ClosureCalls.{Judges}
 use Rattle.papaya_map_change.proofs.removal.remove_slow.Given as goal
 
--- The removal relies on what has been observed now, and asks for itself.
+-- The removal relies on what has been observed now, and is in phase `Calling`.
 abbrev pub invariant-loop : goal.invariant-loop
 invariant-loop g l =
     IsUnderWay g.K.PartialEq.eq (hash_of g.K.Hash.hash_input g.S.BuildHasher.build_hasher g.S.Hasher.Hasher.write g.S.Hasher.Hasher.finish)

@@ -10,7 +10,7 @@ use Rattle.papaya_map_lookup.specs.Lookups.{IsReadingAt, IsNextStage, left_of}
 use Rattle.papaya_map_lookup.specs.declared.lookup.ProbeHit.TheVariants.{Next}
 use Rattle.papaya_map_lookup.proofs.lookup.search.Given as goal
 
--- The outcomes so far led each lookup that was where the search began to this place.
+-- The outcomes so far led each lookup that was in the search's first state to this place.
 abbrev pub invariant-loop-next : goal.invariant-loop-next
 invariant-loop-next g l =
     ((began : List (Event g.row.K.Denot g.row.V.Denot g.row.S.Denot))

@@ -13,11 +13,11 @@ use Rattle.papaya_map_lookup.proofs.near.search_near.Goals as goal
 use Rattle.papaya_map_lookup.proofs.near.search_near.Goals.{After-search_table, In-Absent, In-Found}
 use Rattle.papaya_map_lookup.proofs.near.search_near.Given.{Over}
 
--- The keys that match are one class.
+-- The keys that match are an equivalence class.
 lawful : (g : Over) (key : g.row.Q.Denot) → IsQuery g.K.PartialEq.eq g.K.Hash.hash_input (g.Q.Equivalent.matches key) (g.Q.Hash.hash_input key)
 lawful g key = record { feeds = g.met.Q.Equivalent.hashes_as_key key; class = λ k l. g.met.Q.Equivalent.matches_equal_keys key k l }
 
--- a turn led the lookup's machine on
+-- an outcome led the lookup's machine to its next state
 abbrev TurnedTo : (g : Over) (c : After-search_table g) → ProbeHit (Met g.row.K.Denot g.row.V.Denot) (Bor g.row.K.Denot × Bor g.row.V.Denot) → Type 0
 TurnedTo g c turn = Turned g.K.PartialEq.eq g.K.Hash.hash_input g.S.BuildHasher.build_hasher g.S.Hasher.Hasher.write g.S.Hasher.Hasher.finish
     g.met.K.Eq.laws g.met.K.Hash.respects_eq c.search_table.new.window.book.now (g.Q.Equivalent.matches c.args.key.now)

@@ -10,7 +10,7 @@ use Rattle.papaya_map_lookup.specs.Lookups.{IsReadingAt, IsNextStage}
 use Rattle.papaya_map_lookup.specs.declared.lookup.ProbeHit.TheVariants.{Next}
 use Rattle.papaya_map_lookup.proofs.near.search_slots.Given as goal
 
--- The places so far led each lookup that was where the search began to this one.
+-- The places so far led each lookup that was in the search's first state to this one.
 abbrev pub invariant-loop-turned : goal.invariant-loop-turned
 invariant-loop-turned g l =
     ((began : List (Event g.row.K.Denot g.row.V.Denot g.row.S.Denot))

@@ -17,7 +17,7 @@ use Rattle.papaya_seq.proofs.chunk.copy_slots.Given.{Over}
 abbrev hash : (g : Over) → g.row.S.Denot → g.row.K.Denot → ℕ
 hash g = hash_of g.K.Hash.hash_input g.S.BuildHasher.build_hasher g.S.Hasher.Hasher.write g.S.Hasher.Hasher.finish
 
--- the copy of the slot led on
+-- the copy of the slot continued
 led : (g : Over) (c : After-copy_slot g) (aim : Aim)
     → Comes g.K.PartialEq.eq (hash g) c.args.mode c.args.store.now (On (Stepping aim (Settling c.args.chunk Looking))) c.copy_slot.new.store
     (leads aim c.args.mode (settled_to c.loop-settle.chunk (settled_as c.copy_slot.result)))
@@ -33,7 +33,7 @@ returns-in-Some g c aim =
     (leads aim c.args.mode (settled_to c.loop-settle.chunk (settled_as x)))) c.in-Some.is
     (led g (goal.at.returns-in-Some g c).After-copy_slot aim)
 
--- the slot is settled
+-- the slot has been migrated
 settled : (g : Over) (c : In_default g) (aim : Aim)
     → Comes g.K.PartialEq.eq (hash g) c.args.mode c.args.store.now (On (Stepping aim (Settling c.args.chunk Looking))) c.copy_slot.new.store
     (leads aim c.args.mode (next_in (next_slot c.loop-settle.chunk)))

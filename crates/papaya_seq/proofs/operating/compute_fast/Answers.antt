@@ -23,11 +23,11 @@ use Rattle.papaya_seq.proofs.operating.compute_fast.Goals.{In-Some-Empty, In-Som
 use Rattle.papaya_seq.proofs.operating.compute_fast.Given as given
 use Rattle.papaya_seq.proofs.operating.compute_fast.Given.{Over}
 
--- what the closure may return
+-- the results that the closure may return
 abbrev said : (g : Over) (f : g.row.F.Denot) → Option (Stored g.row.K.Denot g.row.V.Denot) → Operation g.row.V.Denot g.row.T.Denot → Type 0
 said g f = Says (λ shown operation. given.F-post g f shown operation)
 
--- what the search of the root saw
+-- the outcome of the search of the root
 empty : (g : Over) (c : In-Some-Empty g) → IsRootHit (g.K.PartialEq.eq c.args.key) c.args.store.now c.args.hash (turns.Empty c.in-Some-Empty.place)
 empty g c = subst (λ (t : ProbeHit). IsRootHit (g.K.PartialEq.eq c.args.key) c.args.store.now c.args.hash t) (search rules)
     (c.search_root.ensures c.in-Some-Empty.field-0 c.in-Some-Empty.is)
@@ -37,7 +37,7 @@ here : (g : Over) (c : In-Some-Here g) → IsRootHit (g.K.PartialEq.eq c.args.ke
 here g c = subst (λ (t : ProbeHit). IsRootHit (g.K.PartialEq.eq c.args.key) c.args.store.now c.args.hash t) (search rules)
     (c.search_root.ensures c.in-Some-Here.field-0 c.in-Some-Here.is)
 
--- where nothing was, no word stands
+-- a place that was empty has no word
 bare : (g : Over) (c : In-Some-Empty g) → word_at c.args.store.now.words (slot_of c.in-Some-Empty.place) ≡ 0
 bare g c = c.requires.bare c.in-Some-Empty.place.table c.in-Some-Empty.place.probe.i (empty g c).stands
 
@@ -56,14 +56,14 @@ returns-in-Some-Empty-clause-ok g c mode initial =
     c.operate.new.store (empty g at) (bare g at)
     (c.no_pair.result, ap (λ o. option_map deref_pair o) c.no_pair.ensures, c.decide-operation.ensures) c.operate.ensures
 
--- the pair that was found is of the log
+-- the pair that was found is in the arena
 in_log : (g : Over) (c : In-Some-Here g) → IsSome (pair_of c.args.store.now (number_of c.in-Some-Here.word))
 in_log g c = some_matched (g.K.PartialEq.eq c.args.key) (pair_of c.args.store.now (number_of c.in-Some-Here.word)) (here g c).matched
 
 pub stored_entry-requires : goal.stored_entry-requires
 stored_entry-requires g c = subst (λ n. IsSome (pair_of c.args.store.now n)) (sym c.pair-pair.ensures) (in_log g (goal.at.stored_entry-requires g c).In-Some-Here)
 
--- and is shown to the closure
+-- and the closure is called with it
 shows : (g : Over) (c : In-Some-Here g) (n : ℕ) → n ≡ number_of c.in-Some-Here.word → (entry : Option (Bor g.row.K.Denot × Bor g.row.V.Denot))
     → MatchOption entry (pair_of c.args.store.now n ≡ None) (λ p. pair_of c.args.store.now n ≡ Some (record { number = n; key = p.0.now; value = p.1.now }))
     → (p : Stored g.row.K.Denot g.row.V.Denot) × (p.number ≡ number_of c.in-Some-Here.word)

@@ -20,13 +20,13 @@ module _ (g : Over) (c : After-hinted g) where
   within : c.loop-next.place.probe.i < length c.in-Some.table.now.slots
   within = subst (λ n. c.loop-next.place.probe.i < n) (sym c.loop-next.invariant.4) c.loop-next.invariant.1.i
 
-  -- where it led
+  -- the step after it
   told : c.hinted.result ≡ seen_at c.args.store.now c.args.hash c.loop-next.place
   told = c.hinted.ensures.value ∙ ap (hinted c.loop-next.place c.args.hash)
       (hint_read c.args.store.now.words c.loop-next.place.table c.loop-next.place.probe.i c.hint.result c.in-Some.table.now
       c.loop-next.invariant.3 within c.hint.ensures)
 
-  -- and the search goes on in that table
+  -- and the search continues in that table
   goes_on : (so : (number slots : ℕ) → Type 0) → so c.loop-next.place.table c.loop-next.place.len → ContinuesIn so c.hinted.result
   goes_on so is = subst (ContinuesIn so) (sym told) (hinted_in so c.loop-next.place c.args.hash there is)
 

@@ -2,7 +2,7 @@ use Rattle.papaya_seq.specs.Searches.{IsProbeHit, left_at}
 use Rattle.papaya_seq.specs.declared.search.ProbeHit.TheVariants.{Next}
 use Rattle.papaya_seq.proofs.search.search.Given as goal
 
--- the turns so far brought the search from the first place to this one
+-- the iterations so far brought the search from the first place to this one
 abbrev pub invariant-loop-next : goal.invariant-loop-next
 invariant-loop-next g l = IsProbeHit (g.Q.Equivalent.matches l.key) l.store l.hash l.fn.at (Next l.place)
 

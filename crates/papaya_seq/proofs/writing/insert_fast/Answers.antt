@@ -29,7 +29,7 @@ here : (g : Over) (c : In-Some-Here g) → IsRootHit (g.K.PartialEq.eq c.args.ke
 here g c = subst (λ (t : ProbeHit). IsRootHit (g.K.PartialEq.eq c.args.key) c.args.store.now c.args.hash t) (search rules)
     (c.search_root.ensures c.in-Some-Here.field-0 c.in-Some-Here.is)
 
--- where nothing was, no word stands
+-- a place that was empty has no word
 bare : (g : Over) (c : In-Some-Empty g) → word_at c.args.store.now.words (slot_of c.in-Some-Empty.place) ≡ 0
 bare g c = c.requires.bare c.in-Some-Empty.place.table c.in-Some-Empty.place.probe.i (empty g c).stands
 

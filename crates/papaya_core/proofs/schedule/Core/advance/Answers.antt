@@ -14,18 +14,18 @@ use Rattle.papaya_core.proofs.schedule.Core.advance.Goals as goal
 use Rattle.papaya_core.proofs.schedule.Core.advance.Goals.{After-put}
 use Rattle.papaya_core.proofs.schedule.Core.advance.Given.{Over}
 
--- what the closures' answers give
+-- the results of the closures' answers
 abbrev says : (g : Over) → Says g.row.K.Denot g.row.V.Denot g.row.A.Denot
 says g = record { op = g.A.Answers.op_gives; yes = g.A.Answers.yes_gives }
 
--- what was under way stands
+-- the work under way was valid
 pub advance_work-event-requires-clause-valid : goal.advance_work-event-requires-clause-valid
 advance_work-event-requires-clause-valid g c = work_stands g.K.PartialEq.eq g.K.Hash.hash_input g.S.BuildHasher.build_hasher
     g.S.Hasher.Hasher.write g.S.Hasher.Hasher.finish g.met.K.Eq.laws g.met.K.Hash.respects_eq (says g)
     (record { store = c.self.inside.store; callers = c.self.inside.callers; mode = c.self.inside.mode; initial = c.self.inside.initial })
     c.self.invariant.0 c.args.caller c.take-work.result c.take-work.ensures.call
 
--- the callers after it: one has what goes on under way
+-- the callers after it: one has the continued work under way
 callers_are : (g : Over) (c : After-put g) → c.put.new.self ≡ with_work c.self.inside.callers c.args.caller c.advance_work-event.result.2
 callers_are g c =
     c.put.ensures ∙ ap (λ (y : List (Seat _ _ _)). with_work y c.args.caller c.advance_work-event.result.2) c.take-work.ensures.taken
@@ -59,7 +59,7 @@ invariant_of-self g c = let x = sound g (goal.at.invariant_of-self g c).After-pu
 pub returns-clause-steps : goal.returns-clause-steps
 returns-clause-steps g c = (sound g (goal.at.returns-clause-steps g c).After-put).steps
 
--- what is answered of a walk is answered of what was under way
+-- an entry that the iteration returns is one of the work that was under way
 pub returns-clause-walked : goal.returns-clause-walked
 returns-clause-walked g c =
     subst (λ (s : CoreState _ _ _ _). AnswersWalk (scanning s.callers c.args.caller) c.advance_work-event.result.1) c.self.view_is
@@ -84,7 +84,7 @@ returns-clause-counted g c = (sound g (goal.at.returns-clause-counted g c).After
 abbrev core_after : (g : Over) → After-put g → CoreState g.row.K.Denot g.row.V.Denot g.row.S.Denot g.row.A.Denot
 core_after g c = record { store = c.advance_work-event.new.store; callers = c.put.new.self; mode = c.self.inside.mode; initial = c.self.inside.initial }
 
--- the core before the step is lawful, as what it shows
+-- the core before the step is lawful, as its fields are
 lawful_before : (g : Over) (c : After-put g)
     → IsLawfulCore g.K.PartialEq.eq (hash_of g.K.Hash.hash_input g.S.BuildHasher.build_hasher g.S.Hasher.Hasher.write g.S.Hasher.Hasher.finish
     c.args.self.now.store.hasher) c.args.self.now.store c.args.self.now.callers c.args.self.now.mode

@@ -62,7 +62,7 @@ call_begun g c =
 pub invariant_of-self-2 : goal.invariant_of-self-2
 invariant_of-self-2 g c = let sound = call_begun g (goal.at.invariant_of-self-2 g c).After-put in (sound.0, sound.1, c.self.invariant.2)
 
--- what began in the seat intends what it was handed
+-- the call that began in the seat intends to store the value that was passed in
 pub returns-clause-handed : goal.returns-clause-handed
 returns-clause-handed g c work is =
     let callers = c.put.ensures ∙ ap (λ (y : List (Seat _ _ _)). with_work y c.args.caller (Some c.begin_call-work.result)) c.in_ok-seat.ensures.ok.0 in

@@ -4,7 +4,7 @@ use Rattle.papaya_words_keys.specs.Hashes.{hash_of}
 use Rattle.papaya_core_timeline.specs.Runs.{StepsRun}
 use Rattle.papaya_core.proofs.schedule.Core.finish_into.Given as goal
 
--- that many steps were made, and the core is still counted
+-- `made` steps were made, and the core is still counted
 abbrev pub invariant-loop-made : goal.invariant-loop-made
 invariant-loop-made g l = StepsRun g.K.PartialEq.eq (record { op = g.A.Answers.op_gives; yes = g.A.Answers.yes_gives })
     (hash_of g.K.Hash.hash_input g.S.BuildHasher.build_hasher g.S.Hasher.Hasher.write g.S.Hasher.Hasher.finish) l.turn l.caller l._made l.fn.self

@@ -1,4 +1,4 @@
--- The rights to make the words that were drawn are what the step gained.
+-- The step gained the rights to make the words that were drawn.
 use Rattle.std.proofs.Common.{List, [], ◌∷◌, refl, subst}
 use mir.Syntax.{a_type, seq, assign as assign_to, place, rv_opd, copy, return}
 use mir.Val.{Val}

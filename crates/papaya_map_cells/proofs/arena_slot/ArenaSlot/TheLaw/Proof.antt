@@ -140,10 +140,10 @@ module _ (m : Member) (L : Laws (row_of m)) {M : Type 1} {𝓤 : Ura M} (𝓛 : 
     unfolding fseps
     way_back = qed 𝓛 (raw Joins ∷ []) ∵ assume ! (‵ (fsep (fdead κ) (fseps (Tied ∷ V ∷ [])))) $
         suffices ! ⟦ P ⟧ (upd_i 𝓤 ⟦ P ⟧) $ fsplit ! $ drop ! $ fsplit3 ! $ fpick ! (λ s. fsplit3 ! $
-        -- [the mark; what is told; the tie; the borrow's value; nothing; the way back]
+        -- [the mark; `told`; the tie; the borrow's value; nothing; the way back]
         move ! (3 ∷ []) $ fpick ! (λ v. fsplit ! $ move ! (4 ∷ 1 ∷ []) $
         use2 𝓛 (raw (monad.fact 𝓤 (Lies R v s))) (lies s v) $ heard ! (Lies R v s) (λ so. let y : S = (v, s) in
-        -- [the value; the mark; what is told; nothing; the way back]
+        -- [the value; the mark; `told`; nothing; the way back]
         nothing ! $ fpack ! (Lies R v s) (λ _. ftrue) so $ move ! (2 ∷ 3 ∷ 0 ∷ []) $ fjoin3 ! $
         keep ! (1 ∷ 0 ∷ 3 ∷ []) $ join ! $ move ! (1 ∷ []) $
         use1 𝓛 (raw (mean 𝓛 (Parts y) -∗ ⟦ P ⟧)) (all_e 𝓤 (λ (u : S). mean 𝓛 (Parts u) -∗ ⟦ P ⟧) y) $ move ! (1 ∷ 0 ∷ []) $
@@ -225,10 +225,10 @@ module _ (m : Member) (L : Laws (row_of m)) {M : Type 1} {𝓤 : Ura M} (𝓛 : 
   unfolding fseps
   cuts q = qed 𝓛 (‵ (fbor κ P) ∷ ‵ (flft κ q) ∷ []) ∵ updating ! $ bor_open ! tt $ move ! (1 ∷ []) $
       use1 𝓛 (some (λ (s : S). Parts s ⊛ raw Joins)) apart $ pick ! (λ s. split ! $ split ! $ move ! (1 ∷ []) $ fsplit3 ! $
-      -- [the mark; what is told; that it lies; the value; the way back; open]
+      -- [the mark; `told`; `Lies`; the value; the way back; open]
       move ! (2 ∷ []) $ fpick ! (λ so. drop ! $ name_new ! tt (R.coded.code s.0) (λ η.
       use1 𝓛 (‵ (tie R d (t η) b o s.1)) (ties η s.1 s.0 so) $
-      -- [the tie; the value's mark; the mark; what is told; the value; the way back; open]
+      -- [the tie; the value's mark; the mark; `told`; the value; the way back; open]
       move ! (2 ∷ 3 ∷ 0 ∷ []) $ fjoin3 ! $ fpack ! (W η) (tied R d (t η) b o) s.1 $ move ! (2 ∷ 1 ∷ []) $ fjoin ! $
       fpack ! R.Denot (λ v. fsep (part_at R full_share v b e) (fauth η (R.coded.code v))) s.0 $
       nothing ! $ move ! (2 ∷ 1 ∷ 0 ∷ []) $ fjoin3 ! $ let Qs : List Fml = Tied η ∷ V η ∷ [] in move ! (1 ∷ []) $

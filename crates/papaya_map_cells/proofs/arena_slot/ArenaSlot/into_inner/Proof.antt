@@ -1,4 +1,4 @@
--- `into_inner` returns the value that is in the slot, whatever its phase.
+-- `into_inner` returns the value in the slot, whatever its phase.
 use Rattle.std.proofs.Common.{◌≡◌, List, [], ◌∷◌, ◌++◌, sym, refl, ap, ◌∙◌, subst}
 use base.Logic.{SProp, ent, sep, emp}
 use mir.Syntax.{a_type}

@@ -1,4 +1,4 @@
--- `fill` brings the ticket and takes the place, writes there, shares the value, and returns the token.
+-- `fill` takes the place with the ticket, writes there, shares the value, and returns the token.
 use Rattle.std.proofs.Common.{◌≡◌, ℕ, List, [], ◌∷◌, ◌++◌, sym, refl, lit<, subst, w64}
 use mir.Syntax.{a_type}
 use mir.Val.{Val, vint, vptr, vstruct, vcons, vnil, of_list}

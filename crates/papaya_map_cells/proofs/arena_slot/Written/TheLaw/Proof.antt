@@ -1,4 +1,4 @@
--- A `&` to a `Written` has what that knows, which may be copied.
+-- A `&` to a `Written` has that token's knowledge, which may be copied.
 use base.Logic.{snd∗}
 use base.Before.{before}
 use types.Logic.{sem}

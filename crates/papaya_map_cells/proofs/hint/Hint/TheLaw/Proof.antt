@@ -31,7 +31,7 @@ module _ (E A P : RattleType) (g : Rule P.Denot E.Denot A.Denot) (h : Hinting P.
   laws = the_row_laws E A P (beside_word g h d) L L' L''
 
   module _ {M : Type 1} {𝓤 : Ura M} (𝓛 : Logic 𝓤) (b o : ℕ) where
-    -- the two lie in memory alike and own the same
+    -- the two have the same layout in memory and own the same
     opens : ent 𝓤 (sem 𝓛 (part_at hint full_share d b o))
         (sem 𝓛 (part_at (Word.the_row E A P (beside_word g h d)) full_share (untracked d) b o))
     unfolding part_of

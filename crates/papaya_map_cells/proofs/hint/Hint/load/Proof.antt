@@ -1,4 +1,4 @@
--- `load` is one step, which learns what the rule states of the number.
+-- `load` is one step, after which the rule's statement about the number is known.
 use Rattle.std.proofs.Common.{ℕ, ◌^◌, Bool, false, List, [], ◌∷◌, sym, refl, subst, lit<, w64}
 use mir.Syntax.{a_type, dcons, dnil, named}
 use mir.Val.{Val, vint, vptr}

@@ -22,7 +22,7 @@ use Rattle.papaya_seq.proofs.seq.HashMap.compute_by.Given.{Over}
 abbrev hash : (g : Over) → g.row.S.Denot → g.row.K.Denot → ℕ
 hash g = hash_of g.K.Hash.hash_input g.S.BuildHasher.build_hasher g.S.Hasher.Hasher.write g.S.Hasher.Hasher.finish
 
--- what the closure may answer
+-- the results that the closure may return
 abbrev post : (g : Over) → g.row.F.Denot → Option (Bor g.row.K.Denot × Bor g.row.V.Denot) → Operation g.row.V.Denot g.row.T.Denot → Type 0
 post g = λ f shown operation. given.F-post g f shown operation
 
@@ -31,7 +31,8 @@ pub compute_fast-requires-clause-bare : goal.compute_fast-requires-clause-bare
 compute_fast-requires-clause-bare g c = core_bare g.K.PartialEq.eq (hash g c.self.inside.store.hasher) [] c.self.inside.mode c.self.inside.store
     c.self.invariant.lawful
 
--- the closure may be called at what the map holds, and so at what the search of its root finds
+-- the closure may be called with the pair that the map holds, and so with the pair that the search
+-- of its root finds
 pub compute_fast-requires-clause-takes : goal.compute_fast-requires-clause-takes
 compute_fast-requires-clause-takes g c turn root =
     let view : MapState g.row.K.Denot g.row.V.Denot

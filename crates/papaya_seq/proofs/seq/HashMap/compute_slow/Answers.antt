@@ -42,7 +42,7 @@ use Rattle.papaya_seq.proofs.seq.HashMap.compute_slow.Given.{Over}
 abbrev hash : (g : Over) → g.row.S.Denot → g.row.K.Denot → ℕ
 hash g = hash_of g.K.Hash.hash_input g.S.BuildHasher.build_hasher g.S.Hasher.Hasher.write g.S.Hasher.Hasher.finish
 
--- what a list of answers would give, of which the call has none
+-- the results of a list of answers, of which the call has none
 abbrev said : (g : Over) → Answers_say g.row.K.Denot g.row.V.Denot (Listed g.row.V.Denot)
 said g = record {
   op = λ a shown told a'. (told ≡ first_or (Abort 0) a.ops.items) × (a'.ops.items ≡ rest_of a.ops.items) × (a'.yes ≡ a.yes);
@@ -54,7 +54,7 @@ keys : (g : Over) (hasher : g.row.S.Denot) → IsLawfulKeys g.K.PartialEq.eq (ha
 keys g hasher = keys_lawful g.K.PartialEq.eq g.K.Hash.hash_input g.S.BuildHasher.build_hasher g.S.Hasher.Hasher.write g.S.Hasher.Hasher.finish
     g.met.K.Eq.laws g.met.K.Hash.respects_eq hasher
 
--- what the closure may answer
+-- the results that the closure may return
 abbrev post : (g : Over) → g.row.F.Denot → Option (Bor g.row.K.Denot × Bor g.row.V.Denot) → Operation g.row.V.Denot g.row.T.Denot → Type 0
 post g = λ f shown operation. given.F-post g f shown operation
 
@@ -115,7 +115,7 @@ call_closure-requires-in-Call-ShowPair g c =
           c.loop-self.invariant.0 c.pair-entry.result c.in-Call-ShowPair.pair c.pair-entry.ensures shows),
     )
 
--- what an answer leaves, whoever gave it
+-- the effect of an answer, whether of the store or of the closure
 went : (g : Over) (c : After-answer-arg-1 g)
     → IsLawfulMap g.K.PartialEq.eq (hash g c.args.self.now.store.hasher) c.args.self.now.store c.args.self.now.mode c.args.self.now.initial
     → hash g c.args.self.now.store.hasher c.args.key < 2 ^ 64
@@ -245,7 +245,7 @@ alone g c orderly fit = made_alone g.K.PartialEq.eq (hash g) c.args.self.now (ke
 abbrev left : (g : Over) (c : In-Call-Done g) → MapState g.row.K.Denot g.row.V.Denot g.row.S.Denot
 left g c = record { store = c.loop-self.self-inside.store; mode = c.loop-self.self-inside.mode; initial = c.loop-self.self-inside.initial }
 
--- what it left beside the finite map
+-- the facts after the call beside the finite map
 keeps : (g : Over) (c : In-Call-Done g) → IsLawfulMap g.K.PartialEq.eq (hash g c.args.self.now.store.hasher) c.args.self.now.store
     c.args.self.now.mode c.args.self.now.initial → hash g c.args.self.now.store.hasher c.args.key < 2 ^ 64 → KeepsAndGrows c.args.self.now (left g c)
 keeps g c orderly fit =

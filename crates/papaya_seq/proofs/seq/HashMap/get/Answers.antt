@@ -48,7 +48,7 @@ abbrev Orderly : (g : Over) → MapState g.row.K.Denot g.row.V.Denot g.row.S.Den
 Orderly g s = IsLawfulMap g.K.PartialEq.eq (hash_of g.K.Hash.hash_input g.S.BuildHasher.build_hasher g.S.Hasher.Hasher.write g.S.Hasher.Hasher.finish
     s.store.hasher) s.store s.mode s.initial
 
--- what the finite map has is what was found
+-- the pair of the finite map is the one that was found
 map_is : (g : Over) (c : After-look_up g) → Orderly g c.args.self.now → (k : g.row.K.Denot) → g.Q.Equivalent.matches c.args.key.now k ≡ true
     → map_in g.K.PartialEq.eq c.args.self.now.store k ≡ c.look_up.ensures.found.0
 map_is g c orderly k matched =

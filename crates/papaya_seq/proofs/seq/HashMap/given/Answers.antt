@@ -33,7 +33,7 @@ module _ (g : Over) where
   orderly : (c : After-kind g) → Orderly c.args.self.now
   orderly c = c.requires.orderly
 
-  -- the word that was read stands at the slot
+  -- the word that was read is the slot's
   word_is : (c : After-kind g) → c.slot.result ≡ word_at c.args.self.now.store.words (Slot c.args.at.table c.args.at.slot)
   word_is c = slot_read c.args.self.now.store.words c.args.at.table c.args.at.slot c.slot.result c.args.table.now c.requires.table c.slot.ensures
 

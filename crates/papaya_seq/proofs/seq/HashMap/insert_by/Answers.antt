@@ -80,7 +80,8 @@ returns-in-Ok-clause-stores g c = (done g (goal.at.returns-in-Ok-clause-stores g
 pub insert_slow-requires : goal.insert_slow-requires
 insert_slow-requires g c = λ mode initial limit. ([], refl)
 
--- What was given back is what was handed in, with where the search has led, and the store is as it was.
+-- The key and the value are returned as they were passed in, with the state after the search, and
+-- the store is as it was.
 abbrev IsGivenBack : (g : Over) → In-Err g → (g.row.K.Denot × g.row.V.Denot × ℕ) → Type 0
 IsGivenBack g c back = (back.0 ≡ c.args.key) × (back.1 ≡ c.args.value) × (c.insert_fast.new.store ≡ c.self.inside.store)
     × IsLedTo (g.K.PartialEq.eq c.args.key) c.self.inside.store c.hash-hash.result c.args.replace (led_state back.2)

@@ -31,7 +31,7 @@ use Rattle.papaya_seq.proofs.seq.HashMap.insert_slow.Given.{Over}
 abbrev hash : (g : Over) → g.row.S.Denot → g.row.K.Denot → ℕ
 hash g = hash_of g.K.Hash.hash_input g.S.BuildHasher.build_hasher g.S.Hasher.Hasher.write g.S.Hasher.Hasher.finish
 
--- what a closure's answers would give, of which an insertion has none
+-- the results of a closure's answers, of which an insertion has none
 abbrev said : (g : Over) → Says g.row.K.Denot g.row.V.Denot (Listed g.row.V.Denot)
 said g = record {
   op = λ a shown told a'. (told ≡ first_or (Abort 0) a.ops.items) × (a'.ops.items ≡ rest_of a.ops.items) × (a'.yes ≡ a.yes);

@@ -65,7 +65,7 @@ module _ (g : Over) where
     abbrev left : State → ℕ
     left stage = lookup_left (length s.store.words.tables) (record (started Get h s.mode.resize s.initial s.mode.limit) { state = stage })
 
-    -- what the machine replied is what was found
+    -- the machine's reply is what was found
     found_so : Orderly s → h ≡ query_hash s.store.hasher key → h < 2 ^ 64 → (reply : Reply) (answer : Option ℕ) → answer ≡ found_number reply
         → Comes (Ended reply)
         → (found : _) × LooksUp g.K.PartialEq.eq (g.Q.Equivalent.matches key) s.store

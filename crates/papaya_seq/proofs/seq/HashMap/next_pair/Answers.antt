@@ -30,7 +30,7 @@ module _ (g : Over) where
   orderly : (c : Else-is_some g) → Orderly c.args.self.now
   orderly c = subst Orderly c.self.view_is c.self.invariant
 
-  -- the table gave nothing more
+  -- the table returned nothing more
   behind : (c : Else-is_some g) → (left_to g.K.PartialEq.eq c.args.self.now.store c.loop-self.at ≡ left_to g.K.PartialEq.eq c.args.self.now.store
       c.next_here-pair.new.at) × (slots_in (table_of c.args.self.now.store.words.tables c.next_here-pair.new.at.table) ≤ c.next_here-pair.new.at.slot)
   behind c = here_none g.K.PartialEq.eq c.args.self.now.store c.loop-self.at c.next_here-pair.new.at c.next_here-pair.result
@@ -83,7 +83,7 @@ returns-then-next-eq0-clause-next g c =
     ] in
     (c.loop-self.invariant.1 ∙ (behind g at).0 ∙ over, over)
 
--- where the walk goes on
+-- if the iteration continues
 rises : (g : Over) (c : Else-next-eq0 g) → (c.next_here-pair.new.at.table < word_at c.args.self.now.store.words (Next c.next_here-pair.new.at.table))
     × (word_at c.args.self.now.store.words (Next c.next_here-pair.new.at.table) ≤ length c.args.self.now.store.words.tables)
     × (c.next_here-pair.new.at.passed < c.next_here-pair.new.at.table)

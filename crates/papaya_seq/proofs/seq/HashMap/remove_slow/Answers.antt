@@ -30,7 +30,7 @@ lawful : (g : Over) (c : After-new-machine g)
     → IsLawfulMap g.K.PartialEq.eq (hashes g c.args.self.now.store.hasher) c.args.self.now.store c.args.self.now.mode c.args.self.now.initial
 lawful g c = subst (λ s. IsLawfulMap g.K.PartialEq.eq (hashes g s.store.hasher) s.store s.mode s.initial) c.self.view_is c.self.invariant
 
--- what matches a key matches as the key is equal, and hashes as it does
+-- a query that matches a key matches as that key is equal, and hashes as it does
 query : (g : Over) (c : After-new-machine g)
     → IsQuery g.F.FnMut g.K.PartialEq.eq (hashes g) (g.Q.Equivalent.matches c.args.key.now) c.hash-hash.result c.args.self.now c.args.agrees.now
 query g c = record {
@@ -47,7 +47,7 @@ query g c = record {
   fits = c.hash-hash.ensures.fits;
 }
 
--- the ask was answered by the store, and a showing by the closure
+-- the ask was answered by the store, or was a call of the closure
 told : (g : Over) (c : After-answer g) → IsAnswered g.K.PartialEq.eq (hashes g) g.F.FnMut (g.Q.Equivalent.matches c.args.key.now)
     (ask_of c.loop-ask.machine) c.loop-ask.self-inside.store c.loop-ask.agrees c.match-ask.answer c.match-ask.self-inside.store c.match-ask.agrees
 told g c =
@@ -165,7 +165,7 @@ loop-ask-smaller g c =
 replied : (g : Over) (c : In-Done g) → ask_of c.loop-ask.machine ≡ asks.Call (Ask_done c.in-Done.reply)
 replied g c = sym c.in-Call.ensures.value ∙ ap asks.Call c.in-Done.is
 
--- what it leaves
+-- the map after it
 finished : (g : Over) (c : In-Done g)
     → IsQuery g.F.FnMut g.K.PartialEq.eq (hashes g) (g.Q.Equivalent.matches c.args.key.now) c.hash-hash.result c.args.self.now c.args.agrees.now
     → RemovalDone g.F.FnMut g.K.PartialEq.eq (hashes g) (g.Q.Equivalent.matches c.args.key.now) c.args.self.now c.args.agrees.now c.loop-ask.agrees c.in-Done.reply

@@ -14,6 +14,6 @@ invariant-loop-ask g l =
     × IsUnderWay g.F.FnMut g.K.PartialEq.eq (hash_of g.K.Hash.hash_input g.S.BuildHasher.build_hasher g.S.Hasher.Hasher.write
     g.S.Hasher.Hasher.finish) (g.Q.Equivalent.matches l.key) l.hash l.fn.self l.fn.agrees l.self-inside.store l.agrees l.machine
 
--- what is left of it
+-- the answers that are left to it
 abbrev pub decreases-loop-ask : goal.decreases-loop-ask
 decreases-loop-ask g l = left_of l.self-inside.store l.machine

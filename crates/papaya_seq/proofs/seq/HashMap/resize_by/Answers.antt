@@ -125,7 +125,7 @@ left_is g c =
 refused_by : (z : Resizer) (refused : Refused) → z.state ≡ Was_refused refused → reply_of z ≡ Some (Reply_refused refused)
 refused_by z refused is = ap reply_in is
 
--- what it leaves beside the finite map
+-- the facts after the call beside the finite map
 keeps : (g : Over) (c : In_default g) → IsLawfulMap g.K.PartialEq.eq (hash g c.args.self.now.store.hasher) c.args.self.now.store c.args.self.now.mode
     c.args.self.now.initial → FitsSigned w64 c.args.self.now.store.count.sum
     → Keeps c.args.self.now (record c.args.self.now { store = c.loop-ask.self-inside.store })
@@ -136,7 +136,7 @@ keeps g c orderly fit =
     resized_keeps g.K.PartialEq.eq g.K.Hash.hash_input g.S.BuildHasher.build_hasher g.S.Hasher.Hasher.write g.S.Hasher.Hasher.finish g.met.K.Eq.laws
     g.met.K.Hash.respects_eq c.args.self.now c.args.resize orderly fit c.loop-ask.self-inside.store c.loop-ask.resizer c.loop-ask.invariant.0 reply told
 
--- where no room is for so many pairs
+-- if no table is large enough for this many pairs
 past : (g : Over) (c : In_default g) → IsLawfulMap g.K.PartialEq.eq (hash g c.args.self.now.store.hasher) c.args.self.now.store c.args.self.now.mode
     c.args.self.now.initial → FitsSigned w64 c.args.self.now.store.count.sum → IsPastLimit g.K.PartialEq.eq c.args.resize c.args.self.now.store
     → (reply_of c.loop-ask.resizer ≡ Some (Reply_refused Capacity)) × (c.loop-ask.self-inside.store ≡ c.args.self.now.store)
@@ -145,7 +145,7 @@ past g c orderly fit late =
     g.met.K.Hash.respects_eq c.args.self.now c.args.resize orderly fit c.loop-ask.self-inside.store c.loop-ask.resizer c.loop-ask.invariant.0 late
     (sym c.ask.ensures ∙ c.in_default.is)
 
--- where there is room for them already
+-- if there is already room for them
 there : (g : Over) (c : In_default g) → IsLawfulMap g.K.PartialEq.eq (hash g c.args.self.now.store.hasher) c.args.self.now.store c.args.self.now.mode
     c.args.self.now.initial → FitsSigned w64 c.args.self.now.store.count.sum → IsRoomThere g.K.PartialEq.eq c.args.resize c.args.self.now.store
     → (reply_of c.loop-ask.resizer ≡ Some Reply_done) × (c.loop-ask.self-inside.store ≡ c.args.self.now.store)

@@ -54,7 +54,7 @@ module _ (g : Over) where
       × (pair_of c.self.inside.store (number_of (root_word c.self.inside.store c.args.slot)) ≡ Some p)
   logged c = live_logged g.K.PartialEq.eq (key_hash c.self.inside.store.hasher) (view c) c.self.invariant (keys (view c)) c.args.slot (within c) (live c)
 
-  -- which the closure was shown
+  -- the closure was called with that pair
   said : (c : After-call_closure g) → (agrees : Bool) × Answers g.F.FnMut c.args.agrees.now (logged c).0 agrees c.call_closure.new.agrees × (c.call_closure.result ≡ Yes agrees)
   said c = shown_answers g.F.FnMut c.args.agrees.now c.call_closure.new.agrees (logged c).0 (pair_of c.self.inside.store c.pair.result) c.call_closure.result
       (ap (pair_of c.self.inside.store) (c.pair.ensures ∙ ap number_of (word_is c)) ∙ (logged c).1) c.call_closure.ensures.shown

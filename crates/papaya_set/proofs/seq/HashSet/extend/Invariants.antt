@@ -2,6 +2,6 @@ use Rattle.papaya_seq.specs.Entries.{Fills}
 use Rattle.papaya_set.specs.Sets.{entry_of_key}
 use Rattle.papaya_set.proofs.seq.HashSet.extend.Given as goal
 
--- The keys that came were inserted.
+-- The keys so far were inserted.
 abbrev pub invariant-loop-key : goal.invariant-loop-key
 invariant-loop-key g l = Fills g.K.PartialEq.eq entry_of_key l.fn.self l.yielded l.self

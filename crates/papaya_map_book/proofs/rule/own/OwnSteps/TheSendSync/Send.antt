@@ -1,4 +1,4 @@
--- The type owns nothing, so a value of it may go to another thread.
+-- The type owns nothing, so a value of it may be sent to another thread.
 use denote.RattleType.{RattleType}
 use denote.Param.Send.{IsSend, owning_send, sendable}
 use Rattle.papaya_map_book.specs.contracts.rule.own.OwnSteps.{the_row, the_type}
