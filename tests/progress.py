@@ -44,11 +44,9 @@ def text_of(path):
 
 
 def crates():
-    """The crates of crates.txt, and those that have tests."""
+    """The crates of crates.txt."""
     with open(f"{TOP}/crates.txt", encoding="utf-8") as it:
-        every = re.findall(r"^(\w+) *:", it.read(), re.M)
-    sources = {it: glob.glob(f"{TOP}/crates/{it}/src/**/*.rt", recursive=True) for it in every}
-    return every, [it for it in every if any("#[test]" in text_of(path) for path in sources[it])]
+        return re.findall(r"^(\w+) *:", it.read(), re.M)
 
 
 def refused(room, what):
@@ -56,32 +54,28 @@ def refused(room, what):
     return len(re.findall(r"^\w+: \S+: refused", text_of(f"{room}/{what}"), re.M))
 
 
-def unproved(room):
-    """Are the tests compiled that are not proved?"""
+def tests(room):
+    """Are the tests compiled?"""
     return any(os.path.isfile(it) for it in glob.glob(f"{room}/programs/*_tests"))
 
 
-def done(room, every, with_tests):
+def done(room, every):
     """How much of each kind is done, and the crates that are begun."""
     proved = set(re.findall(r"^rt: (\w+)(?: proved$| is kept:)", text_of(f"{room}/proofs"), re.M))
-    # (rt ci takes away what is built before it begins)
-    out = {it: f"{TOP}/crates/{it}/out" for it in every}
-    tested = [it for it in with_tests if os.path.exists(f"{out[it]}/{it}_tests")]
-    parts = [f"{len(proved)} of {len(every)} crates proved, the tests of {len(tested)} of {len(with_tests)}"]
+    parts = [f"{len(proved)} of {len(every)} crates proved"]
     for what, files in [("edits", "crates/*/must-fail-together"), ("twins", "tests/twins")]:
         parts.append(f"{refused(room, what)} of {len(glob.glob(f'{TOP}/{files}/*.edit'))} {what} refused")
-    parts.append(f"unproved tests {'' if unproved(room) else 'not yet '}compiled")
-    begun = [it for it in every if it not in proved and os.path.isdir(out[it])]
-    begun += [f"{it} (its tests)" for it in with_tests if it in proved and it not in tested]
-    return parts, begun
+    parts.append(f"tests {'' if tests(room) else 'not yet '}compiled")
+    # (rt ci takes away what is built before it begins)
+    return parts, [it for it in every if it not in proved and os.path.isdir(f"{TOP}/crates/{it}/out")]
 
 
 def main(room):
     print(told_first(), flush=True)
-    began, (every, with_tests) = time.time(), crates()
+    began, every = time.time(), crates()
     while True:
         time.sleep(60)
-        parts, begun = done(room, every, with_tests)
+        parts, begun = done(room, every)
         now = text_of(f"{room}/now").strip() or "proofs"
         names = f": {' '.join(begun)}" if now == "proofs" and begun else ""
         print(f"gate: {(time.time() - began) / 60:.0f} min: {'; '.join(parts)}; going on: {now}{names}", flush=True)

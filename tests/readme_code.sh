@@ -1,5 +1,5 @@
 #!/usr/bin/env bash
-# The documents quote the sources word for word: the Rust code of README.md stands in papaya_uses, where it is
+# The documents quote the sources word for word: the Rust code of README.md stands in papaya_uses and shop, where it is
 # proved, that of docs/GUIDE.md in any crate or its tests, the definitions of docs/GUIDE.md and docs/DEFINITIONS.md in specs/,
 # and the calls of docs/SIGNATURES.md in the sources. Examples in the comments of calls stand in papaya_uses_tests,
 # which runs them (quoted_examples.py). README and CHANGELOG name the release and the kit of VERSION. Links between
@@ -44,7 +44,7 @@ stands() {
     fi
 }
 
-quoted README.md rust crates/papaya_uses/src/*.rt
+quoted README.md rust crates/papaya_uses/src/*.rt crates/shop/src/main.rt
 mapfile -t sources < <(find crates/*/src tests/crates -name '*.r[ts]')
 quoted docs/GUIDE.md rust "${sources[@]}"
 quoted docs/GUIDE.md antt crates/papaya_uses/specs/*.antt

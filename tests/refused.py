@@ -1,10 +1,9 @@
 """Runs tests with requests for memory refused to them, or answered late.
 
-    python3 tests/refused.py [--programs FOLDER] [CRATE..]
+    python3 tests/refused.py --programs FOLDER [CRATE..]
 
-What runs is the program of the crate's tests that stands in the folder, or the one there of all tests that are not
-proved (tests/run_tests.py), or else the one that `rt ci` or `rt test` has proved and built. Tests of the first kind run once for
-each request that they make, with just that one refused. Those of the second kind run once, and tell what is to
+The folder has the program of the crate's tests, or that of all tests (tests/run_tests.py). Tests of the first kind run once
+for each request that they make, with just that one refused. Those of the second kind run once, and tell what is to
 be refused, while a call of theirs runs: a request for a number of bytes that no test needs is a word (crate
 papaya_testing). By such a word a test also tells which request is to be answered late, when other threads are done.
 Each has to pass, and each of the second kind has to be refused something, or to get an answer late. The requests are
@@ -116,7 +115,7 @@ void *realloc(void *block, size_t size) {
 }
 """
 
-# The program of the tests that are not proved (tests/unproved.py).
+# The program of all tests (tests/unproved.py).
 TOGETHER = "papaya_tests"
 
 # Of one run, in seconds. A loaded machine takes far longer than one that does nothing else.
@@ -203,14 +202,15 @@ def refuse_told(tests):
 
 def program_of(crate, programs):
     """The program of a crate's tests."""
-    built, stands = f"{TOP}/crates/{crate}/out/{crate}_tests", os.path.isdir(f"{TOP}/crates/{crate}")
-    compiled = [f"{programs}/{it}" for it in ([crate] if stands else [crate, TOGETHER])] if programs else []
-    return next((it for it in compiled if os.path.exists(it)), built)
+    own = f"{programs}/{crate}"
+    return own if os.path.exists(own) else f"{programs}/{TOGETHER}"
 
 
 def main(words):
-    programs = words[1] if words[:1] == ["--programs"] else None
-    crates, results = words[2:] if programs else words, []
+    if words[:1] != ["--programs"] or not words[1:]:
+        print("refused.py: name the folder of the programs: --programs FOLDER", file=sys.stderr)
+        return 2
+    programs, crates, results = words[1], words[2:], []
     with tempfile.TemporaryDirectory() as folder:
         library = build(folder)
         for kind, refuse in [(TOLERANT, refuse_each), (TELLING, refuse_told)]:

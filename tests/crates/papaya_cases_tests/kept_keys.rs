@@ -1,9 +1,9 @@
 // A stored key stays if an equal one is inserted: in maps, for one caller and shared.
 use crate::expect::is;
-use crate::labels::{Labelled, seven};
 use papaya_call::answers::Operation;
 use papaya_map::map;
 use papaya_seq::seq;
+use papaya_testing::labels::{Labelled, seven};
 use papaya_words::refused::Refused;
 use papaya_words_keys::results::Compute;
 use std::alloc::Global;

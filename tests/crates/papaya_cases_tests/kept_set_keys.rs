@@ -1,7 +1,7 @@
 // A stored key stays if an equal one is inserted: in sets, for one caller and shared.
 use crate::expect::is;
-use crate::labels::{Labelled, seven};
 use papaya_set::{seq, set};
+use papaya_testing::labels::{Labelled, seven};
 use papaya_words::refused::Refused;
 use std::process::Abort;
 use std::sync::Wait;

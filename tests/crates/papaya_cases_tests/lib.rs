@@ -22,8 +22,6 @@ mod kept_set_keys;
 #[cfg(test)]
 mod key_steps;
 #[cfg(test)]
-mod labels;
-#[cfg(test)]
 mod maps;
 #[cfg(test)]
 mod refused;

@@ -1,9 +1,10 @@
 // Sets of clones of a set's keys, sets that are reclaimed, and what the shared ones and their
 // guards, passes and sessions print.
 use crate::expect::{is, prints};
-use crate::labels::{Keys, Labelled, any, key};
+use crate::labels::{Keys, any, key};
 use papaya_map::session::Session;
 use papaya_set::seq::HashSet;
+use papaya_testing::labels::Labelled;
 use papaya_words::refused::Refused;
 use std::alloc::Global;
 use std::process::Abort;

@@ -1,8 +1,9 @@
 // Calls of a set that overlap: a closure or a reference of one thread, and changes by others.
 use crate::expect::is;
-use crate::labels::{Keys, Labelled, MODES, any, key, made};
+use crate::labels::{Keys, MODES, any, key, made};
 use papaya_testing::crossing::Crossing;
 use papaya_testing::gate::{Gate, Peek};
+use papaya_testing::labels::Labelled;
 use papaya_words::refused::Refused;
 use papaya_words::resize_mode::ResizeMode;
 use std::alloc::Global;

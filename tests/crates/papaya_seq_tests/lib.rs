@@ -1,6 +1,6 @@
 //! Tests of the map for one caller.
 //! It uses `papaya_seq` and the helpers of `papaya_testing`.
-//! No crate builds on it.
+//! They are compiled and run, and not proved. No crate builds on it.
 #![tactic(auto)]
 
 #[cfg(test)]

@@ -1,57 +1,16 @@
 // The stored key stays if its value is replaced. The keys here are equal if their numbers are, so
 // that a label shows which of them is stored.
-ghost use Rattle.std.specs.Prelude.{◌≡◌, ◌==◌};
-ghost use Rattle.std.proofs.Common.{ap};
-ghost use Rattle.std.specs.Cmp.{nat_eq_equiv, on_equiv, partial_equiv_from_equiv, unsigned_Decides};
-ghost use Rattle.std.specs.Hash as fed;
-
 use crate::expect::is;
 use papaya_call::answers::Operation;
 use papaya_seq::seq::HashMap;
+use papaya_testing::labels::{Labelled, seven};
 use papaya_words::refused::Refused;
 use papaya_words_keys::results::Compute;
 use std::alloc::Global;
-use std::hash::{Hash, Hasher};
 use std::process::Abort;
 use std::test::Fail;
 
-/// A number with a label that comparisons ignore.
-#[derive(Clone, Copy)]
-struct Labelled {
-    number: u64,
-    label: char,
-}
-
-impl PartialEq for Labelled {
-    ghost eq = { λ x y. x.number == y.number };
-
-    ghost laws = { partial_equiv_from_equiv (on_equiv (λ key. key.number) nat_eq_equiv) };
-
-    fn eq(&self, other: &Labelled) -> bool {
-        self.number == other.number
-    }
-}
-
-impl Eq for Labelled {
-    ghost laws = { on_equiv (λ key. key.number) nat_eq_equiv };
-}
-
-impl Hash for Labelled {
-    ghost hash_input = { λ key. fed.u64 key.number };
-
-    ghost respects_eq = { λ x y same. ap fed.u64 ((unsigned_Decides x.number y.number).0 same) };
-
-    fn hash<H: Hasher>(&self, state: &mut H) {
-        self.number.hash(state);
-    }
-}
-
 type Keys = HashMap<Labelled, u64>;
-
-/// Returns key 7 with this label.
-fn seven(label: char) -> Labelled {
-    Labelled { number: 7, label }
-}
 
 /// Returns the label of the stored key, and its value.
 fn stored(map: &Keys) -> Option<(char, u64)> {

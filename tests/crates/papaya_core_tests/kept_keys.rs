@@ -1,53 +1,17 @@
 // A call that stores a value where a key is found keeps the stored key. The keys here are equal if
 // their numbers are, and a label shows which of them is stored.
-ghost use Rattle.std.specs.Prelude.{◌≡◌, ◌==◌};
-ghost use Rattle.std.proofs.Common.{ap};
-ghost use Rattle.std.specs.Cmp.{nat_eq_equiv, on_equiv, partial_equiv_from_equiv, unsigned_Decides};
-ghost use Rattle.std.specs.Hash as fed;
-
 use crate::expect::{is, is_at};
 use crate::plain::{MODES, WHOLE};
 use papaya_call::answers::{Listed, Operation};
 use papaya_call::call::{Call, Reply};
 use papaya_core::schedule::Core;
 use papaya_core_timeline::outcome::Outcome;
+use papaya_testing::labels::{Labelled, seven};
 use papaya_testing::times::{APART, TOGETHER, Times};
 use papaya_words::resize_mode::ResizeMode;
 use std::alloc::Global;
-use std::hash::{Hash, Hasher};
 use std::process::Abort;
 use std::test::Fail;
-
-/// A number with a label that comparisons ignore.
-#[derive(Clone, Copy)]
-struct Labelled {
-    number: u64,
-    label: char,
-}
-
-impl PartialEq for Labelled {
-    ghost eq = { λ x y. x.number == y.number };
-
-    ghost laws = { partial_equiv_from_equiv (on_equiv (λ key. key.number) nat_eq_equiv) };
-
-    fn eq(&self, other: &Labelled) -> bool {
-        self.number == other.number
-    }
-}
-
-impl Eq for Labelled {
-    ghost laws = { on_equiv (λ key. key.number) nat_eq_equiv };
-}
-
-impl Hash for Labelled {
-    ghost hash_input = { λ key. fed.u64 key.number };
-
-    ghost respects_eq = { λ x y same. ap fed.u64 ((unsigned_Decides x.number y.number).0 same) };
-
-    fn hash<H: Hasher>(&self, state: &mut H) {
-        self.number.hash(state);
-    }
-}
 
 type Labels = Core<Labelled, u64, Times, Listed<u64>>;
 
@@ -60,11 +24,6 @@ enum Step {
     Compute(char, u64),
     Remove(char),
     Get(char),
-}
-
-/// Returns key 7 with this label.
-fn seven(label: char) -> Labelled {
-    Labelled { number: 7, label }
 }
 
 impl Step {

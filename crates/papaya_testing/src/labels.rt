@@ -1,4 +1,4 @@
-// Keys that are equal if their numbers are. A label tells which of them is stored.
+//! Keys that are equal if their numbers are. A label shows which of them is stored.
 ghost use Rattle.std.specs.Prelude.{◌≡◌, ◌==◌};
 ghost use Rattle.std.proofs.Common.{ap};
 ghost use Rattle.std.specs.Cmp.{nat_eq_equiv, on_equiv, partial_equiv_from_equiv, unsigned_Decides};
@@ -7,9 +7,9 @@ ghost use Rattle.std.specs.Hash as fed;
 use std::hash::{Hash, Hasher};
 
 /// A number with a label that comparisons ignore.
-#[derive(Clone, Copy)]
+#[derive(Clone, Copy, Debug)]
 pub struct Labelled {
-    number: u64,
+    pub number: u64,
     pub label: char,
 }
 

@@ -1,6 +1,6 @@
 //! Tests of words, of machines, and of `Core` under schedules.
 //! It uses `papaya_core` and the helpers of `papaya_testing`.
-//! No crate builds on it.
+//! They are compiled and run, and not proved. No crate builds on it.
 #![tactic(auto)]
 
 #[cfg(test)]

@@ -1,6 +1,6 @@
 //! Tests of the programs `papaya-run` and `papaya-bench`, over readers and writers in memory.
 //! It uses `papaya_run_lines` and `papaya_bench_measure`.
-//! No crate builds on it.
+//! They are compiled and run, and not proved. No crate builds on it.
 #![tactic(auto)]
 
 #[cfg(test)]
