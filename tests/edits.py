@@ -28,7 +28,7 @@ TOGETHER = "must-fail-together"
 STANDS = ("no holes", "depends on a hole")
 
 # So many edits at most are made in one copy: a check of more would keep one processor long after all else.
-AT_ONCE = 60
+AT_ONCE = 30
 
 
 def extents(lines, name):
