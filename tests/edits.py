@@ -1,7 +1,7 @@
 """Tries the edits of crates/*/must-fail-together: wrong bodies that the check must refuse, many in one copy
 of their crate.
 
-    python3 tests/edits.py [CRATE..]
+    python3 tests/edits.py [--right] [CRATE..]
 
 An edit has the lines of those in must-fail/, and before them `fn:`, the function that it spoils, as a check names
 it below its crate. In the copy the spoiled function stands beside the right one, under a name of its own, with the
@@ -9,18 +9,29 @@ same contract and the same answers by hand. So nothing calls it, and a function 
 trait and a function whose whole proof is by hand can stand there but once: these are spoiled themselves, and no
 other function that is tried may call them. A copy's check looks at the spoiled functions, and takes what they call at
 its word (standing.py): `rt ci` proves that. Each of them has to be refused at a goal of its own, and methods of traits
-that they call be proved. A copy of which that cannot be said is tried once more, beside the proofs of what they call. A
-copy whose edits an earlier run on this machine saw refused, over all that it reads, is not tried again.
+that they call be proved.
+
+`goal:` names the goal at which the wrong body is refused, as a check offers it: `returns-in-Some c`. The prover searches
+for a proof of this goal alone (goals.py). Without `goal:` it searches for each, and then the line to add is printed.
+
+An edit of which that cannot be said is tried once more, without `goal:`, and then beside the proofs of what its function
+calls. A copy whose edits an earlier run on this machine saw refused, over all that it reads, is not tried again.
+
+With --right the right functions stand in place of the wrong ones: the same search has to find a proof of the named goal,
+where the right function has that goal. So what refuses the wrong body is not that the search is too weak. The gate does
+not do this: do it when you name a goal.
 """
 
 import os
 import re
 import shutil
 import sys
+from enum import Enum
 
+import goals
 from kept import Try
 from prover import LOST, NAMED, TOP, Bad, Change, below, check, copy_of, digest, entries_of, try_all, verdicts_of
-from standing import is_of_trait, take_at_word
+from standing import is_of_trait, take_at_word, text_of
 
 TOGETHER = "must-fail-together"
 
@@ -54,10 +65,20 @@ class Edit(Change):
         self.file = self.pairs[0][0]
         # (as a check names it below the copy)
         self.function = self.words["fn"]
+        self.is_wrong, self.is_beside = True, False
 
     def short(self):
         """The last part of the function's name in the copy."""
         return self.function.rpartition("::")[2]
+
+    def goal(self):
+        """The goal at which the edit has to be refused, as a check offers it, or nothing."""
+        return self.words.get("goal", "")
+
+    def is_searched(self, crate):
+        """Is the named goal one that is searched for, and the function one that can stand beside the right one?"""
+        folder = f"{TOP}/crates/{crate}/proofs/{self.function.replace('::', '/')}"
+        return bool(self.goal()) and not goals.has_answer(folder, self.goal())
 
     def make(self, source, copy, number):
         """Makes the change in a copy of these sources: in a function of its own with this number, where it can."""
@@ -75,11 +96,11 @@ class Edit(Change):
 
     def make_beside(self, copy, right, number):
         """Puts the spoiled function behind the right one."""
-        name, wrong = f"{self.short()}_spoiled_{number}", right
+        name, wrong, self.is_beside = f"{self.short()}_spoiled_{number}", right, True
         for _, old, new in self.pairs:
             if wrong.count(old) != 1:
                 raise Bad(f"{self.name}: its function has this text {wrong.count(old)} times, and not once: {old}")
-            wrong = wrong.replace(old, new)
+            wrong = wrong.replace(old, new) if self.is_wrong else wrong
         wrong = re.sub(rf"\bfn {self.short()}\b", f"fn {name}", wrong, count=1)
         text = open(f"{copy}/{self.file}", encoding="utf-8").read()
         with open(f"{copy}/{self.file}", "w", encoding="utf-8") as it:
@@ -98,6 +119,19 @@ class Edit(Change):
                 for at, _, names in os.walk(f"{proofs}/{other}"):
                     for it in names:
                         rename(f"{at}/{it}", folder.replace("/", "."), other.replace("/", "."))
+
+    def answer(self, copy, crate):
+        """Has the check of a copy search for a proof of the named goal alone."""
+        goals.answer(f"{copy}/proofs/{self.function.replace('::', '/')}", f"{crate}::{self.function}", self.goal())
+        path = f"{copy}/{self.file}"
+        lines = text_of(path).split("\n")
+        head = extents(lines, self.short())[0][0]
+        own = next(at for at in range(head, len(lines)) if re.search(rf"\bfn {self.short()}\b", lines[at]))
+        if not self.is_beside or any("tactic(" in it for it in lines[head:own]):
+            raise Bad(f"{crate}/{self.name}: its function is one of a trait, or names lemmas for its searches: the edit can name no goal")
+        lines.insert(head, "#[tactic(none)]")
+        with open(path, "w", encoding="utf-8") as it:
+            it.write("\n".join(lines))
 
     def place(self, copy):
         """The file and the lines of the copy in which the spoiled function stands."""
@@ -134,47 +168,88 @@ def rename(file, old, new):
         it.write(re.sub(rf"\bproofs\.{re.escape(old)}\.", f"proofs.{new}.", text))
 
 
-def make_copy(room, crate, edits, with_holes):
+class Way(Enum):
+    """How edits are tried: the goals that are searched for, and whether the functions that theirs call are proved."""
+
+    NAMED = "at the goal that it names"
+    ANY = "at a goal of its own"
+    PROVED = "at a goal of its own, beside the proofs of what it calls"
+
+
+def make_copy(room, crate, edits, way):
     """Makes these edits in one copy of the crate, and returns what an earlier run may have kept of it."""
     copy_of(crate, f"{room}/{crate}")
     for number, edit in enumerate(edits):
         edit.make(f"{TOP}/crates/{crate}", f"{room}/{crate}", number)
-    if with_holes:
+        if way is Way.NAMED and edit.goal():
+            edit.answer(f"{room}/{crate}", crate)
+    if way is not Way.PROVED:
         take_at_word(f"{room}/{crate}", crate, [it.function for it in edits])
     return Try("edits", room, crate, [], [(it.name, it.words, it.pairs) for it in edits])
 
 
 def try_copy(room, crate, edits):
-    """Tries these edits in one copy of the crate, and says how each was refused. If not all of them are where the right
-    functions are taken at their word, they are tried once more beside the proofs of these."""
-    try:
-        return try_once(f"{room}/short", crate, edits, True)
-    except Bad as why:
-        print(f"edits: {why}\nedits: {crate}: once more, with all proofs", flush=True)
-    return try_once(f"{room}/whole", crate, [Edit(crate, f"{it.name}.edit") for it in edits], False)
+    """Tries these edits in one copy of the crate, and says how each was refused. Those that are not are tried once more, in
+    a way that takes longer."""
+    told = []
+    for way in Way:
+        refused, left = try_once(f"{room}/{way.name}", crate, edits, way)
+        told += refused
+        if not left:
+            return told
+        edits = [Edit(crate, f"{it.name}.edit") for it in left]
+    raise Bad(f"{crate}: NOT REFUSED: {' '.join(it.name for it in edits)}")
 
 
-def try_once(room, crate, edits, with_holes):
-    """Makes these edits in one copy of the crate, checks their functions, and says how each was refused."""
-    kept = make_copy(room, crate, edits, with_holes)
+def try_once(room, crate, edits, way):
+    """Makes these edits in one copy of the crate, and checks their functions. Returns how those were refused that were, and
+    the others."""
+    kept = make_copy(room, crate, edits, way)
     earlier = kept.refused_earlier()
     if earlier:
-        return [it.replace(": refused, as it must be: ", ": refused by an earlier run: ", 1) for it in earlier]
+        return [it.replace(": refused, as it must be: ", ": refused by an earlier run: ", 1) for it in earlier], []
     places = [it.place(f"{room}/{crate}") for it in edits]
-    said = check(room, crate, [], [it.function for it in edits], *(["--allow-holes"] if with_holes else []))
+    said = check(room, crate, [], [it.function for it in edits], *(["--allow-holes"] if way is not Way.PROVED else []))
     verdicts = {it.removeprefix(f"{crate}::"): verdict for it, verdict in verdicts_of(said).items()}
-    stands = STANDS if with_holes else ("proved",)
+    stands = ("proved",) if way is Way.PROVED else STANDS
     others = [it for it, verdict in verdicts.items() if verdict not in stands and not any(edit.is_of(it) for edit in edits)]
     if others or not verdicts:
-        raise Bad(f"{crate}: these do not stand beside the edits: {' '.join(others) or 'all'}\n{digest(said)}")
-    told = []
+        print(f"edits: {crate}: these do not stand beside the edits: {' '.join(others) or 'all'}\n{digest(said)}", flush=True)
+        return [], edits
+    told, left = [], []
     for edit, place in zip(edits, places):
-        verdict, lines = verdicts.get(edit.function), edit.told(crate, place, said)
-        if verdict not in ("not proved", "no proof") or not lines:
-            raise Bad(f"{crate}/{edit.name}: NOT REFUSED at a goal of its own ({verdict})\n{digest(said)}")
+        is_named = way is Way.NAMED and edit.goal()
+        lines = goals.told(edit.function, edit.goal(), said) if is_named else edit.told(crate, place, said)
+        if verdicts.get(edit.function) not in ("not proved", "no proof") or not lines:
+            print(f"edits: {crate}/{edit.name}: not refused {way.value} ({verdicts.get(edit.function)})\n{digest(said)}", flush=True)
+            left.append(edit)
+            continue
         told.append(f"{crate}/{edit.name}: refused, as it must be: {lines[0][:160]}")
+        if edit.is_beside and not is_named and goals.line_of(crate, edit.function, said):
+            print(f"edits: {crate}/{edit.name}: name its goal: {goals.line_of(crate, edit.function, said)}", end="", flush=True)
     print(f"edits: {crate}, {len(edits)} in one copy: {said.splitlines()[-1]}", flush=True)
-    kept.keep(told)
+    if not left:
+        kept.keep(told)
+    return told, left
+
+
+def try_right(room, crate, edits):
+    """Makes the right functions in place of the wrong ones, and says whether their named goals are proved by the same search."""
+    edits = [it for it in edits if it.is_searched(crate)]
+    for it in edits:
+        it.is_wrong = False
+    make_copy(room, crate, edits, Way.NAMED)
+    said = check(room, crate, [], [it.function for it in edits], "--allow-holes") if edits else ""
+    verdicts, told = verdicts_of(said), []
+    for it in edits:
+        name, place = goals.name_of(it.goal()), f"proofs/{it.function.replace('::', '/')}/Answers.antt"
+        errors = [entry for entry in entries_of(said) if re.match(rf"(\./)?{re.escape(place)}:.* error: ", entry)]
+        if any(LOST.search(entry) for entry in errors):
+            told.append(f"{crate}/{it.name}: the right function has no goal `{name}`")
+        elif errors or f"{crate}::{it.function}" not in verdicts:
+            raise Bad(f"{crate}/{it.name}: the right function's `{name}` IS NOT PROVED by the search\n{digest(said)}")
+        else:
+            told.append(f"{crate}/{it.name}: the right function's `{name}` is proved")
     return told
 
 
@@ -189,6 +264,8 @@ def copies_of(crate):
 
 
 def main(names):
+    call, done = (try_right, "right functions looked at") if "--right" in names else (try_copy, "refused")
+    names = [it for it in names if it != "--right"]
     # (as `rt ci` builds them: the lowest first)
     every = sorted((it for it in NAMED if os.path.isdir(f"{TOP}/crates/{it}/{TOGETHER}")), key=lambda it: len(below(it)))
     try:
@@ -196,7 +273,7 @@ def main(names):
     except Bad as why:
         print(f"edits: {why}", file=sys.stderr)
         return 1
-    return 0 if try_all("edits", tries, lambda crate, _: below(crate), try_copy) else 1
+    return 0 if try_all("edits", tries, lambda crate, _: below(crate), call, done) else 1
 
 
 sys.exit(main(sys.argv[1:]))

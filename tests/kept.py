@@ -39,7 +39,7 @@ def sum_of(folder):
 def common():
     """The sum of what all tries read: the kit, by its names and its prover, and these scripts."""
     found = hashlib.sha256()
-    scripts = [f"{TOP}/tests/{it}" for it in ("prover.py", "kept.py", "standing.py", "edits.py", "twins.py")]
+    scripts = [f"{TOP}/tests/{it}.py" for it in ("prover", "kept", "standing", "goals", "edits", "twins")]
     for path in [f"{KIT}/KIT-ID", f"{KIT}/WHAT", *scripts]:
         with open(path, "rb") as it:
             found.update(repr((os.path.basename(path), it.read())).encode())

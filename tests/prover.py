@@ -215,7 +215,7 @@ class Turns:
             self.running -= 1
 
 
-def try_all(what, tries, needs, call):
+def try_all(what, tries, needs, call, done="refused"):
     """Makes each of these tries, some at once, each once the crates that it needs are built, and returns whether
     all went well."""
     turns, failures = Turns(), []
@@ -238,5 +238,5 @@ def try_all(what, tries, needs, call):
     # (the gate shows how the output of a part that failed ends)
     for why in failures:
         print(f"{what}: FAILED: {why}", flush=True)
-    print(f"{what}: {refused} refused; {lost} of {len(results)} tries failed", flush=True)
+    print(f"{what}: {refused} {done}; {lost} of {len(results)} tries failed", flush=True)
     return bool(results) and not lost
