@@ -65,7 +65,7 @@ class Edit(Change):
         self.file = self.pairs[0][0]
         # (as a check names it below the copy)
         self.function = self.words["fn"]
-        self.is_wrong, self.is_beside = True, False
+        self.is_wrong, self.may_name = True, False
 
     def short(self):
         """The last part of the function's name in the copy."""
@@ -96,7 +96,9 @@ class Edit(Change):
 
     def make_beside(self, copy, right, number):
         """Puts the spoiled function behind the right one."""
-        name, wrong, self.is_beside = f"{self.short()}_spoiled_{number}", right, True
+        name, wrong = f"{self.short()}_spoiled_{number}", right
+        # (one that lists lemmas for its searches is searched as it says)
+        self.may_name = "tactic(" not in right.partition(f"fn {self.short()}")[0]
         for _, old, new in self.pairs:
             if wrong.count(old) != 1:
                 raise Bad(f"{self.name}: its function has this text {wrong.count(old)} times, and not once: {old}")
@@ -122,14 +124,12 @@ class Edit(Change):
 
     def answer(self, copy, crate):
         """Has the check of a copy search for a proof of the named goal alone."""
+        if not self.may_name:
+            raise Bad(f"{crate}/{self.name}: it can name no goal: its function is one of a trait, or lists lemmas for its searches")
         goals.answer(f"{copy}/proofs/{self.function.replace('::', '/')}", f"{crate}::{self.function}", self.goal())
         path = f"{copy}/{self.file}"
         lines = text_of(path).split("\n")
-        head = extents(lines, self.short())[0][0]
-        own = next(at for at in range(head, len(lines)) if re.search(rf"\bfn {self.short()}\b", lines[at]))
-        if not self.is_beside or any("tactic(" in it for it in lines[head:own]):
-            raise Bad(f"{crate}/{self.name}: its function is one of a trait, or names lemmas for its searches: the edit can name no goal")
-        lines.insert(head, "#[tactic(none)]")
+        lines.insert(extents(lines, self.short())[0][0], "#[tactic(none)]")
         with open(path, "w", encoding="utf-8") as it:
             it.write("\n".join(lines))
 
@@ -225,7 +225,7 @@ def try_once(room, crate, edits, way):
             left.append(edit)
             continue
         told.append(f"{crate}/{edit.name}: refused, as it must be: {lines[0][:160]}")
-        if edit.is_beside and not is_named and goals.line_of(crate, edit.function, said):
+        if edit.may_name and not is_named and goals.line_of(crate, edit.function, said):
             print(f"edits: {crate}/{edit.name}: name its goal: {goals.line_of(crate, edit.function, said)}", end="", flush=True)
     print(f"edits: {crate}, {len(edits)} in one copy: {said.splitlines()[-1]}", flush=True)
     if not left:
