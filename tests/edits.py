@@ -225,8 +225,10 @@ def try_once(room, crate, edits, way):
             left.append(edit)
             continue
         told.append(f"{crate}/{edit.name}: refused, as it must be: {lines[0][:160]}")
-        if edit.may_name and not is_named and goals.line_of(crate, edit.function, said):
-            print(f"edits: {crate}/{edit.name}: name its goal: {goals.line_of(crate, edit.function, said)}", end="", flush=True)
+        folder = f"{room}/{crate}/proofs/{edit.function.replace('::', '/')}"
+        line = goals.line_of(crate, edit.function, said, folder) if edit.may_name and not is_named else ""
+        if line:
+            print(f"edits: {crate}/{edit.name}: name its goal: {line}", end="", flush=True)
     print(f"edits: {crate}, {len(edits)} in one copy: {said.splitlines()[-1]}", flush=True)
     if not left:
         kept.keep(told)

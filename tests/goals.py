@@ -9,11 +9,15 @@ by hand keeps that answer, with the lemmas of the same file that it cites. Answe
 import os
 import re
 
-from prover import LOST, entries_of
+from prover import LOST, Bad, entries_of
 from standing import text_of
 
 # As the prover tries it where a goal has no answer.
 SEARCHES = "first_of (search {common}.rules, grind ({common}.arith, {sets}.common_steps))"
+
+
+# What the prover says of a file that is no file of answers: that shows nothing.
+TORN = re.compile(r"is already declared|this clause follows the signature")
 
 
 def name_of(goal):
@@ -37,7 +41,7 @@ def blocks_of(text):
     """The blocks of a file of answers: its `use` lines, and each definition with the comment before it."""
     blocks, is_comment = [], False
     for line in text.split("\n"):
-        begins = re.match(r"--|use |[^\s:][^:]* :", line) and not is_comment
+        begins = re.match(r"--|use |(?:pub |abbrev )*\S+ :", line) and not is_comment
         if begins or not blocks:
             blocks.append([])
         blocks[-1].append(line)
@@ -69,7 +73,10 @@ def answer(folder, function, goal):
     os.makedirs(folder, exist_ok=True)
     path, module = f"{folder}/Answers.antt", function.replace("::", ".proofs.", 1).replace("::", ".")
     name, has_one = name_of(goal), has_answer(folder, goal)
-    text = cited(text_of(path), name) if os.path.exists(path) else ""
+    text = text_of(path) if os.path.exists(path) else ""
+    if not has_one and name in map(defined_in, blocks_of(text)):
+        raise Bad(f"{function}: `{name}` is a lemma of its answers, and no goal")
+    text = cited(text, name)
     if not has_one:
         common, first = brought_in(text, "Rattle.std.proofs.Common", "common")
         sets, second = brought_in(text, "Rattle.std.proofs.lemmas.Grind", "sets")
@@ -84,24 +91,25 @@ def at_answers(function, said):
     """What a check says of the answers of a function, and of no name that is lost: each goal's name, with the entry."""
     place = re.escape(f"proofs/{function.replace('::', '/')}/Answers.antt")
     told = [(re.match(rf"(?:\./)?{place}:\d+:\d+: error: `([^`]+)`: ", it), it) for it in entries_of(said)]
-    return [(found[1], it) for found, it in told if found and not LOST.search(it)]
+    return [(found[1], it) for found, it in told if found and not LOST.search(it) and not TORN.search(it)]
 
 
 def told(function, goal, said):
-    """What a check says of the refusal of this goal of a function."""
-    return [it for name, it in at_answers(function, said) if name == name_of(goal)]
+    """What a check says of the refusal of this goal of a function. A goal with arguments is one that is searched for."""
+    found = [it for name, it in at_answers(function, said) if name == name_of(goal)]
+    return [it for it in found if goal == name_of(goal) or re.search(r"error: `[^`]+`: `(search|grind)`", it)]
 
 
-def line_of(crate, function, said):
-    """The line that names the goal of an edit, by a check that searched for each. There is none where the prover refuses a
-    closure, or a proof by hand."""
+def line_of(crate, function, said, folder):
+    """The line that names the goal of an edit, by a check that searched for each, and the folder of the function's proofs. There
+    is none where the prover refuses a closure, a lemma of the answers, or a proof by hand."""
     verdict = re.search(rf"^fn {re.escape(f'{crate}::{function}')}: (.*)", said, re.M)
     lacking = re.search(r"`search` did not prove ((?:`[^`]+`(?:, )?)+)", verdict[1] if verdict else "")
     lacking = re.findall(r"`([^`]+)`", lacking[1]) if lacking else []
     place = re.escape(f"proofs/{function.replace('::', '/')}/Answers.antt")
     offer = re.search(rf"^help: .*{place}.*\n((?:(?: .*)?\n)*)", said, re.M)
     offered = re.findall(r"^ +((\S+)(?: \w+)*) = \?$", offer[1] if offer else "", re.M)
-    found = [name for name, _ in at_answers(function, said)]
+    found = [name for name, _ in at_answers(function, said) if has_answer(folder, name)]
     # (a clause says more than what a call requires)
     found += sorted((goal for goal, name in offered if name in lacking), key=lambda it: not it.startswith("returns"))
     return f"goal: {found[0]}\n" if found else ""
