@@ -76,7 +76,7 @@ class Edit(Change):
         return self.words.get("goal", "")
 
     def is_searched(self, crate):
-        """Is the named goal one that is searched for, and the function one that can stand beside the right one?"""
+        """Does it name a goal that is searched for, and has no answer by hand?"""
         folder = f"{TOP}/crates/{crate}/proofs/{self.function.replace('::', '/')}"
         return bool(self.goal()) and not goals.has_answer(folder, self.goal())
 
@@ -244,8 +244,7 @@ def try_right(room, crate, edits):
     said = check(room, crate, [], [it.function for it in edits], "--allow-holes") if edits else ""
     verdicts, told = verdicts_of(said), []
     for it in edits:
-        name, place = goals.name_of(it.goal()), f"proofs/{it.function.replace('::', '/')}/Answers.antt"
-        errors = [entry for entry in entries_of(said) if re.match(rf"(\./)?{re.escape(place)}:.* error: ", entry)]
+        name, errors = goals.name_of(it.goal()), goals.errors_at(it.function, said)
         if any(LOST.search(entry) for entry in errors):
             told.append(f"{crate}/{it.name}: the right function has no goal `{name}`")
         elif errors or f"{crate}::{it.function}" not in verdicts:

@@ -15,7 +15,6 @@ from standing import text_of
 # As the prover tries it where a goal has no answer.
 SEARCHES = "first_of (search {common}.rules, grind ({common}.arith, {sets}.common_steps))"
 
-
 # What the prover says of a file that is no file of answers: that shows nothing.
 TORN = re.compile(r"is already declared|this clause follows the signature")
 
@@ -87,11 +86,16 @@ def answer(folder, function, goal):
         it.write(text)
 
 
-def at_answers(function, said):
-    """What a check says of the answers of a function, and of no name that is lost: each goal's name, with the entry."""
+def errors_at(function, said):
+    """The errors that a check tells of the answers of a function."""
     place = re.escape(f"proofs/{function.replace('::', '/')}/Answers.antt")
-    told = [(re.match(rf"(?:\./)?{place}:\d+:\d+: error: `([^`]+)`: ", it), it) for it in entries_of(said)]
-    return [(found[1], it) for found, it in told if found and not LOST.search(it) and not TORN.search(it)]
+    return [it for it in entries_of(said) if re.match(rf"(\./)?{place}:\d+:\d+: error: ", it)]
+
+
+def at_answers(function, said):
+    """The errors that tell of an answer, and not of a lost name or a torn file: each with the name of the goal or lemma."""
+    named = [(re.search(r" error: `([^`]+)`: ", it), it) for it in errors_at(function, said)]
+    return [(found[1], it) for found, it in named if found and not LOST.search(it) and not TORN.search(it)]
 
 
 def told(function, goal, said):
