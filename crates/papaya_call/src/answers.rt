@@ -36,12 +36,17 @@ pub trait Answers<K, V> {
 /// Results that are listed in advance, whatever the closure is called with.
 ///
 /// After the last one, `op` returns `Abort(0)`, and `yes` returns `false`.
-#[derive(Drop)]
 pub struct Listed<V> {
     /// The results of `op`, the first one first.
     pub ops: Vec<Operation<V, u64>>,
     /// The results of `yes`, the first one first.
     pub yes: Vec<bool>,
+}
+
+impl<V: Drop> Drop for Listed<V> {
+    fn drop(self) {
+        let Self { ops: _, yes: _ } = self;
+    }
 }
 
 impl<K, V: Drop> Answers<K, V> for Listed<V> {

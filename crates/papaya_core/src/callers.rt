@@ -9,7 +9,6 @@ use std::marker::Model;
 
 /// The callers that ever began a call, in the order of their first begins. A large caller number
 /// takes no more memory than a small one.
-#[derive(Drop)]
 pub struct Callers<K, V, A> {
     seats: Vec<Seat<K, V, A>>,
 }
@@ -21,6 +20,12 @@ impl<K, V, A> Model for Callers<K, V, A> {
     ghost Value = { List (Seat K V A) };
 
     ghost view = { λ c. c.seats.items };
+}
+
+impl<K: Drop, V: Drop, A: Drop> Drop for Callers<K, V, A> {
+    fn drop(self) {
+        let Self { seats: _ } = self;
+    }
 }
 
 /// Returns the first index among the seats with this caller, or the number of seats.

@@ -67,7 +67,6 @@ use std::marker::Model;
 /// the user's own.
 ///
 /// Contracts see the words, the arena of pairs, and the calls under way.
-#[derive(Drop)]
 pub struct Core<K: Hash + Eq, V, S: BuildHasher, A> {
     alloc: Global,
     store: Store<K, V, S>,
@@ -95,6 +94,18 @@ impl<K: Hash + Eq, V, S: BuildHasher, A> Model for Core<K, V, S, A> {
     ghost invariant = { λ c. IsLawfulCore K.eq
         (hash_of K.hash_input S.build_hasher S.Hasher.write S.Hasher.finish c.store.hasher) c.store
         c.callers c.mode × IsCounted K.eq c.store c.callers × IsPowerOfTwo c.initial };
+}
+
+impl<K: Hash + Eq + Drop, V: Drop, S: BuildHasher + Drop, A: Drop> Drop for Core<K, V, S, A> {
+    fn drop(self) {
+        let Self {
+            alloc: _,
+            store: _,
+            callers: _,
+            mode: _,
+            initial: _,
+        } = self;
+    }
 }
 
 /// Returns a value that was passed in as the call's own.

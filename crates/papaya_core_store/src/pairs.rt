@@ -11,7 +11,6 @@ use papaya_call::chain::machine::Machine;
 /// pair names that earlier one, which has it itself.
 ///
 /// It is one enum of the four cases instead of two parts, so that it takes one tag.
-#[derive(Drop)]
 pub enum Pair<K, V> {
     /// The pair brought its key and its value.
     Own(K, V),
@@ -21,6 +20,17 @@ pub enum Pair<K, V> {
     Lent(K, usize),
     /// The pair of the first number brought its key, and that of the second its value.
     Both(usize, usize),
+}
+
+impl<K: Drop, V: Drop> Drop for Pair<K, V> {
+    fn drop(self) {
+        match self {
+            Pair::Own(_, _) => {}
+            Pair::Keyed(_, _) => {}
+            Pair::Lent(_, _) => {}
+            Pair::Both(_, _) => {}
+        }
+    }
 }
 
 /// The key or the value of a call: as it was passed in or returned, or, once it is stored, the

@@ -15,7 +15,6 @@ use std::hash::{BuildHasher, Hash};
 use std::marker::Model;
 
 /// A call that scans a table, under way.
-#[derive(Drop)]
 pub struct Scanning<A> {
     pub scanner: Scanner,
     /// The closure's results that are yet to come.
@@ -24,8 +23,17 @@ pub struct Scanning<A> {
     pub given: Numbers,
 }
 
+impl<A: Drop> Drop for Scanning<A> {
+    fn drop(self) {
+        let Self {
+            scanner: _,
+            answers: _,
+            given: _,
+        } = self;
+    }
+}
+
 /// Numbers of pairs, in the order in which they came. Contracts see them as a list.
-#[derive(Drop)]
 pub struct Numbers {
     listed: Vec<u64>,
 }
@@ -36,6 +44,12 @@ impl Model for Numbers {
     ghost Value = { List ℕ };
 
     ghost view = { λ n. n.listed.items };
+}
+
+impl Drop for Numbers {
+    fn drop(self) {
+        let Self { listed: _ } = self;
+    }
 }
 
 impl Numbers {
@@ -63,7 +77,8 @@ impl Numbers {
     pub fn into_vec(self) -> Vec<u64>
         ensures { result.items ≡ self }
     {
-        self.listed
+        let Self { listed } = self;
+        listed
     }
 }
 

@@ -21,7 +21,6 @@ use std::hash::{BuildHasher, Hash, Hasher};
 use std::marker::Model;
 
 /// The words, the arena, the count, and the words written ahead of the next table.
-#[derive(Drop)]
 pub struct Store<K: Hash + Eq, V, S: BuildHasher> {
     pub(crate) root: u64,
     pub(crate) tables: Vec<Table>,
@@ -43,6 +42,20 @@ impl<K: Hash + Eq, V, S: BuildHasher> Model for Store<K, V, S> {
       count = s.counter;
       hasher = s.hasher;
     } };
+}
+
+impl<K: Hash + Eq + Drop, V: Drop, S: BuildHasher + Drop> Drop for Store<K, V, S> {
+    fn drop(self) {
+        let Self {
+            root: _,
+            tables: _,
+            pairs: _,
+            made: _,
+            counter: _,
+            hasher: _,
+            ahead: _,
+        } = self;
+    }
 }
 
 impl<K: Hash + Eq, V, S: BuildHasher> Store<K, V, S> {

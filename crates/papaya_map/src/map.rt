@@ -45,7 +45,6 @@ use std::marker::Model;
 /// Contracts see what is fixed when the map is created: its book, hasher, resize mode and arenas,
 /// its initial capacity, and its number of shards. They also see the tables that it had from the
 /// start, and the history observed at that point.
-#[derive(Drop)]
 pub struct HashMap<K: Hash + Eq, V, S: BuildHasher = BuildHasherDefault<FoldHasher>> {
     pub(crate) alloc: Global,
     pub(crate) initial: usize,
@@ -71,6 +70,19 @@ impl<K: Hash + Eq, V, S: BuildHasher> Model for HashMap<K, V, S> {
     } };
 
     ghost invariant = { λ m. IsLegalHistory K.eq key_of (history_of m.opened.log) };
+}
+
+impl<K: Hash + Eq + Drop, V: Drop, S: BuildHasher + Drop> Drop for HashMap<K, V, S> {
+    fn drop(self) {
+        let Self {
+            alloc: _,
+            initial: _,
+            count: _,
+            collector: _,
+            book: _,
+            opened: _,
+        } = self;
+    }
 }
 
 /// A pinned map: `HashMapRef` of 0.2.5, but without a guard. Its calls take no guard and record no

@@ -35,7 +35,6 @@ use std::marker::Model;
 /// of tables gave. Or they see the sum of the map's count by which the table after one of those
 /// would be too long. For a map with a limit on entries they see how many numbers were taken for
 /// entries.
-#[derive(Drop)]
 pub struct Pass<K: Hash + Eq, V, S: BuildHasher> {
     pub(crate) number: Option<u64>,
     pub(crate) sight: Seen<K, V, S>,
@@ -56,6 +55,18 @@ impl<K: Hash + Eq, V, S: BuildHasher> Model for Pass<K, V, S> {
     } };
 
     ghost invariant = { λ p. IsLegalHistory K.eq key_of (history_of p.sight.log) };
+}
+
+impl<K: Hash + Eq, V, S: BuildHasher> Drop for Pass<K, V, S> {
+    #[inline(always)]
+    fn drop(self) {
+        let Self {
+            number: _,
+            sight: _,
+            own: _,
+            given: _,
+        } = self;
+    }
 }
 
 impl<K: Hash + Eq, V, S: BuildHasher> Pass<K, V, S> {

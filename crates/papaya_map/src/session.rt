@@ -31,7 +31,6 @@ use std::marker::Model;
 /// `Refused::Capacity` they see its cause: the number that a full arena of tables gave, or the sum
 /// of the count. In a map with a limit on entries, they see how many numbers were taken for
 /// entries.
-#[derive(Drop)]
 pub struct Session<'a, K: Hash + Eq, V, S: BuildHasher = BuildHasherDefault<FoldHasher>> {
     map: HashMapRef<'a, K, V, S>,
     pass: Pass<K, V, S>,
@@ -53,6 +52,13 @@ impl<'a, K: Hash + Eq, V, S: BuildHasher> Model for Session<'a, K, V, S> {
     } };
 
     ghost invariant = { λ s. s.pass.book ≡ s.map.map.book };
+}
+
+impl<'a, K: Hash + Eq, V, S: BuildHasher> Drop for Session<'a, K, V, S> {
+    #[inline(always)]
+    fn drop(self) {
+        let Self { map: _, pass: _ } = self;
+    }
 }
 
 impl<'a, K: Hash + Eq, V, S: BuildHasher> Session<'a, K, V, S> {

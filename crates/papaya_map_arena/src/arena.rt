@@ -57,7 +57,6 @@ pub(crate) struct Location {
 ///
 /// A thread that makes a row holds `making`, so that one thread alone pays for it. Slots of a row
 /// that is not made yet are written ahead, and wait in `ahead`.
-#[derive(Drop)]
 pub struct Arena<T> {
     rows: Vec<RowSlot<T>>,
     first_bits: u32,
@@ -79,6 +78,19 @@ impl<T> Model for Arena<T> {
     ghost view = { λ arena. record { tag = []; buckets = arena.rows.items } };
 
     ghost invariant = { λ arena. AreRows arena.first_bits arena.lanes arena.rows.items };
+}
+
+impl<T: Drop> Drop for Arena<T> {
+    fn drop(self) {
+        let Self {
+            rows: _,
+            first_bits: _,
+            making: _,
+            ahead: _,
+            alloc: _,
+            lanes: _,
+        } = self;
+    }
 }
 
 /// Returns how many bits an index in a part of the first row has, for this capacity.

@@ -10,7 +10,6 @@ use papaya_map_cells::arena_slot::Written;
 use std::marker::{Model, PhantomData};
 
 /// A proof that an arena has a value at a number.
-#[derive(Drop)]
 pub struct Pushed<T> {
     pub(crate) number: usize,
     pub(crate) row: Written<Row<T>>,
@@ -34,6 +33,17 @@ impl<T> Model for Pushed<T> {
     } };
 
     ghost invariant = { λ p. IsAt p.number p.row.value.items p.item.of };
+}
+
+impl<T> Drop for Pushed<T> {
+    #[inline(always)]
+    fn drop(self) {
+        let Self {
+            number: _,
+            row: _,
+            item: _,
+        } = self;
+    }
 }
 
 /// The content of a token, with no bytes.

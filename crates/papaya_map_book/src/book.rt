@@ -33,7 +33,6 @@ use std::hash::{BuildHasher, Hash};
 /// The state that all callers of a map share: its parts, the root, the word that only makers of
 /// tables use, and the word that counts numbers for pairs. `origin` has observed the first entry of
 /// the log alone, and `begun` also the book's name.
-#[derive(Drop)]
 pub struct Book<K: Hash + Eq, V, S: BuildHasher> {
     pub parts: Parts<K, V, S>,
     pub root: Cell<K, V, S>,
@@ -49,6 +48,19 @@ pub struct Book<K: Hash + Eq, V, S: BuildHasher> {
     ghost called: { name_in begun.log ≡ Some begun.book },
     ghost origin_book: { origin.book ≡ begun.book },
     ghost origin_log: { origin.log ≡ Begin (begun_of parts) ∷ [] },
+}
+
+impl<K: Hash + Eq + Drop, V: Drop, S: BuildHasher + Drop> Drop for Book<K, V, S> {
+    fn drop(self) {
+        let Self {
+            parts: _,
+            root: _,
+            maker: _,
+            made: _,
+            begun: _,
+            origin: _,
+        } = self;
+    }
 }
 
 impl<K: Hash + Eq, V, S: BuildHasher> Book<K, V, S> {

@@ -18,7 +18,6 @@ use std::sync::atomic::{AtomicI64, AtomicU64, Ordering};
 ///
 /// As in 0.2.5 each shard has cache lines of its own. There the number of shards is derived from
 /// the machine's processors.
-#[derive(Drop)]
 pub struct Count {
     shards: Vec<CachePadded<AtomicI64>>,
     start: CachePadded<AtomicU64>,
@@ -33,6 +32,15 @@ impl Model for Count {
     ghost view = { λ c. length c.shards.items };
 
     ghost invariant = { λ c. IsPowerOfTwo (length c.shards.items) };
+}
+
+impl Drop for Count {
+    fn drop(self) {
+        let Self {
+            shards: _,
+            start: _,
+        } = self;
+    }
 }
 
 impl Count {

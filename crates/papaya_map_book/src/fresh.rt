@@ -16,12 +16,17 @@ const AHEAD_SLOTS: usize = 1024;
 
 /// Fresh slots, written a few at a time, so that no call pays for a whole table. Their words and
 /// the numbers with their hints hold 0, and no book tracks them.
-#[derive(Drop)]
 pub struct FreshSlots<K: Hash + Eq, V, S: BuildHasher> {
     slots: Vec<Cell<K, V, S>>,
     hints: Vec<HintCell<K, V, S>>,
     ghost fresh: { AreFresh slots.items },
     ghost unsaid: { AreFresh hints.items },
+}
+
+impl<K: Hash + Eq, V, S: BuildHasher> Drop for FreshSlots<K, V, S> {
+    fn drop(self) {
+        let Self { slots: _, hints: _ } = self;
+    }
 }
 
 impl<K: Hash + Eq, V, S: BuildHasher> FreshSlots<K, V, S> {

@@ -17,7 +17,6 @@ use std::sync::{Mutex, MutexGuard, Wait};
 /// the previous table were copied to it. Contracts see it as the keys of its words. The maker of
 /// its next table holds `making`, so that not each thread that needs one pays for it. Slots of that
 /// table are written ahead while this one fills up; `ahead` has none once they were taken.
-#[derive(Drop)]
 pub struct Table<K: Hash + Eq, V, S: BuildHasher> {
     pub limit: usize,
     pub next: Cell<K, V, S>,
@@ -48,6 +47,21 @@ impl<K: Hash + Eq, V, S: BuildHasher> Model for Table<K, V, S> {
         × AllOf t.aborted.book t.done.items × AllOf t.aborted.book t.slots.items
         × IsSize (length t.slots.items) t.limit
         × HoldHints t.aborted.book (map (λ w. w.key) t.slots.items) t.hints.items };
+}
+
+impl<K: Hash + Eq, V, S: BuildHasher> Drop for Table<K, V, S> {
+    fn drop(self) {
+        let Self {
+            limit: _,
+            next: _,
+            aborted: _,
+            done: _,
+            slots: _,
+            hints: _,
+            making: _,
+            ahead: _,
+        } = self;
+    }
 }
 
 impl<K: Hash + Eq, V, S: BuildHasher> Table<K, V, S> {

@@ -34,11 +34,20 @@ pub const LEAST_STORED: usize = 8192;
 ///
 /// It is a lock of the kit with eight places, each on a cache line of its own. Entering writes to
 /// one of them, and reclaiming takes all eight.
-#[derive(Drop)]
 pub struct Reclaiming<M> {
     lock: ShardedLock<M>,
     handles: AtomicU64,
     waiting: CachePadded<AtomicU64>,
+}
+
+impl<M: Drop> Drop for Reclaiming<M> {
+    fn drop(self) {
+        let Self {
+            lock: _,
+            handles: _,
+            waiting: _,
+        } = self;
+    }
 }
 
 impl<M: Reclaim + Drop> Reclaiming<M> {
@@ -200,11 +209,20 @@ fn is_due<M: Reclaim>(map: &M, share: usize) -> bool {
 /// A guard of a map or set that a thread has entered. It derefs to the map, so `entered.pin()` and
 /// `Session::new(&entered)` work as usual. No session, pinned map or reference to an entry outlives
 /// the guard.
-#[derive(Drop)]
 pub struct Entered<'a, M> {
     shared: &'a Reclaiming<M>,
     place: usize,
     guard: ShardedLockReadGuard<'a, M>,
+}
+
+impl<'a, M> Drop for Entered<'a, M> {
+    fn drop(self) {
+        let Self {
+            shared: _,
+            place: _,
+            guard: _,
+        } = self;
+    }
 }
 
 impl<'a, M> Deref for Entered<'a, M> {

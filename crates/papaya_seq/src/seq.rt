@@ -72,7 +72,6 @@ fn resized(done: Result<(), Refused>) -> Reply
 /// In the examples of its calls, `map` is an empty `HashMap<u64, u64>`.
 ///
 /// Contracts see its words and its arena, which represent the finite map that `map_in` computes.
-#[derive(Drop)]
 pub struct HashMap<K: Hash + Eq, V, S: BuildHasher = BuildHasherDefault<FoldHasher>> {
     pub(crate) alloc: Global,
     pub(crate) store: Store<K, V, S>,
@@ -91,6 +90,17 @@ impl<K: Hash + Eq, V, S: BuildHasher> Model for HashMap<K, V, S> {
     ghost invariant = { λ m. IsLawfulMap K.eq
         (hash_of K.hash_input S.build_hasher S.Hasher.write S.Hasher.finish m.store.hasher) m.store
         m.mode m.initial };
+}
+
+impl<K: Hash + Eq + Drop, V: Drop, S: BuildHasher + Drop> Drop for HashMap<K, V, S> {
+    fn drop(self) {
+        let Self {
+            alloc: _,
+            store: _,
+            mode: _,
+            initial: _,
+        } = self;
+    }
 }
 
 impl<K: Hash + Eq + Drop, V: Drop, S: BuildHasher + Drop> HashMap<K, V, S> {

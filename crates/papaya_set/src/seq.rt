@@ -26,7 +26,6 @@ use std::marker::Model;
 /// Contracts see it as the map of its keys to unit values, so its clauses are the map's. The
 /// arena keeps removed keys, and keys that were inserted while an equal one was stored, until
 /// [`HashSet::reclaim`] or until the set is dropped.
-#[derive(Drop)]
 pub struct HashSet<K: Hash + Eq, S: BuildHasher = BuildHasherDefault<FoldHasher>> {
     pub(crate) map: HashMap<K, (), S>,
 }
@@ -37,6 +36,12 @@ impl<K: Hash + Eq, S: BuildHasher> Model for HashSet<K, S> {
     ghost Value = { MapState K (Unit {0}) S };
 
     ghost view = { λ s. s.map };
+}
+
+impl<K: Hash + Eq + Drop, S: BuildHasher + Drop> Drop for HashSet<K, S> {
+    fn drop(self) {
+        let Self { map: _ } = self;
+    }
 }
 
 impl<K: Hash + Eq + Drop, S: BuildHasher + Drop> HashSet<K, S> {

@@ -23,7 +23,6 @@ use std::sync::Wait;
 ///
 /// Contracts see the set as the map of its keys to unit values, and of that map what is fixed when
 /// it is made. So its clauses are those of the map.
-#[derive(Drop)]
 pub struct HashSet<K: Hash + Eq, S: BuildHasher = BuildHasherDefault<FoldHasher>> {
     pub(crate) map: HashMap<K, (), S>,
 }
@@ -36,10 +35,15 @@ impl<K: Hash + Eq, S: BuildHasher> Model for HashSet<K, S> {
     ghost view = { λ s. s.map };
 }
 
+impl<K: Hash + Eq + Drop, S: BuildHasher + Drop> Drop for HashSet<K, S> {
+    fn drop(self) {
+        let Self { map: _ } = self;
+    }
+}
+
 /// A pinned set, on which calls are made: `HashSetRef` of 0.2.5, but without a guard. References
 /// that it returns live as long as the set. Contracts see what they see of the set, and the
 /// history that had been observed at the pin.
-#[derive(Drop)]
 pub struct HashSetRef<'a, K: Hash + Eq, S: BuildHasher> {
     pub(crate) set: &'a HashSet<K, S>,
     pub(crate) keys: HashMapRef<'a, K, (), S>,
@@ -52,6 +56,12 @@ impl<'a, K: Hash + Eq, S: BuildHasher> Model for HashSetRef<'a, K, S> {
     ghost Value = { Pinned K (Unit {0}) S };
 
     ghost view = { λ r. r.keys };
+}
+
+impl<'a, K: Hash + Eq, S: BuildHasher> Drop for HashSetRef<'a, K, S> {
+    fn drop(self) {
+        let Self { set: _, keys: _ } = self;
+    }
 }
 
 impl<K: Hash + Eq + Drop, S: BuildHasher + Drop> HashSet<K, S> {

@@ -14,7 +14,6 @@ use std::marker::Model;
 ///
 /// The shards are plain words. In 0.2.5 each shard has a cache line of its own, and their number
 /// depends on the machine's processors.
-#[derive(Drop)]
 pub struct Counter {
     shards: Vec<i64>,
 }
@@ -33,6 +32,12 @@ impl Model for Counter {
     } };
 
     ghost invariant = { λ c. IsPowerOfTwo (length c.shards.items) };
+}
+
+impl Drop for Counter {
+    fn drop(self) {
+        let Self { shards: _ } = self;
+    }
 }
 
 impl Counter {

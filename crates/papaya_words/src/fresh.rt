@@ -10,12 +10,17 @@ const AHEAD_SLOTS: usize = 1024;
 
 /// Empty slots with hints of 0, written a few at a time, so that no single call pays for a whole
 /// table.
-#[derive(Drop)]
 pub struct FreshWords {
     slots: Vec<u64>,
     hints: Vec<u8>,
     ghost empty: { AreAll 0 slots.items },
     ghost unwritten: { AreAll 0 hints.items },
+}
+
+impl Drop for FreshWords {
+    fn drop(self) {
+        let Self { slots: _, hints: _ } = self;
+    }
 }
 
 impl FreshWords {

@@ -16,7 +16,6 @@ use std::marker::Model;
 /// words are plain; the shared map keeps the same in atomic words.
 ///
 /// It replaces `RawTable` of 0.2.5 and the `State` beside it.
-#[derive(Drop)]
 pub struct Table {
     number: u64,
     limit: usize,
@@ -45,6 +44,21 @@ impl Model for Table {
     } };
 
     ghost invariant = { λ t. length t.hints.items ≡ length t.slots.items };
+}
+
+impl Drop for Table {
+    fn drop(self) {
+        let Self {
+            number: _,
+            limit: _,
+            slots: _,
+            hints: _,
+            next: _,
+            aborted: _,
+            done: _,
+            begin: _,
+        } = self;
+    }
 }
 
 impl Table {

@@ -68,7 +68,6 @@ impl<A: Allocator> Equivalent<String<A>> for TextKey<'_> {
 ///
 /// Here it frees nothing, and only gives its guards their numbers. Collectors are compared by the
 /// number that their maker gave them, and not by address.
-#[derive(Drop)]
 pub struct Collector {
     number: u64,
     guards: AtomicU64,
@@ -80,6 +79,15 @@ impl Model for Collector {
     ghost Value = { ℕ };
 
     ghost view = { λ collector. collector.number };
+}
+
+impl Drop for Collector {
+    fn drop(self) {
+        let Self {
+            number: _,
+            guards: _,
+        } = self;
+    }
 }
 
 impl Collector {

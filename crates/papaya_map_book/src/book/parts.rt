@@ -9,13 +9,24 @@ use std::hash::{BuildHasher, Hash};
 
 /// The hasher, the resize mode, the limit on pairs if there is one, and the arenas of pairs and of
 /// tables. A pair or a table stays where it was stored.
-#[derive(Drop)]
 pub struct Parts<K: Hash + Eq, V, S: BuildHasher> {
     pub hasher: S,
     pub mode: ResizeMode,
     pub limit: Option<u64>,
     pub pairs: Arena<Pair<K, V>>,
     pub tables: boxcar::Vec<Table<K, V, S>>,
+}
+
+impl<K: Hash + Eq + Drop, V: Drop, S: BuildHasher + Drop> Drop for Parts<K, V, S> {
+    fn drop(self) {
+        let Self {
+            hasher: _,
+            mode: _,
+            limit: _,
+            pairs: _,
+            tables: _,
+        } = self;
+    }
 }
 
 /// The first log has what the book was opened with.

@@ -53,7 +53,6 @@ pub(crate) enum Held<K, V> {
 }
 
 /// A pair in the arena of pairs.
-#[derive(Drop)]
 pub struct Pair<K, V> {
     pub(crate) held: Held<K, V>,
 }
@@ -69,6 +68,12 @@ impl<K, V> Model for Pair<K, V> {
     ghost view = { λ p. pair_held p.held };
 
     ghost invariant = { λ p. IsBrought p.held };
+}
+
+impl<K: Drop, V: Drop> Drop for Pair<K, V> {
+    fn drop(self) {
+        let Self { held: _ } = self;
+    }
 }
 
 impl<K, V> Pair<K, V> {
