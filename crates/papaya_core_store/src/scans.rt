@@ -15,22 +15,13 @@ use std::hash::{BuildHasher, Hash};
 use std::marker::Model;
 
 /// A call that scans a table, under way.
+#[derive(Drop)]
 pub struct Scanning<A> {
     pub scanner: Scanner,
     /// The closure's results that are yet to come.
     pub answers: Option<A>,
     /// The numbers of the pairs that it passed to the caller, in order.
     pub given: Numbers,
-}
-
-impl<A: Drop> Drop for Scanning<A> {
-    fn drop(self) {
-        let Self {
-            scanner: _,
-            answers: _,
-            given: _,
-        } = self;
-    }
 }
 
 /// Numbers of pairs, in the order in which they came. Contracts see them as a list.

@@ -22,6 +22,7 @@ use std::sync::{Arc, Wait};
 
 /// A builder of maps, which holds their settings: `HashMapBuilder` of 0.2.5. Contracts see each
 /// setting. If a setting is out of range, the call that builds the map fails.
+#[derive(Drop)]
 pub struct HashMapBuilder<K, V, S = BuildHasherDefault<FoldHasher>> {
     hasher: S,
     collector: Collector,
@@ -45,20 +46,6 @@ impl<K, V, S> Model for HashMapBuilder<K, V, S> {
       shards = b.shards;
       limit = b.limit;
     } };
-}
-
-impl<K, V, S: Drop> Drop for HashMapBuilder<K, V, S> {
-    fn drop(self) {
-        let Self {
-            hasher: _,
-            collector: _,
-            capacity: _,
-            mode: _,
-            shards: _,
-            limit: _,
-            pairs: _,
-        } = self;
-    }
 }
 
 impl<K: Hash + Eq, V> HashMap<K, V, BuildHasherDefault<FoldHasher>> {

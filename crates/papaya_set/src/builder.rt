@@ -24,6 +24,7 @@ use std::sync::{Arc, Wait};
 
 /// The settings of a set that is to be built: `HashSetBuilder` of 0.2.5. Contracts see each
 /// setting. A setting that is out of range is refused when the set is built.
+#[derive(Drop)]
 pub struct HashSetBuilder<K, S = BuildHasherDefault<FoldHasher>> {
     hasher: S,
     collector: Collector,
@@ -47,20 +48,6 @@ impl<K, S> Model for HashSetBuilder<K, S> {
       shards = b.shards;
       limit = b.limit;
     } };
-}
-
-impl<K, S: Drop> Drop for HashSetBuilder<K, S> {
-    fn drop(self) {
-        let Self {
-            hasher: _,
-            collector: _,
-            capacity: _,
-            mode: _,
-            shards: _,
-            limit: _,
-            keys: _,
-        } = self;
-    }
 }
 
 impl<K: Hash + Eq> HashSet<K, BuildHasherDefault<FoldHasher>> {
