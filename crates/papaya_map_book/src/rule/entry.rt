@@ -1,7 +1,8 @@
 //! The entries of the book's log.
 //!
 //! No code builds an entry: only contracts see the log. Its types are those of the tokens and
-//! arenas that the rule of the book is about.
+//! arenas that the rule of the book is about. They write their `Drop` out, since each crate that
+//! drops a token of the book would otherwise prove destructors for all of them.
 ghost use Rattle.logbook.specs.Pages.{Book, book_coded};
 ghost use Rattle.papaya_map_book.specs.Sheets.{Sheet as SheetOf, sheet_coded};
 
@@ -44,10 +45,24 @@ impl Model for Sheet {
     } };
 }
 
+impl Drop for Sheet {
+    fn drop(self) {
+        let Self {
+            book: _,
+            limit: _,
+            next: _,
+            seal: _,
+            done: _,
+            slots: _,
+        } = self;
+    }
+}
+
 /// A table as the log names it.
 pub type Laid = Pushed<Sheet>;
 
 /// The identity of a book.
+#[derive(Drop)]
 pub struct Name {
     number: u64,
     log: u64,
@@ -79,11 +94,33 @@ pub enum Step<K, V> {
     Take(u64),
 }
 
+impl<K, V> Drop for Step<K, V> {
+    fn drop(self) {
+        match self {
+            Step::Open(_) | Step::Link(_, _) => {}
+            Step::Claim(_, _, _) | Step::Bury(_, _, _) | Step::Mark(_, _, _) => {}
+            Step::Place(_, _, _) | Step::Finish(_, _, _) | Step::Replace(_, _, _, _) => {}
+            Step::Close(_, _) | Step::Advance(_, _) | Step::Promote(_, _) => {}
+            Step::Abort(_) | Step::Take(_) => {}
+        }
+    }
+}
+
 /// What a word names: nothing, a pair or a table.
 pub enum Named<K, V> {
     Nothing,
     Pair(Stored<K, V>),
     Table(Laid),
+}
+
+impl<K, V> Drop for Named<K, V> {
+    fn drop(self) {
+        match self {
+            Named::Nothing => {}
+            Named::Pair(_) => {}
+            Named::Table(_) => {}
+        }
+    }
 }
 
 /// The state that the book was opened with: the hasher, the resize mode, the limit on pairs, and
@@ -94,6 +131,18 @@ pub struct Begun<K, V, S> {
     pub limit: Option<u64>,
     pub pairs: Arena<Pair<K, V>>,
     pub tables: boxcar::Vec<Sheet>,
+}
+
+impl<K: Drop, V: Drop, S: Drop> Drop for Begun<K, V, S> {
+    fn drop(self) {
+        let Self {
+            hasher: _,
+            mode: _,
+            limit: _,
+            pairs: _,
+            tables: _,
+        } = self;
+    }
 }
 
 /// An entry of the log.
@@ -112,4 +161,17 @@ pub enum Event<K, V, S> {
     Dealt(u64, u64),
     /// A word was exchanged.
     Stepped(Step<K, V>),
+}
+
+impl<K: Drop, V: Drop, S: Drop> Drop for Event<K, V, S> {
+    fn drop(self) {
+        match self {
+            Event::Wish(_, _, _, _) => {}
+            Event::Draw(_, _, _) => {}
+            Event::Begin(_) => {}
+            Event::Called(_) => {}
+            Event::Dealt(_, _) => {}
+            Event::Stepped(_) => {}
+        }
+    }
 }

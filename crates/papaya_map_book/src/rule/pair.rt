@@ -30,6 +30,12 @@ impl<K, V> Model for Shown<K, V> {
     } };
 }
 
+impl<K: Drop, V: Drop> Drop for Shown<K, V> {
+    fn drop(self) {
+        let Self { key: _, value: _ } = self;
+    }
+}
+
 /// A blank, in slots where no pair is stored yet. It has no bytes. Contracts see a key and a
 /// value of it, as of a pair, but both are named as being where no arena has anything.
 pub struct Nobody<K, V> {
