@@ -126,8 +126,8 @@ impl<'a, K: Hash + Eq, V, S: BuildHasher> Session<'a, K, V, S> {
         } = self.pass.tell(());
     }
 
-    /// Returns a result together with evidence of the history that the session has observed and of
-    /// the changes that it made. A call that creates its own session uses this to state for which
+    /// For this library's own calls. Returns a result together with evidence of the history that the
+    /// session has observed and of the changes that it made. A call that creates its own session uses this to state for which
     /// history its result is correct, and which changes it made: see [`Observed`].
     #[inline(always)]
     pub fn tell<B>(&self, answer: B) -> Saying<B, K, V, S>
