@@ -211,8 +211,9 @@ impl<K: Hash + Eq, S: BuildHasher> HashSet<K, S> {
         &self.map
     }
 
-    /// Records in the set what a pass has observed, as [`HashMap::learn`] does in a map. A call
-    /// that fills a new set uses this. Does nothing at run time.
+    /// For this library's own calls. Records in the set what a pass has observed, as
+    /// [`HashMap::learn`] does in a map. A call that fills a new set uses this. Does nothing at run
+    /// time.
     pub fn learn(&mut self, pass: &Pass<K, (), S>)
         requires { pass.now.book ≡ self.old.book }
         ensures same { HasLearned self.old self.new }
