@@ -1,12 +1,19 @@
-// Each enum that the facade exports, matched only by the facade's names.
+// Each enum and each law that the facade exports, by the facade's names alone.
 use crate::expect::is;
+use papaya::laws::{
+    changes_are_found, clones_are_equal, one_call, one_call_ends, pairs_enter_once, places_differ,
+    words_read_back,
+};
+use papaya::observed::{Observed, Saying};
 use papaya::raw::chain::{CopyAsk, Phase, Resize, ResizerState, Scan, ScanAsk, ScannerState};
 use papaya::raw::{
     Answer, Ask, At, Kind, OpKind, ProbeStep, Search, State, StepKind, Task, Word, chain,
 };
 use papaya::schedule::{Call, Event, Reply, Turn};
 use papaya::seq::{Computed, Outcome};
-use papaya::{Compute, Operation, Refused, ResizeMode};
+use papaya::{Compute, HashMap, NotInserted, Operation, Refused, ResizeMode, Session, seq};
+use papaya_uses::reached::{answer_of, dozen, is_absent, same_keys, value_back};
+use std::hash::{BuildHasherDefault, FoldHasher};
 use std::test::Fail;
 
 /// Returns the code of a word's kind.
@@ -320,5 +327,36 @@ fn enums_of_machines_are_matched_by_name(rt: HostRuntime) -> Result<(), Fail> {
         (true, true),
     );
     is(&rt, is_done(ScannerState::Done), true);
+    Ok(())
+}
+
+/// The hasher of a map that is made without one.
+type Hasher = BuildHasherDefault<FoldHasher>;
+
+#[test]
+fn laws_are_called_by_name() {
+    places_differ();
+    words_read_back();
+    pairs_enter_once::<u64, u64, u64>();
+    one_call::<u64, u64, Hasher, u64, u64>();
+    one_call_ends::<u64, u64, Hasher, u64>();
+    changes_are_found::<u64, u64, Hasher>();
+    clones_are_equal::<u64, u64, Hasher>();
+}
+
+#[test]
+fn results_are_named(rt: HostRuntime) -> Result<(), Fail> {
+    is(&rt, value_back(NotInserted::Value(5)), Some(5));
+    is(&rt, value_back(NotInserted::Logged(&5)), None);
+    is(&rt, is_absent(Reply::Absent), true);
+    is(&rt, is_absent(Reply::Done), false);
+    is(&rt, dozen(rt.alloc())?.slots(), 32);
+    let set: seq::HashSet<u64> = seq::HashSet::new(rt.alloc())?;
+    is(&rt, same_keys(&set, &set), true);
+    let map: HashMap<u64, u64> = HashMap::new(&rt, rt.alloc())?;
+    let saying: Saying<u64, u64, u64, Hasher> = Session::new(&map).tell(7);
+    is(&rt, answer_of(saying), 7);
+    let Observed { answer, marker: _ } = Session::new(&map).tell(8);
+    is(&rt, answer, 8);
     Ok(())
 }
