@@ -13,6 +13,7 @@ use papaya::schedule::{Call, Event, Reply, Turn};
 use papaya::seq::{Computed, Outcome};
 use papaya::{Compute, HashMap, NotInserted, Operation, Refused, ResizeMode, Session, seq};
 use papaya_uses::reached::{answer_of, dozen, is_absent, same_keys, value_back};
+use std::alloc::Global;
 use std::hash::{BuildHasherDefault, FoldHasher};
 use std::test::Fail;
 
@@ -358,5 +359,24 @@ fn results_are_named(rt: HostRuntime) -> Result<(), Fail> {
     is(&rt, answer_of(saying), 7);
     let Observed { answer, marker: _ } = Session::new(&map).tell(8);
     is(&rt, answer, 8);
+    Ok(())
+}
+
+/// Copies a text, which fails only for want of memory.
+fn copy(alloc: Global, text: &str) -> Result<String, Refused> {
+    Ok(text.to_string(alloc)?)
+}
+
+#[test]
+fn asks_and_collectors_are_printed(rt: HostRuntime) -> Result<(), Fail> {
+    let ask = format!(in rt.alloc(); "{:?}", chain::Ask::Copy(CopyAsk::HashOf(3)))?;
+    is(&rt, ask.as_str(), "Copy(HashOf(3))");
+    let answer = format!(in rt.alloc(); "{:?}", chain::Answer::Count(2))?;
+    is(&rt, answer.as_str(), "Count(2)");
+    let scan = format!(in rt.alloc(); "{:?}", ScanAsk::Given(6))?;
+    is(&rt, scan.as_str(), "Given(6)");
+    let collector = format!(in rt.alloc(); "{:?}", Collector::new(3))?;
+    is(&rt, collector.as_str(), "Collector { number: 3, .. }");
+    is(&rt, copy(rt.alloc(), "a")?.as_str(), "a");
     Ok(())
 }
