@@ -2,8 +2,8 @@
 # The documents quote the sources word for word: the Rust code of README.md stands in papaya_uses and shop, where it is
 # proved, that of docs/GUIDE.md in any crate or its tests, the definitions of docs/GUIDE.md and docs/DEFINITIONS.md in specs/,
 # and the calls of docs/SIGNATURES.md in the sources. Examples in the comments of calls stand in papaya_uses_tests,
-# which runs them (quoted_examples.py). README and CHANGELOG name the release and the kit of VERSION. Links between
-# documents find their headings (links.py).
+# which runs them (quoted_examples.py). papaya/specs re-export what contracts cite (reexports.py). README and CHANGELOG
+# name the release and the kit of VERSION. Links between documents find their headings (links.py).
 set -euo pipefail
 cd "$(dirname "${BASH_SOURCE[0]}")/.."
 
@@ -53,6 +53,8 @@ quoted docs/DEFINITIONS.md text crates/papaya_*/specs/*.antt
 stands 'docs/SIGNATURES.md and docs/CONTRACTS.md' "$(tools/signatures --check)" 'signatures: 2 passed, 0 failed'
 stands 'examples in comments' "$(python3 -B tests/quoted_examples.py 2>&1 | sed 's/[0-9]* passed/all passed/')" \
     'quoted_examples.py: all passed, 0 failed'
+stands 'what papaya/specs re-export' "$(python3 -B tests/reexports.py 2>&1 | sed 's/[0-9]* passed/all passed/')" \
+    'reexports.py: all passed, 0 failed'
 stands 'links between documents' "$(python3 -B tests/links.py 2>&1 | sed 's/[0-9]* passed/all passed/')" \
     'links.py: all passed, 0 failed'
 version="$(sed -n 's/^version //p' VERSION)"

@@ -16,3 +16,13 @@ pub use Rattle.papaya_call_law.specs.ScanAnswers.{IsLastAnswer}
 pub use Rattle.papaya_map_scan.specs.Leaving.{AreDropped, Drops, HasDropped, HasKept, IsCleared, IsRetained, WasTakenOut}
 pub use Rattle.papaya_map.specs.Collected.{AreCloned, AreCopied, AreStored, AreWalked, Stores}
 pub use Rattle.papaya_map.specs.Known.{Known}
+-- how a map is made, which history a plain call is of, and why a change finds no room
+pub use Rattle.papaya_map.specs.Fixed.{HasFirstTable, HasLearned, HasSettingsOf, IsFor}
+pub use Rattle.papaya_map_lookup.specs.History.{history_of}
+pub use Rattle.papaya_map_book.specs.contracts.rule.entry.Event.{the_row as EventOf}
+pub use Rattle.papaya_map.specs.Plain.{IsContained, of_its_history, rule_of, unpinned}
+pub use Rattle.papaya_map.specs.Storing.{IsThere}
+pub use Rattle.papaya_map.specs.Storing.{stored as stored_by}
+pub use Rattle.papaya_map_change.specs.RemovalAnswers.{IsEntryRemoved}
+pub use Rattle.papaya_map_book.specs.Limits.{HasNoRoom}
+pub use Rattle.papaya_map_change.specs.Resizing.{HasNoRoomAhead, HasRoomAhead}

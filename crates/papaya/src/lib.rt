@@ -1,9 +1,9 @@
 //! A hash map that threads share, and the same map for one caller: `papaya` 0.2.5, proved.
 //!
-//! This crate re-exports what the others promise to a caller, and has no code of its own. Its
-//! `specs/` re-export the definitions that a caller's contracts and proofs cite: `Threads` and
-//! `Seq`, and in `Types` the types with their variants. So a caller's line of `crates.txt` names
-//! only `papaya`.
+//! This crate re-exports the public items of the crates below, and has no code of its own. Its
+//! `specs/` re-export the definitions that a caller's contracts and proofs cite: `Threads`, `Seq`,
+//! `Sets`, `Sizes`, `Json` and `Schedule`, and in `Types` the types with their variants. So a
+//! caller's line of `crates.txt` names only `papaya`.
 //!
 //! - [`HashMap`] is the map that threads share, and a [`Session`] is one thread's access to it.
 //! - [`HashMap::pin`] returns a [`HashMapRef`], which has all calls. [`HashMap::pass`] returns a
@@ -16,8 +16,10 @@
 //!   set.
 //! - [`json`] converts maps and sets to JSON, and reads them from it.
 //! - [`schedule`] runs the calls of many callers step by step, in any order that a test chooses.
-//! - [`raw`] has the words, tables and machines of which all three consist. [`raw::Machine`] is a
-//!   call on one table, and [`raw::chain`] has the machines that go on to further tables.
+//! - [`laws`] states facts about the maps that no single call states.
+//! - [`raw`] has the words, tables and machines of which the maps and [`schedule::Core`] consist.
+//!   [`raw::Machine`] is a call on one table, and [`raw::chain`] has the machines that go on to
+//!   further tables.
 #![tactic(auto)]
 
 pub use papaya_call::answers::Operation;
@@ -78,6 +80,21 @@ pub mod schedule {
     pub use papaya_core_timeline::trace::{Entry, Event, Trace, Turn};
 }
 
+/// Results of a shared map with evidence of the history that a session has observed.
+pub mod observed {
+    pub use papaya_map::observed::{Observed, Saying};
+}
+
+/// Laws: functions with an empty body, whose contracts a caller's proof may rely on.
+pub mod laws {
+    pub use papaya_core_timeline::once::pairs_enter_once;
+    pub use papaya_core_timeline::solo::{one_call, one_call_ends};
+    pub use papaya_json::laws::{maps_read_back, sets_read_back};
+    pub use papaya_seq::laws::{changes_are_found, clones_are_equal};
+    pub use papaya_words::probe::places_differ;
+    pub use papaya_words::word::words_read_back;
+}
+
 /// The parts of the maps: words, places, tables and counts, and the calls on one table as machines.
 pub mod raw {
     pub use papaya_call::ask::{Answer, Ask, At, OpKind, StepKind};
@@ -91,6 +108,15 @@ pub mod raw {
     pub use papaya_words::probe::{Probe, entries_for, limit};
     pub use papaya_words::table::{Table, next_len, next_limit, table_len};
     pub use papaya_words::word::{Kind, SHUT, Word, h1, h2, hint, legal, may_hold};
+
+    /// The parts of a [`State`]: what a call is to write, and what it has asked for so far.
+    pub mod parts {
+        pub use papaya_call::compute::{Gap, Purpose, Put, Remembered};
+        pub use papaya_call::made::{Made, Number, Of};
+        pub use papaya_call::need::Need;
+        pub use papaya_call::remove::Removal;
+        pub use papaya_call::write::{Claimed, Write};
+    }
 
     /// The machines that [`super::schedule::Core`] and the maps run, over any number of tables: a
     /// call on a key, a resize and a scan, each with its asks and answers.

@@ -1,4 +1,4 @@
-//! The loop of the workloads alone, whose time is no map's.
+//! The loop of the workloads without a map, which shows how long the loop itself takes.
 use crate::collections::Collection;
 use crate::steps::{Target, ThreadWork};
 use papaya_run_shell::failure::Failure;

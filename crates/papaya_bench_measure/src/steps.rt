@@ -72,7 +72,7 @@ pub(crate) fn with_value(sum: u64, entry: (&u64, &u64)) -> u64 {
 pub(crate) enum ThreadWork<'a> {
     /// Inserts the keys of this many numbers, each with its number.
     Fill(u32),
-    /// Makes the steps of a part in the rounds of a plan, which has these draws.
+    /// Makes this range of the plan's turns in each of its rounds. The draws are the steps of `Zipf`.
     Rounds(Plan, &'a [Draw], TurnRange),
 }
 

@@ -2,7 +2,7 @@
 use crate::ask::At;
 
 /// The next ask of a copier: one atomic step on at most one word or hint.
-#[derive(Clone, Copy)]
+#[derive(Clone, Copy, Debug)]
 pub enum CopyAsk {
     /// Load this word.
     Load(At),

@@ -70,7 +70,7 @@ pub struct Machine {
     pub mode: ResizeMode,
     /// The initial capacity of the map in slots. No table is made shorter.
     pub initial: usize,
-    /// The parts of its pair that the call has stored.
+    /// The parts of its pair that the call has asked for.
     pub made: Made,
     /// The results of its closure that a compute remembers.
     pub remembered: Remembered,

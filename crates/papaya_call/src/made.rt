@@ -39,8 +39,8 @@ impl Of {
     }
 }
 
-/// The parts that a call has stored so far. A call stores its key once, and each value once, before
-/// the first pair that has it. A pair is made before the first word that names it. It serves every
+/// What a call has asked for so far. It asks for its key once, and for each value once, before the
+/// first pair that has it. A pair is made before the first word that names it. It serves every
 /// attempt at an exchange for which its key is the right one.
 #[derive(Clone, Copy)]
 pub struct Made {
@@ -48,9 +48,9 @@ pub struct Made {
     pub limit: Option<u64>,
     /// The number of the next pair.
     pub number: Number,
-    /// Whether the call's key is stored.
+    /// Whether the backend has answered `MakeKey`.
     pub keyed: bool,
-    /// Whether the value of the next pair is stored.
+    /// Whether the backend has answered `MakeValue` for the next pair.
     pub valued: bool,
     /// The pair of the call's own key that an insertion made, for an empty place.
     pub own: Option<u64>,

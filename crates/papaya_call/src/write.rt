@@ -91,7 +91,8 @@ impl Write {
         }
     }
 
-    /// Continues after the thing asked for was stored. `number` is the pair's if the pair was made.
+    /// Continues with the answer to an ask that makes a part of a pair, or the pair. `number` is the
+    /// pair's if the pair was made.
     #[inline]
     pub fn grown(self, made: Made, number: u64) -> Made
         requires made { IsMade made }

@@ -37,7 +37,8 @@ use std::marker::Model;
 /// ([`HashMap::guard`]).
 ///
 /// A replaced or removed entry stays in memory until [`HashMap::reclaim`] or until the map is
-/// dropped. An entry of two `u64`s takes 24 bytes or more.
+/// dropped. An entry of two `u64`s takes 24 bytes. The arena's rows double, so an entry keeps 24 to
+/// 48 bytes of memory resident.
 ///
 /// In the examples of its calls, `map` is an empty `HashMap<u64, u64>` that no other thread changes.
 /// `rt` is the runtime that `main` gets, and `alloc` is the allocator, `rt.alloc()`.
@@ -184,14 +185,14 @@ impl<K: Hash + Eq, V, S: BuildHasher> HashMap<K, V, S> {
         self.numbered(self.number())
     }
 
-    /// Draws the number by which a pass picks a shard of the count, if no guard gives one. Users
-    /// need not call it: [`HashMap::pass`] does.
+    /// For this library's own calls. Draws the number by which a pass picks a shard of the count, if
+    /// no guard gives one.
     pub fn number(&self) -> u64 {
         self.collector.enter().number()
     }
 
-    /// Records in a pass which tables the map had when it was made: one of at least the initial
-    /// capacity, if it was made for entries. Does nothing at run time.
+    /// For this library's own calls. Records in a pass which table the map was created with, if it
+    /// was created with a capacity. Does nothing at run time.
     pub fn learn_opened(&self, pass: &mut Pass<K, V, S>)
         requires { pass.old.book ≡ self.now.book }
         ensures book { pass.new.book ≡ pass.old.book }
@@ -204,9 +205,8 @@ impl<K: Hash + Eq, V, S: BuildHasher> HashMap<K, V, S> {
         pass.sight.learn(&self.opened);
     }
 
-    /// Records in the map what a pass has observed, as if the map had been made with that: each
-    /// later pin has observed it too. A call that fills a new map uses this. Does nothing at run
-    /// time.
+    /// For this library's own calls. Records in the map what a pass has observed, so that each later
+    /// pin has observed it too. A call that fills a new map uses this. Does nothing at run time.
     pub fn learn(&mut self, pass: &Pass<K, V, S>)
         requires { pass.now.book ≡ self.old.book }
         ensures same { HasLearned self.old self.new }
@@ -215,8 +215,8 @@ impl<K: Hash + Eq, V, S: BuildHasher> HashMap<K, V, S> {
         self.opened.learn(&pass.sight);
     }
 
-    /// Returns a new pass of this map, whose calls pick the count's shard by this number, such as a
-    /// guard's. Users call [`HashMap::pass`], which draws a number.
+    /// For this library's own calls. Returns a new pass of this map, whose calls pick the count's
+    /// shard by this number, such as a guard's.
     pub fn numbered(&self, number: u64) -> Pass<K, V, S>
         ensures book { result.book ≡ self.now.book }
         ensures new { result.history ≡ [] }
@@ -228,9 +228,9 @@ impl<K: Hash + Eq, V, S: BuildHasher> HashMap<K, V, S> {
         Pass::new(Some(number), sight)
     }
 
-    /// Returns a new pass of this map, which has observed the history up to the map's creation. Its
-    /// calls pick the count's shard by this number if there is one, and otherwise by the key. A
-    /// call with a guard creates its pass by this; users call [`HashMap::pass`].
+    /// For this library's own calls. Returns a new pass of this map, which has observed the history
+    /// up to the map's creation. Its calls pick the count's shard by this number if there is one,
+    /// and otherwise by the key.
     #[inline(always)]
     pub fn begun(&self, number: Option<u64>) -> Pass<K, V, S>
         ensures book { result.book ≡ self.now.book }
@@ -292,9 +292,9 @@ impl<'a, K: Hash + Eq, V, S: BuildHasher> HashMapRef<'a, K, V, S> {
         self.map.is_empty()
     }
 
-    /// Returns a new pass of this map, which has observed the history up to the pin. Its calls pick
-    /// the count's shard by this number if there is one, and otherwise by the key. A call without a
-    /// pass creates its own by this; users call [`HashMap::pass`].
+    /// For this library's own calls. Returns a new pass of this map, which has observed the history
+    /// up to the pin. Its calls pick the count's shard by this number if there is one, and otherwise
+    /// by the key.
     #[inline(always)]
     pub fn begun(&self, number: Option<u64>) -> Pass<K, V, S>
         ensures book { result.book ≡ self.now.map.book }

@@ -88,8 +88,8 @@ impl<K: Hash + Eq, V, S: BuildHasher> Pass<K, V, S> {
         }
     }
 
-    /// Returns a result, with evidence of the history that the pass has observed, and with the
-    /// changes made by it. A call that creates its own pass shows by this which history its result
+    /// For this library's own calls. Returns a result, with evidence of the history that the pass has
+    /// observed, and with the changes made by it. A call that creates its own pass shows by this which history its result
     /// is of, and which changes it made: see [`Observed`].
     #[inline(always)]
     pub fn tell<B>(&self, answer: B) -> Observed<B, Event<K, V, S>, Named<K, V>, Law<K, V, S>>

@@ -18,8 +18,8 @@ impl<K: Hash + Eq + fmt::Debug, V: fmt::Debug, S: BuildHasher> fmt::Debug for Ha
 }
 
 impl<K: Hash + Eq + fmt::Debug, V, S: BuildHasher> HashMap<K, V, S> {
-    /// Prints the keys alone, as `{key, ..}`: `Debug` of a set. It never waits, locks or allocates,
-    /// and copies no table.
+    /// For this library's own calls. Prints the keys alone, as `{key, ..}`: `Debug` of a set. It never
+    /// waits, locks or allocates, and copies no table.
     pub fn print_keys<W: fmt::Write>(&self, f: &mut fmt::Formatter<W>) -> fmt::Result {
         let kept = self.book.keep_root();
         let mut window = Window::new(&self.book, &kept, &self.book.unseen());

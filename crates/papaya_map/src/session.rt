@@ -132,8 +132,8 @@ impl<'a, K: Hash + Eq, V, S: BuildHasher> Session<'a, K, V, S> {
         } = self.pass.tell(());
     }
 
-    /// Returns a result together with evidence of the history that the session has observed and of
-    /// the changes that it made. A call that creates its own session uses this to state for which
+    /// For this library's own calls. Returns a result together with evidence of the history that the
+    /// session has observed and of the changes that it made. A call that creates its own session uses this to state for which
     /// history its result is correct, and which changes it made: see [`Observed`].
     #[inline(always)]
     pub fn tell<B>(&self, answer: B) -> Saying<B, K, V, S>
@@ -181,9 +181,9 @@ impl<'a, K: Hash + Eq, V, S: BuildHasher> Session<'a, K, V, S> {
 }
 
 impl<'a, K: Hash + Eq, V, S: BuildHasher> HashMapRef<'a, K, V, S> {
-    /// Returns a session of this map, which has observed the history up to the pin. Its calls pick
-    /// the count's shard by this number if there is one, and otherwise by the key. A call without a
-    /// session creates its own by this; users call [`Session::new`].
+    /// For this library's own calls. Returns a session of this map, which has observed the history
+    /// up to the pin. Its calls pick the count's shard by this number if there is one, and otherwise
+    /// by the key.
     #[inline(always)]
     pub fn begun_session(&self, number: Option<u64>) -> Session<'a, K, V, S>
         ensures map { result.map ≡ self.now.map }
@@ -199,9 +199,9 @@ impl<'a, K: Hash + Eq, V, S: BuildHasher> HashMapRef<'a, K, V, S> {
 }
 
 impl<K: Hash + Eq, V, S: BuildHasher> HashMap<K, V, S> {
-    /// Returns a session of this map, which has observed the history up to the map's creation. Its
-    /// calls pick the count's shard by this number if there is one, and otherwise by the key. A
-    /// call with a guard creates its session by this; users call [`Session::new`].
+    /// For this library's own calls. Returns a session of this map, which has observed the history
+    /// up to the map's creation. Its calls pick the count's shard by this number if there is one,
+    /// and otherwise by the key.
     #[inline(always)]
     pub fn begun_session(&self, number: Option<u64>) -> Session<'_, K, V, S>
         ensures map { result.map ≡ self.now }

@@ -341,8 +341,8 @@ pub(crate) fn insert_stored<'a, R: Wait, K: Hash + Eq + Drop, V: Drop, S: BuildH
     drive(means, window, given, insertion)
 }
 
-/// Inserts the value of a pair in the arena by its machine, with a key met in the slot of this
-/// write; returns the value that the call's key had.
+/// Inserts by its machine the value of a pair that is in the arena. The key that stays is that of
+/// the pair in the slot of this write. Returns the value that the call's key had.
 pub(crate) fn insert_met<'a, R: Wait, K: Hash + Eq + Drop, V: Drop, S: BuildHasher>(
     means: &Means<'_, '_, R>,
     window: &mut Window<'a, K, V, S>,

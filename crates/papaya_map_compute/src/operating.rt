@@ -47,7 +47,7 @@ pub trait Operator<'a, K, V, T, O> {
         ensures operates { operates op.old shown.entry result op.new };
 }
 
-/// The end of a compute.
+/// The result of a compute, and the values of the pairs that it was called with and that it stored.
 #[derive(Drop)]
 pub struct Ended<'a, K, V, T> {
     pub answer: Result<Compute<'a, K, V, T>, Refused>,

@@ -351,8 +351,8 @@ impl<'a, K: Hash + Eq + Drop, V: Drop, S: BuildHasher, T: Drop> Computing<'a, K,
         }
     }
 
-    /// Stores a pair in place of the one that the closure was called with last: of that one's key
-    /// and of the value that it returned.
+    /// Stores a pair with the key of the pair that the closure was called with last, and with the
+    /// value that the closure returned.
     fn make_pair_of<R: Wait>(&mut self, rt: &R, window: &Window<'a, K, V, S>) -> Answer
         requires can { CanCompute window.now self.old }
         requires valid { IsValid self.old.writer.call.machine }

@@ -8,15 +8,16 @@ use papaya_map::map::HashMap;
 use papaya_set::set::HashSet;
 use papaya_words::refused::Refused;
 use std::alloc::Global;
+use std::fmt;
 use std::hash::{BuildHasherDefault, FoldHasher};
 use std::ops::Deref;
 use std::sync::Wait;
 use std::sync::atomic::{AtomicU64, Ordering};
 
-/// A map that threads share for months: a [`Reclaiming`] of a map.
+/// A shared map whose memory any thread can reclaim while others use it.
 pub type ReclaimingMap<K, V, S = BuildHasherDefault<FoldHasher>> = Reclaiming<HashMap<K, V, S>>;
 
-/// A set that threads share for months: a [`Reclaiming`] of a set.
+/// A shared set whose memory any thread can reclaim while others use it.
 pub type ReclaimingSet<K, S = BuildHasherDefault<FoldHasher>> = Reclaiming<HashSet<K, S>>;
 
 /// The number of stored entries up to which [`Handle::reclaim_if`] does nothing, so that a small
@@ -112,6 +113,17 @@ impl<M: Reclaim + Drop> Reclaiming<M> {
     }
 }
 
+impl<M: Drop + fmt::Debug> fmt::Debug for Reclaiming<M> {
+    /// Prints the map, and never waits: while a thread reclaims the map or waits to, it prints
+    /// `Reclaiming { .. }`.
+    fn fmt<W: fmt::Write>(&self, f: &mut fmt::Formatter<W>) -> fmt::Result {
+        match self.lock.try_read(0) {
+            Some(map) => f.debug_tuple("Reclaiming").field(&*map).finish(),
+            None => f.debug_struct("Reclaiming").finish_non_exhaustive(),
+        }
+    }
+}
+
 /// One thread's access to a [`Reclaiming`] map or set. While its guard exists, the borrow checker
 /// rules out that the handle enters again or reclaims. A thread with two handles could wait for
 /// itself forever, so make one per thread.
@@ -119,6 +131,15 @@ impl<M: Reclaim + Drop> Reclaiming<M> {
 pub struct Handle<'a, M> {
     shared: &'a Reclaiming<M>,
     place: usize,
+}
+
+impl<M> fmt::Debug for Handle<'_, M> {
+    /// Prints the handle with its number, and not the map, which it may have to wait for.
+    fn fmt<W: fmt::Write>(&self, f: &mut fmt::Formatter<W>) -> fmt::Result {
+        f.debug_struct("Handle")
+            .field("place", &self.place)
+            .finish_non_exhaustive()
+    }
 }
 
 impl<'a, M: Reclaim + Drop> Handle<'a, M> {
@@ -159,8 +180,9 @@ impl<'a, M: Reclaim + Drop> Handle<'a, M> {
         self.shared.alone(rt).reclaim(rt)
     }
 
-    /// Reclaims the map and returns `true` if no guard exists, and otherwise returns `false` at
-    /// once. Call it in a thread that must not wait, or that may have a guard of another handle.
+    /// Reclaims the map and returns `true`. Returns `false` at once if a guard exists, or if another
+    /// thread reclaims the map or waits to. Call it in a thread that must not wait, or that may have
+    /// a guard of another handle.
     ///
     /// # Errors
     ///
@@ -233,6 +255,13 @@ impl<'a, M> Deref for Entered<'a, M> {
 
     fn deref(&self) -> &M {
         &self.guard
+    }
+}
+
+impl<M: fmt::Debug> fmt::Debug for Entered<'_, M> {
+    /// Prints the map.
+    fn fmt<W: fmt::Write>(&self, f: &mut fmt::Formatter<W>) -> fmt::Result {
+        fmt::Debug::fmt(&**self, f)
     }
 }
 

@@ -46,8 +46,8 @@ impl fmt::Display for Printed {
             Printed::Walk(pairs) => write!(f, "walk{pairs}"),
             Printed::Done => f.write_str("ok"),
             Printed::Refused(refused) => {
-                let number = refused.number();
-                write!(f, "refused {number} {refused}")
+                let (number, name) = (refused.number(), refused.name());
+                write!(f, "refused {number} {name}")
             }
         }
     }

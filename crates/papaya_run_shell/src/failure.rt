@@ -18,7 +18,7 @@ pub enum Failure {
     #[error("line {0}: bad command")]
     Line(u64),
     /// A map could not be made, a call failed, or the program itself got no memory.
-    #[error("refused {} {refused}", .0.number(), refused = .0)]
+    #[error("refused {} {}", .0.number(), .0.name())]
     Refused(#[from] Refused),
     /// The backends had different results at one workload.
     #[error("answers differ")]

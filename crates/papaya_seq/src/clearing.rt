@@ -1,4 +1,4 @@
-//! The call that empties the map.
+//! `clear`: a `retain` that keeps no entry.
 ghost use Rattle.std.specs.Prelude.{◌≡◌, IfErr, IsOk, OnOk, []};
 ghost use Rattle.papaya_core_timeline.specs.Content.{content};
 ghost use Rattle.papaya_seq.specs.Map.{Keeps, KeepsSlots, Unchanged, next_of};

@@ -67,7 +67,8 @@ fn resized(done: Result<(), Refused>) -> Reply
 /// results borrow the map.
 ///
 /// A replaced or removed entry stays in the arena until [`HashMap::reclaim`], or until the map is
-/// dropped: 24 bytes for two `u64`s.
+/// dropped. An entry of two `u64`s takes 24 bytes. The arena's length doubles, so an entry keeps 24
+/// to 48 bytes of memory.
 ///
 /// In the examples of its calls, `map` is an empty `HashMap<u64, u64>`.
 ///
@@ -216,20 +217,24 @@ impl<K: Hash + Eq + Drop, V: Drop> HashMap<K, V, BuildHasherDefault<FoldHasher>>
     {
         HashMap::with_capacity_and_hasher(alloc, capacity, BuildHasherDefault::new())
     }
+}
 
-    /// Creates a map as [`HashMap::new`] does: what the trait `Default` gives in 0.2.5.
+impl<K: Hash + Eq + Drop, V: Drop, S: BuildHasher + Default + Drop> HashMap<K, V, S> {
+    /// Creates an empty map with a default hasher, as [`HashMap::with_hasher`] does: what the trait
+    /// `Default` gives in 0.2.5.
     ///
     /// # Errors
     ///
     /// Fails with `Refused::Memory` if memory runs out.
-    pub fn default(alloc: Global) -> Result<HashMap<K, V, BuildHasherDefault<FoldHasher>>, Refused>
+    pub fn default(alloc: Global) -> Result<HashMap<K, V, S>, Refused>
         ensures new { IfOk result (λ map. IsNew {A = Unit {0}}
             (ResizeMode.Incremental DEFAULT_CHUNK) 0 1 map.store.hasher (core_of map)) }
         ensures empty { IfOk result (λ map. (content K.eq map.store ≡ [])
             × (slots_of map.store ≡ 0)) }
+        ensures hasher { IfOk result (λ map. S.is_default map.store.hasher) }
         ensures err { IfErr result (λ e. e ≡ Refused.Memory) }
     {
-        HashMap::new(alloc)
+        HashMap::with_hasher(alloc, S::default())
     }
 }
 

@@ -416,8 +416,8 @@ impl<K: Hash + Eq + Drop, S: BuildHasher> HashSet<K, S> {
         }
     }
 
-    /// Inserts a key, and returns whether it was absent: `insert` of 0.2.5. As there, an equal key
-    /// that is stored stays.
+    /// Inserts a key, and returns whether it was absent: `insert` of 0.2.5. As the documentation of
+    /// 0.2.5 says, an equal key that is stored stays; its code stores the new one.
     ///
     /// # Errors
     ///

@@ -1,6 +1,6 @@
-//! The calls of a pinned set. Each creates a pass that has observed the history up to the pin, and
-//! its result is of that very set's own history since. For calls whose histories continue from one
-//! to the next use [`HashSet::map`] and its calls by a pass.
+//! The calls of a pinned set. The result of each is correct for this set's own history since the
+//! pin, but no contract relates two such calls. A proof about several calls makes a
+//! [`Session`](papaya_map::session::Session) of [`HashSet::map`], the map from the keys to `()`.
 ghost use Rattle.std.specs.Prelude.{◌≡◌, [], IfErr, IfOk, is_ok};
 ghost use Rattle.std.specs.Borrow.{sem};
 ghost use denote.Struct.Field.{unit-field};

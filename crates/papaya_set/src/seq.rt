@@ -152,20 +152,24 @@ impl<K: Hash + Eq + Drop> HashSet<K, BuildHasherDefault<FoldHasher>> {
             map: HashMap::with_capacity(alloc, capacity)?,
         })
     }
+}
 
-    /// Creates a set as [`HashSet::new`] does: the trait `Default` of 0.2.5.
+impl<K: Hash + Eq + Drop, S: BuildHasher + Default + Drop> HashSet<K, S> {
+    /// Creates an empty set with a default hasher, as [`HashSet::with_hasher`] does: the trait
+    /// `Default` of 0.2.5.
     ///
     /// # Errors
     ///
     /// Fails with `Refused::Memory` if an allocation fails.
-    pub fn default(alloc: Global) -> Result<HashSet<K, BuildHasherDefault<FoldHasher>>, Refused>
+    pub fn default(alloc: Global) -> Result<HashSet<K, S>, Refused>
         ensures new { IfOk result (λ set. IsNew {A = Unit {0}}
             (ResizeMode.Incremental DEFAULT_CHUNK) 0 1 set.store.hasher (core_of set)) }
         ensures empty { IfOk result (λ set. (content K.eq set.store ≡ [])
             × (slots_of set.store ≡ 0)) }
+        ensures hasher { IfOk result (λ set. S.is_default set.store.hasher) }
         ensures err { IfErr result (λ e. e ≡ Refused.Memory) }
     {
-        HashSet::new(alloc)
+        HashSet::with_hasher(alloc, S::default())
     }
 }
 
@@ -230,8 +234,8 @@ impl<K: Hash + Eq, S: BuildHasher> HashSet<K, S> {
 }
 
 impl<K: Hash + Eq + Drop, S: BuildHasher> HashSet<K, S> {
-    /// Inserts a key, and returns whether it was absent: `insert` of 0.2.5. As there, an equal key
-    /// that is stored stays.
+    /// Inserts a key, and returns whether it was absent: `insert` of 0.2.5. As the documentation of
+    /// 0.2.5 says, an equal key that is stored stays; its code stores the new one.
     ///
     /// # Errors
     ///

@@ -186,21 +186,22 @@ impl<K: Hash + Eq + Drop> HashSet<K, BuildHasherDefault<FoldHasher>> {
             map: HashMap::with_capacity(rt, alloc, capacity)?,
         })
     }
+}
 
-    /// Creates a set as [`HashSet::new`] does: the trait `Default` of 0.2.5.
+impl<K: Hash + Eq + Drop, S: BuildHasher + Default + Drop> HashSet<K, S> {
+    /// Creates an empty set with a default hasher, as [`HashSet::with_hasher`] does: the trait
+    /// `Default` of 0.2.5.
     ///
     /// # Errors
     ///
     /// Fails with `Refused::Memory` if an allocation fails.
-    pub fn default<R: Wait>(
-        rt: &R,
-        alloc: Global,
-    ) -> Result<HashSet<K, BuildHasherDefault<FoldHasher>>, Refused>
+    pub fn default<R: Wait>(rt: &R, alloc: Global) -> Result<HashSet<K, S>, Refused>
         ensures made { IfOk result (IsFor (ResizeMode.Incremental DEFAULT_CHUNK) 0
             DEFAULT_SHARDS None) }
+        ensures hasher { IfOk result (λ set. S.is_default set.begun.hasher) }
         ensures err { IfErr result (λ e. e ≡ Refused.Memory) }
     {
-        HashSet::new(rt, alloc)
+        HashSet::with_hasher(rt, alloc, S::default())
     }
 }
 
@@ -220,8 +221,9 @@ impl<K: Hash + Eq, S: BuildHasher> HashSet<K, S> {
         &self.map
     }
 
-    /// Records in the set what a pass has observed, as [`HashMap::learn`] does in a map. A call
-    /// that fills a new set uses this. Does nothing at run time.
+    /// For this library's own calls. Records in the set what a pass has observed, as
+    /// [`HashMap::learn`] does in a map. A call that fills a new set uses this. Does nothing at run
+    /// time.
     pub fn learn(&mut self, pass: &Pass<K, (), S>)
         requires { pass.now.book ≡ self.old.book }
         ensures same { HasLearned self.old self.new }

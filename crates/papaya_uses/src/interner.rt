@@ -47,9 +47,8 @@ impl Interner {
         if let Some(number) = numbers.get(&TextKey(text)) {
             return Ok(*number);
         }
-        let (Ok(key), Ok(copy)) = (text.to_string(alloc), text.to_string(alloc)) else {
-            return Err(Refused::Memory);
-        };
+        let key = text.to_string(alloc)?;
+        let copy = text.to_string(alloc)?;
         let next = &self.next;
         let number = match numbers.get_or_insert_with(
             rt,

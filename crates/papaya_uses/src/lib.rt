@@ -5,7 +5,8 @@
 //! For one owner: a word count, and a cache with a limit. By sessions: settings and hits that
 //! threads share, a table of who is signed in, and registries of counters and of metrics. Also
 //! texts by numbers, a table of routes, and a set of items that were met. For a server that runs
-//! for months: logins that end at a time, and a cache with a limit that threads share.
+//! for months: logins that end at a time, and a cache with a limit that threads share. `reached`
+//! has no caller to copy: it names what the others do not need.
 #![tactic(auto)]
 
 pub mod cache;
@@ -15,6 +16,7 @@ pub mod interner;
 pub mod logins;
 pub mod metrics;
 pub mod pages;
+pub mod reached;
 pub mod routes;
 pub mod seen;
 pub mod sessions;

@@ -48,10 +48,7 @@ pub fn text_of<R: Wait>(
     page: u64,
 ) -> Result<Option<String>, Refused> {
     match reader.enter(rt).pin().get(&page) {
-        Some(page) => match page.text.clone() {
-            Ok(text) => Ok(Some(text)),
-            Err(_) => Err(Refused::Memory),
-        },
+        Some(page) => Ok(Some(page.text.clone()?)),
         None => Ok(None),
     }
 }
@@ -85,9 +82,7 @@ fn try_put<R: Wait>(
     number: u64,
     page: &Page,
 ) -> Result<(), Refused> {
-    let Ok(page) = page.clone() else {
-        return Err(Refused::Memory);
-    };
+    let page = page.clone()?;
     reader.enter(rt).pin().insert(rt, number, page)?;
     Ok(())
 }

@@ -90,6 +90,15 @@ impl Drop for Collector {
     }
 }
 
+/// Prints the collector with its number.
+impl fmt::Debug for Collector {
+    fn fmt<W: fmt::Write>(&self, f: &mut fmt::Formatter<W>) -> fmt::Result {
+        f.debug_struct("Collector")
+            .field("number", &self.number)
+            .finish_non_exhaustive()
+    }
+}
+
 impl Collector {
     /// Creates a collector with this number. A second collector with the same number is not
     /// prevented: its guards count as this one's.

@@ -19,10 +19,7 @@ type Lines = HashSet<String, BuildHasherDefault<FoldHasher>>;
 fn bring(rt: &impl Wait, alloc: Global, lines: &Lines, part: &[&str]) -> Result<(), Refused> {
     for line in part {
         if !lines.pin().contains(&TextKey(line)) {
-            let Ok(line) = line.to_string(alloc) else {
-                return Err(Refused::Memory);
-            };
-            lines.pin().insert(rt, line)?;
+            lines.pin().insert(rt, line.to_string(alloc)?)?;
         }
     }
     Ok(())

@@ -133,20 +133,61 @@ fn no_steps_of_slots(rt: HostRuntime) {
 
 #[test]
 fn refusals(rt: HostRuntime) -> Result<(), Fail> {
-    for (refused, number, name) in [
-        (Refused::Memory, 1, "Memory"),
-        (Refused::Capacity, 2, "Capacity"),
-        (Refused::WrongGuard, 3, "WrongGuard"),
-        (Refused::RemoveNothing, 4, "RemoveNothing"),
-        (Refused::ZeroChunk, 5, "ZeroChunk"),
-        (Refused::Shape, 6, "Shape"),
-        (Refused::KeyClash, 7, "KeyClash"),
-        (Refused::Item, 8, "Item"),
-        (Refused::Limit, 9, "Limit"),
+    for (refused, number, name, reason) in [
+        (Refused::Memory, 1, "Memory", "out of memory"),
+        (
+            Refused::Capacity,
+            2,
+            "Capacity",
+            "no capacity: a size would exceed a limit of the map",
+        ),
+        (
+            Refused::WrongGuard,
+            3,
+            "WrongGuard",
+            "wrong guard: it belongs to another collector than the map's",
+        ),
+        (
+            Refused::RemoveNothing,
+            4,
+            "RemoveNothing",
+            "nothing to remove: the key has no entry",
+        ),
+        (
+            Refused::ZeroChunk,
+            5,
+            "ZeroChunk",
+            "a chunk of a resize needs at least one slot",
+        ),
+        (
+            Refused::Shape,
+            6,
+            "Shape",
+            "wrong JSON: a map is read from an object, and a set from an array",
+        ),
+        (
+            Refused::KeyClash,
+            7,
+            "KeyClash",
+            "two keys have the same JSON text",
+        ),
+        (
+            Refused::Item,
+            8,
+            "Item",
+            "an item was not converted to JSON or from it",
+        ),
+        (
+            Refused::Limit,
+            9,
+            "Limit",
+            "pair limit reached: reclaim the map, or build it with a larger limit",
+        ),
     ] {
         is(&rt, refused.number(), number);
+        is(&rt, refused.name(), name);
         let printed = format!(in rt.alloc(); "{refused}")?;
-        is(&rt, printed.as_str(), name);
+        is(&rt, printed.as_str(), reason);
     }
     Ok(())
 }

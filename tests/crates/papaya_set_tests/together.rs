@@ -34,7 +34,7 @@ fn sets_are_made_of_keys(rt: HostRuntime) -> Result<(), Fail> {
 
 /// Returns a set of these keys.
 fn made(alloc: Global, keys: &[u64]) -> Result<Keys, Fail> {
-    let mut set = HashSet::default(alloc)?;
+    let mut set: Keys = HashSet::default(alloc)?;
     set.extend_ref(keys)?;
     Ok(set)
 }

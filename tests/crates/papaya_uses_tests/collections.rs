@@ -3,7 +3,7 @@
 use crate::expect::is;
 use papaya::{Collector, HashMap, HashSet, Reclaiming, Refused, ResizeMode, seq};
 use std::alloc::Global;
-use std::hash::{BuildHasherDefault, FoldHasher};
+use std::hash::{BuildHasherDefault, DefaultHasher, FoldHasher};
 use std::process::Abort;
 use std::sync::{Arc, Wait};
 use std::test::Fail;
@@ -129,6 +129,30 @@ fn lone_keys(alloc: Global) -> Result<bool, Refused> {
         set.try_clone(alloc)?
             .eq(&seq::HashSet::from_array(alloc, [1, 2, 3])?),
     )
+}
+
+/// A hasher that is not the maps' own.
+type Sip = BuildHasherDefault<DefaultHasher>;
+
+/// Makes a map and a set with the default of another hasher, and returns how many slots they have.
+fn with_defaults<R: Wait>(rt: &R, alloc: Global) -> Result<(usize, usize), Refused> {
+    let map: HashMap<u64, u64, Sip> = HashMap::default(rt, alloc)?;
+    let set: HashSet<u64, Sip> = HashSet::default(rt, alloc)?;
+    Ok((map.slots(), set.slots()))
+}
+
+/// Makes the same for one caller.
+fn lone_defaults(alloc: Global) -> Result<(usize, usize), Refused> {
+    let map: seq::HashMap<u64, u64, Sip> = seq::HashMap::default(alloc)?;
+    let set: seq::HashSet<u64, Sip> = seq::HashSet::default(alloc)?;
+    Ok((map.slots(), set.map().slots()))
+}
+
+#[test]
+fn defaults_of_another_hasher(rt: HostRuntime) -> Result<(), Fail> {
+    is(&rt, with_defaults(&rt, rt.alloc()), Ok((0, 0)));
+    is(&rt, lone_defaults(rt.alloc()), Ok((0, 0)));
+    Ok(())
 }
 
 /// Makes a map and a set for one caller by builders.

@@ -1,12 +1,20 @@
-// Each enum that the facade exports, matched only by the facade's names.
+// Each enum and each law that the facade exports, by the facade's names alone.
 use crate::expect::is;
+use papaya::laws::{
+    changes_are_found, clones_are_equal, one_call, one_call_ends, pairs_enter_once, places_differ,
+    words_read_back,
+};
+use papaya::observed::{Observed, Saying};
 use papaya::raw::chain::{CopyAsk, Phase, Resize, ResizerState, Scan, ScanAsk, ScannerState};
 use papaya::raw::{
     Answer, Ask, At, Kind, OpKind, ProbeStep, Search, State, StepKind, Task, Word, chain,
 };
 use papaya::schedule::{Call, Event, Reply, Turn};
 use papaya::seq::{Computed, Outcome};
-use papaya::{Compute, Operation, Refused, ResizeMode};
+use papaya::{Compute, HashMap, NotInserted, Operation, Refused, ResizeMode, Session, seq};
+use papaya_uses::reached::{answer_of, dozen, is_absent, same_keys, value_back};
+use std::alloc::Global;
+use std::hash::{BuildHasherDefault, FoldHasher};
 use std::test::Fail;
 
 /// Returns the code of a word's kind.
@@ -320,5 +328,55 @@ fn enums_of_machines_are_matched_by_name(rt: HostRuntime) -> Result<(), Fail> {
         (true, true),
     );
     is(&rt, is_done(ScannerState::Done), true);
+    Ok(())
+}
+
+/// The hasher of a map that is made without one.
+type Hasher = BuildHasherDefault<FoldHasher>;
+
+#[test]
+fn laws_are_called_by_name() {
+    places_differ();
+    words_read_back();
+    pairs_enter_once::<u64, u64, u64>();
+    one_call::<u64, u64, Hasher, u64, u64>();
+    one_call_ends::<u64, u64, Hasher, u64>();
+    changes_are_found::<u64, u64, Hasher>();
+    clones_are_equal::<u64, u64, Hasher>();
+}
+
+#[test]
+fn results_are_named(rt: HostRuntime) -> Result<(), Fail> {
+    is(&rt, value_back(NotInserted::Value(5)), Some(5));
+    is(&rt, value_back(NotInserted::Logged(&5)), None);
+    is(&rt, is_absent(Reply::Absent), true);
+    is(&rt, is_absent(Reply::Done), false);
+    is(&rt, dozen(rt.alloc())?.slots(), 32);
+    let set: seq::HashSet<u64> = seq::HashSet::new(rt.alloc())?;
+    is(&rt, same_keys(&set, &set), true);
+    let map: HashMap<u64, u64> = HashMap::new(&rt, rt.alloc())?;
+    let saying: Saying<u64, u64, u64, Hasher> = Session::new(&map).tell(7);
+    is(&rt, answer_of(saying), 7);
+    let Observed { answer, marker: _ } = Session::new(&map).tell(8);
+    is(&rt, answer, 8);
+    Ok(())
+}
+
+/// Copies a text, which fails only for want of memory.
+fn copy(alloc: Global, text: &str) -> Result<String, Refused> {
+    Ok(text.to_string(alloc)?)
+}
+
+#[test]
+fn asks_and_collectors_are_printed(rt: HostRuntime) -> Result<(), Fail> {
+    let ask = format!(in rt.alloc(); "{:?}", chain::Ask::Copy(CopyAsk::HashOf(3)))?;
+    is(&rt, ask.as_str(), "Copy(HashOf(3))");
+    let answer = format!(in rt.alloc(); "{:?}", chain::Answer::Count(2))?;
+    is(&rt, answer.as_str(), "Count(2)");
+    let scan = format!(in rt.alloc(); "{:?}", ScanAsk::Given(6))?;
+    is(&rt, scan.as_str(), "Given(6)");
+    let collector = format!(in rt.alloc(); "{:?}", Collector::new(3))?;
+    is(&rt, collector.as_str(), "Collector { number: 3, .. }");
+    is(&rt, copy(rt.alloc(), "a")?.as_str(), "a");
     Ok(())
 }

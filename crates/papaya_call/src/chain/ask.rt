@@ -4,7 +4,7 @@ use crate::ask::{Answer as CallAnswer, Ask as CallAsk};
 use crate::copy_ask::CopyAsk;
 
 /// The next ask: one atomic step on at most one word or hint.
-#[derive(Clone, Copy)]
+#[derive(Clone, Copy, Debug)]
 pub enum Ask {
     /// The call asks, in a table that it has reached.
     Call(CallAsk),
@@ -13,7 +13,7 @@ pub enum Ask {
 }
 
 /// The answer to an ask.
-#[derive(Clone, Copy)]
+#[derive(Clone, Copy, Debug)]
 pub enum Answer {
     /// An answer to the call.
     Call(CallAnswer),
@@ -24,7 +24,7 @@ pub enum Answer {
 }
 
 /// The next ask: one atomic step on at most one word.
-#[derive(Clone, Copy)]
+#[derive(Clone, Copy, Debug)]
 pub enum ScanAsk {
     /// Load or exchange a word of a table, or do what a copy needs.
     Copy(CopyAsk),

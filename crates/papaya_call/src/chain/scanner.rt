@@ -23,11 +23,12 @@ use papaya_words::word::{Kind, Word};
 /// The work of a scan on each pair that it meets.
 #[derive(Clone, Copy)]
 pub enum Scan {
-    /// Removes it: `clear` of 0.2.5.
+    /// Removes the pair: `clear` of 0.2.5.
     Clear,
-    /// Calls the closure with it, and removes it if the closure returns `false`: `retain` of 0.2.5.
+    /// Calls the closure with the pair, and removes it if the closure returns `false`: `retain` of
+    /// 0.2.5.
     Retain,
-    /// Passes it to the caller, and changes nothing: `iter` of 0.2.5.
+    /// Passes the pair to the caller, and changes nothing: `iter` of 0.2.5.
     Walk,
 }
 

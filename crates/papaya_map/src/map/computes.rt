@@ -27,11 +27,12 @@ use std::sync::Wait;
 impl<'a, K: Hash + Eq + Drop, V: Drop, S: BuildHasher> HashMapRef<'a, K, V, S> {
     /// Calls a closure with the key's entry, or `None`, and does what it returns: `compute` of
     /// 0.2.5. The closure returns what to store, that the entry is removed, or that nothing is
-    /// changed.
+    /// changed. For this library's own calls: users call
+    /// [`Session::compute`](crate::session::Session::compute).
     ///
     /// The closure may be called again if another call was first to replace or remove the entry:
-    /// what it returned for one entry is done to that entry alone. It is called with `None` once at
-    /// most, since its insertion is remembered.
+    /// what it returned for one entry is done to that entry alone. With `None` it is called at most
+    /// once; the value that it then returns is kept for retries.
     ///
     /// # Errors
     ///

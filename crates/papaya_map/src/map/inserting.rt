@@ -25,8 +25,9 @@ use std::hash::{BuildHasher, Hash};
 use std::sync::Wait;
 
 impl<'a, K: Hash + Eq + Drop, V: Drop, S: BuildHasher> HashMapRef<'a, K, V, S> {
-    /// Inserts a key-value pair, and returns the key's old value, if any: `insert` of 0.2.5. As
-    /// there, a stored key stays, and the key that was passed in is dropped.
+    /// Inserts a key-value pair, and returns the key's old value, if any: `insert` of 0.2.5. As the
+    /// documentation of 0.2.5 says, a stored key stays, and the key that was passed in is dropped.
+    /// For this library's own calls: users call [`Session::insert`](crate::session::Session::insert).
     ///
     /// If the table has no place for the key, the call allocates the next table, to which the
     /// entries are copied. The pass records one change, or none if the call fails.

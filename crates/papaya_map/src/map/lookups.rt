@@ -19,7 +19,8 @@ use std::hash::{BuildHasher, Hash};
 
 impl<'a, K: Hash + Eq, V, S: BuildHasher> HashMapRef<'a, K, V, S> {
     /// Returns the key's value, or `None` if there is none: `get` of 0.2.5. It only loads words: it
-    /// waits for no thread, takes no lock and allocates nothing.
+    /// waits for no thread, takes no lock and allocates nothing. For this library's own calls: users
+    /// call [`Session::get`](crate::session::Session::get).
     #[inline(always)]
     pub fn get_as<Q: Equivalent<K>>(&self, key: &Q, pass: &mut Pass<K, V, S>) -> Option<&'a V>
         requires { pass.old.book ≡ self.now.map.book }

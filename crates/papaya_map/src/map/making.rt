@@ -286,20 +286,21 @@ impl<K: Hash + Eq + Drop, V: Drop> HashMap<K, V, BuildHasherDefault<FoldHasher>>
             None,
         )
     }
+}
 
-    /// Creates a map as [`HashMap::new`] does: the trait `Default` of 0.2.5.
+impl<K: Hash + Eq + Drop, V: Drop, S: BuildHasher + Default + Drop> HashMap<K, V, S> {
+    /// Creates an empty map with a default hasher, as [`HashMap::with_hasher`] does: the trait
+    /// `Default` of 0.2.5.
     ///
     /// # Errors
     ///
     /// Fails with `Refused::Memory` if an allocation fails.
-    pub fn default<R: Wait>(
-        rt: &R,
-        alloc: Global,
-    ) -> Result<HashMap<K, V, BuildHasherDefault<FoldHasher>>, Refused>
+    pub fn default<R: Wait>(rt: &R, alloc: Global) -> Result<HashMap<K, V, S>, Refused>
         ensures made { IfOk result (IsFor (ResizeMode.Incremental DEFAULT_CHUNK) 0
             DEFAULT_SHARDS None) }
+        ensures hasher { IfOk result (λ map. S.is_default map.begun.hasher) }
         ensures err { IfErr result (λ e. e ≡ Refused.Memory) }
     {
-        HashMap::new(rt, alloc)
+        HashMap::with_hasher(rt, alloc, S::default())
     }
 }

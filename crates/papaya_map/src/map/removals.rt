@@ -22,7 +22,8 @@ use std::hash::{BuildHasher, Hash};
 use std::sync::Wait;
 
 impl<'a, K: Hash + Eq, V, S: BuildHasher> HashMapRef<'a, K, V, S> {
-    /// Removes a key's entry if the closure returns `true` for it: `remove_if` of 0.2.5.
+    /// Removes a key's entry if the closure returns `true` for it: `remove_if` of 0.2.5. For this
+    /// library's own calls: users call [`Session::remove_if`](crate::session::Session::remove_if).
     ///
     /// Returns `Ok(None)` if the key is absent, `Ok(Some(entry))` if that very entry was removed,
     /// and `Err(entry)` if the closure returned `false` for it. The closure may be called again if
@@ -107,7 +108,8 @@ impl<'a, K: Hash + Eq, V, S: BuildHasher> HashMapRef<'a, K, V, S> {
         answer
     }
 
-    /// Removes a key's entry, and returns its value, if any: `remove` of 0.2.5.
+    /// Removes a key's entry, and returns its value, if any: `remove` of 0.2.5. For this library's
+    /// own calls: users call [`Session::remove`](crate::session::Session::remove).
     ///
     /// # Errors
     ///

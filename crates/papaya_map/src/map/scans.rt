@@ -88,7 +88,8 @@ impl<'a, K: Hash + Eq, V, S: BuildHasher> HashMapRef<'a, K, V, S> {
     /// then is returned, if no call removes or replaces it meanwhile. An entry that is stored,
     /// replaced or removed meanwhile may be returned or not. The pass does not learn what the
     /// iterator observes later; a session does by
-    /// [`Session::learn_walk`](crate::session::Session::learn_walk).
+    /// [`Session::learn_walk`](crate::session::Session::learn_walk). For this library's own calls:
+    /// users call [`Session::iter`](crate::session::Session::iter).
     ///
     /// With `ResizeMode::Blocking` the iterator takes the root as it is. Otherwise the call first
     /// copies what is left to copy.

@@ -8,9 +8,11 @@ use std::hash::{BuildHasher, Hash};
 impl<K: Hash + Eq, V, S: BuildHasher> HashMap<K, V, S> {
     /// Returns the number of entries that the arena holds: those in the map, those that were
     /// replaced or removed since the map was created or reclaimed, and those of calls under way. An
-    /// entry whose insertion lost a race counts too. An entry of two `u64`s takes 24 bytes or more.
+    /// entry whose insertion lost a race counts too. An entry of two `u64`s takes 24 bytes, and keeps
+    /// 24 to 48 bytes of memory resident.
     ///
-    /// After `reclaim` it is what [`HashMap::len`] returns, unless an insertion lost a race since.
+    /// After `reclaim` it is what [`HashMap::len`] returns, unless an insertion lost a race since. It
+    /// counts a few insertions that were refused too, so it may be one to three above a `pair_limit`.
     pub fn stored(&self) -> usize {
         self.book.stored()
     }

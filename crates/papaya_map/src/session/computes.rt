@@ -20,8 +20,8 @@ impl<'a, K: Hash + Eq + Drop, V: Drop, S: BuildHasher> Session<'a, K, V, S> {
     /// the entry or changes nothing. Its result may not borrow from the entry; in 0.2.5 it may.
     ///
     /// The closure may be called again if another thread replaces or removes the entry meanwhile:
-    /// an operation that it returned for one entry is performed only on that entry. It is called
-    /// with `None` at most once, since the call remembers the insertion that it returned.
+    /// an operation that it returned for one entry is performed only on that entry. With `None` it
+    /// is called at most once; the value that it then returns is kept for retries.
     ///
     /// # Errors
     ///

@@ -1,5 +1,5 @@
 // Each call once, by one thread.
-use crate::expect::is;
+use crate::expect::{is, prints};
 use crate::reclaiming::numbers::{Numbers, Way, has, numbers, write};
 use papaya_map::map::HashMap;
 use papaya_reclaiming::reclaiming::{
@@ -86,6 +86,17 @@ fn a_guard_that_is_out_holds_reclaim_off(rt: HostRuntime) -> Result<(), Fail> {
     let held_off = is_held_off(&rt, &mut shared.handle(), &mut shared.handle());
     is(&rt, held_off, Ok(()));
     Ok(())
+}
+
+#[test]
+fn a_map_and_its_handles_are_printed(rt: HostRuntime) -> Result<(), Fail> {
+    let map: Numbers = HashMap::new(&rt, rt.alloc())?;
+    map.pin().insert(&rt, 1, 10)?;
+    let shared: ReclaimingMap<u64, u64> = Reclaiming::new(rt.alloc(), map)?;
+    let mut handle = shared.handle();
+    prints(&rt, rt.alloc(), &shared, "Reclaiming({1: 10})")?;
+    prints(&rt, rt.alloc(), &handle, "Handle { place: 0, .. }")?;
+    prints(&rt, rt.alloc(), &handle.enter(&rt), "{1: 10}")
 }
 
 #[test]
