@@ -11,7 +11,9 @@ use papaya::raw::{
 };
 use papaya::schedule::{Call, Event, Reply, Turn};
 use papaya::seq::{Computed, Outcome};
-use papaya::{Compute, HashMap, NotInserted, Operation, Refused, ResizeMode, Session, seq};
+use papaya::{
+    Collector, Compute, HashMap, NotInserted, Operation, Refused, ResizeMode, Session, seq,
+};
 use papaya_uses::reached::{answer_of, dozen, is_absent, same_keys, value_back};
 use std::alloc::Global;
 use std::hash::{BuildHasherDefault, FoldHasher};
