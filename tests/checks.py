@@ -1,0 +1,244 @@
+"""The gate's own checks fail where they should: each is run on something small in which a thing is wrong.
+
+    python3 tests/checks.py
+
+Nothing is proved or built here.
+"""
+
+import os
+import re
+import shutil
+import subprocess
+import sys
+import tempfile
+
+TOP = os.path.dirname(os.path.dirname(os.path.abspath(__file__)))
+
+# A part of the gate that notes that it has begun, and ends with the status that a file of its name has.
+STUB = """#!/usr/bin/env bash
+touch "begun-{name}"
+echo "{name}: said"
+[[ ! -f "status-{name}" ]] || exit 1
+"""
+PARTS = "first_run run_tests edits twins checks papaya_run readme_code take kit runs readme_commands chart refused".split()
+
+
+class Checks:
+    """What passed and failed, and a folder for each check."""
+
+    def __init__(self, room):
+        self.room, self.passed, self.failed, self.number = room, 0, 0, 0
+
+    def same(self, what, wanted, found):
+        """One case: what was wanted, and what came."""
+        if wanted == found:
+            self.passed += 1
+            return
+        self.failed += 1
+        print(f"checks.py: {what}\n--- wanted\n{wanted}\n--- found\n{found}", file=sys.stderr)
+
+    def folder(self, *copied, files):
+        """A new folder with copies of these files of the repository, and further files with these texts."""
+        self.number += 1
+        folder = f"{self.room}/{self.number}"
+        for name in copied:
+            os.makedirs(os.path.dirname(f"{folder}/{name}"), exist_ok=True)
+            shutil.copy(f"{TOP}/{name}", f"{folder}/{name}")
+        for name, text in files.items():
+            write(f"{folder}/{name}", text)
+        return folder
+
+
+def write(path, text):
+    """Writes a file that can be run."""
+    os.makedirs(os.path.dirname(path), exist_ok=True)
+    with open(path, "w", encoding="utf-8") as it:
+        it.write(text)
+    os.chmod(path, 0o755)
+
+
+def ran(folder, *words):
+    """The status of a command, and the last line that it prints."""
+    how = {"cwd": folder, "stdin": subprocess.DEVNULL, "stdout": subprocess.PIPE, "stderr": subprocess.STDOUT, "text": True}
+    found = subprocess.run(words, **how)
+    return found.returncode, (found.stdout.strip().split("\n") or [""])[-1]
+
+
+def shell_tests(checks):
+    """same.sh: no case, an empty text, and a command that does not run are no success."""
+    for what, lines, wanted in [
+        ("a case that is so", "same a b b", (0, "t: 1 passed, 0 failed")),
+        ("one that is not", "same a b c 2>/dev/null", (1, "t: 0 passed, 1 failed")),
+        ("no case", ":", (1, "t: 0 passed, 0 failed")),
+        ("an empty text", "same a '' '' 2>/dev/null", (1, "t: 0 passed, 1 failed")),
+        ("no output", "silent a true", (0, "t: 1 passed, 0 failed")),
+        ("some output", "silent a echo b 2>/dev/null", (1, "t: 0 passed, 1 failed")),
+        ("a command that fails", "silent a false 2>/dev/null", (1, "t: 0 passed, 1 failed")),
+        ("a command that there is not", "silent a no-such-command 2>/dev/null", (1, "t: 0 passed, 1 failed")),
+    ]:
+        said = ran(TOP, "bash", "-c", f"source tests/same.sh\n{lines}\ntold t")
+        checks.same(f"same.sh: {what}", wanted, said)
+
+
+def links(checks):
+    """links.py: a link that finds nothing fails, and so does no link."""
+    for what, text, wanted in [
+        ("a link", "[b](CHANGELOG.md)", (0, "1 passed, 0 failed")),
+        ("a link to nothing", "[b](none.md) [c](CHANGELOG.md)", (1, "1 passed, 1 failed")),
+        ("a link to no heading", "[b](#none) [c](CHANGELOG.md)", (1, "1 passed, 1 failed")),
+        ("no link", "none", (1, "0 passed, 0 failed")),
+    ]:
+        files = {"README.md": text, "CHANGELOG.md": "# Changes\n", "CONTRIBUTING.md": "# How\n"}
+        status, said = ran(checks.folder("tests/links.py", files=files), "python3", "-B", "tests/links.py")
+        checks.same(f"links.py: {what}", wanted, (status, said.removeprefix("links.py: ")))
+
+
+def quoted_code(checks):
+    """readme_code.sh takes over the counts of the scripts that it runs, and their status."""
+    text = open(f"{TOP}/tests/readme_code.sh", encoding="utf-8").read()
+    counted = re.search(r"^counted\(\) \{\n.*?^\}\n", text, re.M | re.S)[0]
+    for what, command, wanted in [
+        ("counts", "echo a.py: 3 passed, 0 failed", "3 0"),
+        ("counts with a failure", "printf 'x\\na.py: 2 passed, 1 failed\\n'", "2 1"),
+        ("no case", "echo a.py: 0 passed, 0 failed", "0 1"),
+        ("another status", "sh -c 'echo a.py: 3 passed, 0 failed; exit 1'", "0 1"),
+        ("no counts", "true", "0 1"),
+    ]:
+        script = f"set -euo pipefail\npassed=0 failed=0\n{counted}counted {command} 2>/dev/null\necho $passed $failed"
+        checks.same(f"readme_code.sh: {what}", (0, wanted), ran(TOP, "bash", "-c", script))
+
+
+def speed_table(checks):
+    """speed_table.py: a figure of README's table that is another one fails."""
+    folder = checks.folder("tests/speed_table.py", "README.md", "docs/PERFORMANCE.md", files={})
+    text = open(f"{TOP}/README.md", encoding="utf-8").read()
+    rows = text.partition("\n## Speed\n")[2].split("\n\n")[1]
+    at = text.index(rows)
+    checks.same("speed_table.py: it is as it is", 0, ran(folder, "python3", "-B", "tests/speed_table.py")[0])
+    found = []
+    for row in re.finditer(r"^\| `[^|]*(.*)", rows, re.M):
+        number = next(re.finditer(r"(?<=\| )\d+(?= \|)", row[1]))
+        begins = at + row.start(1) + number.start()
+        wrong = text[:begins] + str(int(number[0]) + 9) + text[begins + len(number[0]) :]
+        write(f"{folder}/README.md", wrong)
+        found.append(ran(folder, "python3", "-B", "tests/speed_table.py")[0])
+    checks.same("speed_table.py: a figure is changed in each row", (True, {1}), (len(found) > 5, {*found}))
+
+
+SOURCE = """impl<K: Eq, V> HashMap<K, V> {
+    /// Prints the map. And more.
+    pub fn print<W: fmt::Write>(&self, f: &mut fmt::Formatter<W>) -> fmt::Result
+        requires { true }
+    {
+        body(f)
+    }
+
+    /// Adds one to `x`,
+    /// and returns it.
+    #[inline(always)]
+    pub const fn more(mut x: u64, mut self: u64) -> u64 {
+        x
+    }
+
+    /// Calls a closure.
+    pub fn call<
+        'g,
+        F: FnMut(Option<(&'g K, &'g mut V)>) -> Operation<V, T>,
+        G: Guard,
+    >(
+        &'g mut self,
+        f: F,
+    ) -> Result<V, Refused>
+    where
+        G: Drop,
+        ensures { true }
+    {
+        f()
+    }
+
+    fn hidden(&self) {}
+}
+"""
+
+LISTED = """impl<K: Eq, V> HashMap<K, V> {
+    /// Prints the map.
+    fn print<W: fmt::Write>(&self, f: &mut fmt::Formatter<W>) -> fmt::Result;
+    /// Adds one to `x`, and returns it.
+    const fn more(x: u64, self: u64) -> u64;
+    /// Calls a closure.
+    fn call<'g, F: FnMut(Option<(&'g K, &'g mut V)>) -> Operation<V, T>, G: Guard>(&'g mut self, f: F) -> Result<V, Refused> where G: Drop;
+}"""
+
+CLAUSES = """impl<K: Eq, V> HashMap<K, V> {
+    fn print<W: fmt::Write>(&self, f: &mut fmt::Formatter<W>) -> fmt::Result
+        requires { true };
+
+    const fn more(mut x: u64, mut self: u64) -> u64;
+
+    fn call<
+        'g,
+        F: FnMut(Option<(&'g K, &'g mut V)>) -> Operation<V, T>,
+        G: Guard,
+    >(
+        &'g mut self,
+        f: F,
+    ) -> Result<V, Refused>
+    where
+        G: Drop,
+        ensures { true };
+
+}"""
+
+
+def signatures(checks):
+    """tools/signatures lists these functions so, and sees that a list is stale."""
+    folder = checks.folder("tools/signatures", files={"crates/papaya_map/src/lib.rt": SOURCE, "docs/none": ""})
+    checks.same("signatures: no list", 1, ran(folder, "tools/signatures", "--check")[0])
+    ran(folder, "tools/signatures")
+    for name, wanted in [("SIGNATURES", LISTED), ("CONTRACTS", CLAUSES)]:
+        text = open(f"{folder}/docs/{name}.md", encoding="utf-8").read()
+        part = text.partition("\n## `HashMap`\n")[2].partition("```rust\n")[2].partition("\n```")[0]
+        checks.same(f"signatures: {name}", wanted, part)
+    checks.same("signatures: the lists are fresh", 0, ran(folder, "tools/signatures", "--check")[0])
+    write(f"{folder}/crates/papaya_map/src/lib.rt", SOURCE.replace("mut fmt::", "fmt::"))
+    checks.same("signatures: a `mut` less", (1, "docs/CONTRACTS.md is not as the sources are: run tools/signatures"), ran(folder, "tools/signatures", "--check"))
+
+
+def flow(checks):
+    """.ci/run: a part that fails is counted, and without a program none is begun that needs it."""
+    program = "mkdir -p crates/papaya_run/out; cp tests/take.sh crates/papaya_run/out/papaya_run"
+    made = 'mkdir -p "$1"; cp tests/take.sh "$1/papaya_tests"'
+    for what, proofs, broken, wanted, skipped in [
+        ("all passes", f"{program}; echo 32 passed, 0 failed", [], (0, "45 passed, 0 failed"), []),
+        ("a part fails", f"{program}; echo 32 passed, 0 failed", ["edits"], (1, "44 passed, 1 failed"), []),
+        ("several do", f"{program}; echo 32 passed, 0 failed", ["runs", "chart", "twins"], (1, "42 passed, 3 failed"), []),
+        ("a proof fails", "echo 31 passed, 1 failed; exit 1", [], (1, "42 passed, 3 failed"), ["runs", "readme_commands"]),
+        ("a proof fails beside the program", f"{program}; echo 31 passed, 1 failed; exit 1", [], (1, "44 passed, 1 failed"), []),
+        ("rt ci is killed", "echo rt: papaya proved; kill -9 $$", [], (1, "11 passed, 3 failed"), ["runs", "readme_commands"]),
+        ("it counts well, and ends badly", f"{program}; echo 32 passed, 0 failed; exit 2", [], (1, "45 passed, 1 failed"), []),
+        ("it counts nothing", f"{program}; echo 0 passed, 0 failed", [], (1, "13 passed, 1 failed"), []),
+        ("no test is compiled", f"{program}; echo 32 passed, 0 failed", ["run_tests"], (1, "43 passed, 2 failed"), ["refused"]),
+    ]:
+        files = {f"tests/{it}.sh": STUB.format(name=it) for it in PARTS}
+        files |= {"tests/readme_commands.sh": 'name=readme_commands; [[ -z "${1-}" ]] || name=first_run\n' + STUB.format(name="$name")}
+        files |= {f"tests/{it}.py": f"import os, sys\nsys.exit(os.system('bash tests/{it}.sh') >> 8)\n" for it in ("checks", "refused")}
+        files |= {"tools/need-rt": "true\n", "tools/chart": STUB.format(name="chart"), "tests/progress.py": "import time\ntime.sleep(600)\n"}
+        files |= {"tests/run_tests.sh": STUB.format(name="run_tests") + made, "stub.sh": f"sleep 0.3\n{proofs}\n"}
+        files |= {"tests/proofs.py": "import os\nos.execvp('bash', ['bash', 'stub.sh'])\n"}
+        folder = checks.folder(".ci/run", "tests/end.sh", files={**files, **{f"status-{it}": "" for it in broken}})
+        checks.same(f".ci/run: {what}", wanted, ran(folder, "bash", ".ci/run"))
+        begun = {it for it in PARTS if os.path.exists(f"{folder}/begun-{it}")}
+        checks.same(f".ci/run: {what}: what is skipped", sorted(skipped), sorted({*PARTS} - begun))
+
+
+def main():
+    with tempfile.TemporaryDirectory(prefix="checks-") as room:
+        checks = Checks(room)
+        for it in (shell_tests, links, quoted_code, speed_table, signatures, flow):
+            it(checks)
+    print(f"checks.py: {checks.passed} passed, {checks.failed} failed")
+    return 1 if checks.failed or not checks.passed else 0
+
+
+if __name__ == "__main__":
+    sys.exit(main())
