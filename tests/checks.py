@@ -231,10 +231,141 @@ def flow(checks):
         checks.same(f".ci/run: {what}: what is skipped", sorted(skipped), sorted({*PARTS} - begun))
 
 
+# The modules by which edits and tests are tried, and a script over them.
+MODULES = [f"tests/{it}.py" for it in ("edits", "goals", "kept", "prover", "right_goals", "standing", "unproved")]
+OVER = "import sys\nsys.path.insert(0, 'tests')\n"
+
+
+def lists_of_tests(checks):
+    """unproved.py: the crates of tests/crates are those that are listed, and have as many tests."""
+    test = "#[test]\nfn one() {}\n"
+    for what, files, wanted in [
+        ("as listed", {"tests/crates/a/lib.rs": test * 2}, True),
+        ("a test less", {"tests/crates/a/lib.rs": test}, False),
+        ("a crate more", {"tests/crates/a/lib.rs": test * 2, "tests/crates/b/lib.rs": test}, False),
+        ("a crate less", {"tests/crates/.none/lib.rs": ""}, False),
+    ]:
+        files |= {"crates.txt": "", "tests/unproved.txt": "# A list\na 2: b c\n"}
+        said = ran(checks.folder(*MODULES, files=files), sys.executable, "-B", "-c", f"{OVER}import unproved\nunproved.stop_on_lists()\nprint('well')")
+        checks.same(f"unproved.py: {what}", wanted, said == (0, "well"))
+
+
+def kits(checks):
+    """kept.py: a library of the kit that changes below its folder makes another sum."""
+    sys.path.insert(0, f"{TOP}/tests")
+    from kept import kit_sum
+
+    files = {it: "one" for it in ("KIT-ID", "WHAT", "bin/rattle", "logic_built/a.oantt", "rlibs/a.rlib/format", "rlibs/a.rlib/lang/b")}
+    kit = checks.folder(files=files)
+    first = kit_sum(kit)
+    checks.same("kept.py: the same kit", first, kit_sum(kit))
+    for name in files:
+        at = os.stat(f"{kit}/{name}")
+        write(f"{kit}/{name}", "more")
+        os.utime(f"{kit}/{name}", ns=(at.st_atime_ns, at.st_mtime_ns))
+        checks.same(f"kept.py: {name} of another size", True, kit_sum(kit) != first)
+        write(f"{kit}/{name}", "one")
+        checks.same(f"kept.py: {name} of another time", True, kit_sum(kit) != first)
+        os.utime(f"{kit}/{name}", ns=(at.st_atime_ns, at.st_mtime_ns))
+    checks.same("kept.py: the kit as it was", first, kit_sum(kit))
+    at = os.stat(f"{kit}/rlibs/a.rlib/format")
+    write(f"{kit}/rlibs/a.rlib/format", "two")
+    os.utime(f"{kit}/rlibs/a.rlib/format", ns=(at.st_atime_ns, at.st_mtime_ns))
+    checks.same("kept.py: another library of the same size and time", True, kit_sum(kit) != first)
+
+
+FUNCTION = """/// Returns one.
+pub fn one() -> u64
+    ensures { result ≡ 1 }
+{
+    1
+}
+"""
+EDIT = "fn: one\ngoal: returns\nfile: src/lib.rt\nold:     1\nnew:     2\n"
+# Tries the edit, where the prover refuses each; first it may record what --right would have shown.
+TRY = """import edits, right_goals
+edits.try_once = lambda room, crate, tried, way: ([it.name for it in tried], [])
+def one():
+    return edits.Edit("a", "b.edit")
+if {records}:
+    right_goals.show("a", one().shown("a"))
+    right_goals.record({{"a"}}, set())
+try:
+    print(edits.try_copy("room", "a", [one()]))
+except edits.Bad as why:
+    print(str(why).split(":")[1].strip()[:9])
+"""
+
+
+def named_goals(checks):
+    """edits.py: a searched goal that is named fails, unless --right has shown of this very function that the search is not too weak."""
+    own = {"crates.txt": "a:\n", "crates/a/src/lib.rt": FUNCTION, "crates/a/must-fail-together/b.edit": EDIT}
+    folder = checks.folder(*MODULES, files=own)
+    hand = "crates/a/proofs/one/Answers.antt"
+    for what, records, name, text, wanted in [
+        ("no record", False, "", "", "NOT SHOWN"),
+        ("a record", True, "", "", "['b']"),
+        ("in a fresh clone", False, "", "", "['b']"),
+        ("another comment", False, "crates/a/src/lib.rt", FUNCTION.replace("Returns", "Gives"), "['b']"),
+        ("another wrong body", False, "crates/a/must-fail-together/b.edit", EDIT.replace("2", "3"), "['b']"),
+        ("another goal", False, "crates/a/must-fail-together/b.edit", EDIT.replace("returns", "returns-in-Some"), "NOT SHOWN"),
+        ("another contract", False, "crates/a/src/lib.rt", FUNCTION.replace("≡ 1", "≡ 0 + 1"), "NOT SHOWN"),
+        ("another lemma by hand", False, hand, "some : A\nsome = b\n", "NOT SHOWN"),
+        ("an answer by hand", False, hand, "pub returns : A\nreturns = b\n", "['b']"),
+        ("no named goal", False, "crates/a/must-fail-together/b.edit", EDIT.replace("goal: returns\n", ""), "['b']"),
+    ]:
+        if name:
+            before = open(f"{folder}/{name}", encoding="utf-8").read() if os.path.exists(f"{folder}/{name}") else None
+            write(f"{folder}/{name}", text)
+        said = ran(folder, sys.executable, "-B", "-c", OVER + TRY.format(records=records))
+        checks.same(f"edits.py: {what}", (0, wanted), said)
+        if name and before is None:
+            os.remove(f"{folder}/{name}")
+        elif name:
+            write(f"{folder}/{name}", before)
+
+
+# A process of which a copy takes most of the time.
+COPIES = """import os, time
+if not os.fork():
+    while time.process_time() < 0.3:
+        pass
+    os._exit(0)
+os.wait()
+"""
+
+
+def lanes(checks):
+    """proofs.py: a crate of the longest chain gets its share beside others, a short one gets one job, and copies count."""
+    sys.path.insert(0, f"{TOP}/tests")
+    import proofs
+
+    tasks = {(name, "proof"): ([(it, "proof") for it in below], 100, 1e9, None) for name, below in [("low", []), ("book", ["low"]), ("side", ["low"]), ("top", ["book"])]}
+    made = proofs.Lanes(tasks, 4, 2e10, {"low": 0.2, "book": 9, "side": 2})
+    checks.same("proofs.py: a crate that is not listed counts by its lines", 11.2 / 3, made.work["top", "proof"])
+    for what, name, idle, others, wanted in [
+        ("a crate of the chain, where one processor is idle", "book", 1, 0, 2),
+        ("one where all are", "book", 4, 0, 4),
+        ("another crate", "side", 2, 1, 1),
+        ("another crate where nothing waits", "side", 3, 0, 3),
+        ("a short one", "low", 4, 0, 1),
+    ]:
+        checks.same(f"proofs.py: {what}", wanted, made.jobs((name, "proof"), idle, others))
+    process = proofs.Measured([sys.executable, "-c", COPIES, "--crate-name", "a", "--jobs", "2"])
+    checks.same("proofs.py: a process that is measured ends as it does", 0, process.wait())
+    _, jobs, work, memory = proofs.Measured.used["a"]
+    checks.same("proofs.py: what its copies take counts", (2, True, True), (jobs, 0.3 <= work < 3, memory > 1000))
+    log = proofs.Measured.table().replace("| 0.0 |", "| 4.5 |", 1)
+    folder = checks.folder("tests/proofs.py", files={"tests/minutes.txt": "# Minutes\na 1\nb 2\n", "log": re.sub(r"\| [\d.]+ (\| [\d.]+ \|\n)", r"| 4.5 \1", log)})
+    ran(folder, sys.executable, "-B", "tests/proofs.py", "--take", "log")
+    checks.same("proofs.py: minutes are taken from a log", "# Minutes\na 4.5\nb 2\n", open(f"{folder}/tests/minutes.txt", encoding="utf-8").read())
+    checks.same("proofs.py: a log without a table", 1, ran(folder, sys.executable, "-B", "tests/proofs.py", "--take", "tests/minutes.txt")[0])
+
+
 def main():
     with tempfile.TemporaryDirectory(prefix="checks-") as room:
         checks = Checks(room)
-        for it in (shell_tests, links, quoted_code, speed_table, signatures, flow):
+        for it in (shell_tests, links, quoted_code, speed_table, signatures, lists_of_tests, kits, named_goals, lanes, flow):
             it(checks)
     print(f"checks.py: {checks.passed} passed, {checks.failed} failed")
     return 1 if checks.failed or not checks.passed else 0
