@@ -120,9 +120,9 @@ class Measured(subprocess.Popen):
 
     used, alone = {}, threading.Lock()
 
-    def __init__(self, words, *given, **named):
+    def __init__(self, *given, **named):
         self.begun = time.monotonic()
-        super().__init__(words, *given, **named)
+        super().__init__(*given, **named)
 
     def _try_wait(self, wait_flags):
         try:

@@ -31,9 +31,8 @@ shop() {
 
 case "${1-}" in
     --first)
-        # (what is not in the repository is not in the copy)
         mkdir "$room/copy"
-        (cd "$top" && git ls-files -z | xargs -0 cp --parents -t "$room/copy")
+        tar -C "$top" --exclude='crates/*/out' -cf - crates crates.txt HANDLES tools examples papaya-run | tar -C "$room/copy" -xf -
         silent 'nothing is built in the copy' find "$room/copy" -name out
         same "$first" "$answers" "$(cd "$room/copy" && bash -c "$first")"
         silent 'nothing is built by it' find "$room/copy" -name out
