@@ -5,12 +5,16 @@
 Nothing is proved or built here.
 """
 
+import contextlib
+import io
 import os
 import re
 import shutil
 import subprocess
 import sys
 import tempfile
+
+from proofs import module
 
 TOP = os.path.dirname(os.path.dirname(os.path.abspath(__file__)))
 
@@ -20,7 +24,14 @@ touch "begun-{name}"
 echo "{name}: said"
 [[ ! -f "status-{name}" ]] || exit 1
 """
-PARTS = "first_run run_tests edits twins checks papaya_run readme_code take kit runs readme_commands chart refused".split()
+
+
+def parts():
+    """The names of the parts that .ci/run has beside `rt ci`."""
+    with open(f"{TOP}/.ci/run", encoding="utf-8") as it:
+        text = it.read()
+    looped = re.search(r"^for script in (.*); do$", text, re.M)[1].split()
+    return [*re.findall(r"^begin (\w+) ", text, re.M), *looped, *re.findall(r"^part (\w+) ", text, re.M), *re.findall(r'^part_with "\S+" (\w+) ', text, re.M)]
 
 
 class Checks:
@@ -108,19 +119,17 @@ def quoted_code(checks):
         checks.same(f"readme_code.sh: {what}", (0, wanted), ran(TOP, "bash", "-c", script))
 
 
-def speed_table(checks):
-    """speed_table.py: a figure of README's table that is another one fails."""
+def speed_tables(checks):
+    """speed_table.py: a figure of this map in the second table of docs/PERFORMANCE.md that is another one fails."""
     folder = checks.folder("tests/speed_table.py", "README.md", "docs/PERFORMANCE.md", files={})
-    text = open(f"{TOP}/README.md", encoding="utf-8").read()
-    rows = text.partition("\n## Speed\n")[2].split("\n\n")[1]
-    at = text.index(rows)
+    text = open(f"{TOP}/docs/PERFORMANCE.md", encoding="utf-8").read()
+    at = text.index("| | `session` | `pins` | `papaya` |")
+    rows = [*re.finditer(r"^\| [^|]+ \| (\d+) \|", text[at : text.index("\n\n", at)], re.M)]
     checks.same("speed_table.py: it is as it is", 0, ran(folder, "python3", "-B", "tests/speed_table.py")[0])
     found = []
-    for row in re.finditer(r"^\| `[^|]*(.*)", rows, re.M):
-        number = next(re.finditer(r"(?<=\| )\d+(?= \|)", row[1]))
-        begins = at + row.start(1) + number.start()
-        wrong = text[:begins] + str(int(number[0]) + 9) + text[begins + len(number[0]) :]
-        write(f"{folder}/README.md", wrong)
+    for row in rows:
+        wrong = text[: at + row.start(1)] + str(int(row[1]) + 2) + text[at + row.end(1) :]
+        write(f"{folder}/docs/PERFORMANCE.md", wrong)
         found.append(ran(folder, "python3", "-B", "tests/speed_table.py")[0])
     checks.same("speed_table.py: a figure is changed in each row", (True, {1}), (len(found) > 5, {*found}))
 
@@ -160,22 +169,23 @@ SOURCE = """impl<K: Eq, V> HashMap<K, V> {
 }
 """
 
-LISTED = """impl<K: Eq, V> HashMap<K, V> {
-    /// Prints the map.
-    fn print<W: fmt::Write>(&self, f: &mut fmt::Formatter<W>) -> fmt::Result;
-    /// Adds one to `x`, and returns it.
-    const fn more(x: u64, self: u64) -> u64;
-    /// Calls a closure.
-    fn call<'g, F: FnMut(Option<(&'g K, &'g mut V)>) -> Operation<V, T>, G: Guard>(&'g mut self, f: F) -> Result<V, Refused> where G: Drop;
-}"""
-
-CLAUSES = """impl<K: Eq, V> HashMap<K, V> {
-    fn print<W: fmt::Write>(&self, f: &mut fmt::Formatter<W>) -> fmt::Result
-        requires { true };
-
-    const fn more(mut x: u64, mut self: u64) -> u64;
-
-    fn call<
+# What is listed of each public function there: the first sentence of its comment, its head, and its contract.
+LISTED = [
+    (
+        "Prints the map.",
+        "fn print<W: fmt::Write>(&self, f: &mut fmt::Formatter<W>) -> fmt::Result;",
+        """    fn print<W: fmt::Write>(&self, f: &mut fmt::Formatter<W>) -> fmt::Result
+        requires { true };""",
+    ),
+    (
+        "Adds one to `x`, and returns it.",
+        "const fn more(x: u64, self: u64) -> u64;",
+        "    const fn more(mut x: u64, mut self: u64) -> u64;",
+    ),
+    (
+        "Calls a closure.",
+        "fn call<'g, F: FnMut(Option<(&'g K, &'g mut V)>) -> Operation<V, T>, G: Guard>(&'g mut self, f: F) -> Result<V, Refused> where G: Drop;",
+        """    fn call<
         'g,
         F: FnMut(Option<(&'g K, &'g mut V)>) -> Operation<V, T>,
         G: Guard,
@@ -185,50 +195,60 @@ CLAUSES = """impl<K: Eq, V> HashMap<K, V> {
     ) -> Result<V, Refused>
     where
         G: Drop,
-        ensures { true };
-
-}"""
+        ensures { true };""",
+    ),
+]
 
 
 def signatures(checks):
-    """tools/signatures lists these functions so, and sees that a list is stale."""
-    folder = checks.folder("tools/signatures", files={"crates/papaya_map/src/lib.rt": SOURCE, "docs/none": ""})
-    checks.same("signatures: no list", 1, ran(folder, "tools/signatures", "--check")[0])
-    ran(folder, "tools/signatures")
-    for name, wanted in [("SIGNATURES", LISTED), ("CONTRACTS", CLAUSES)]:
-        text = open(f"{folder}/docs/{name}.md", encoding="utf-8").read()
-        part = text.partition("\n## `HashMap`\n")[2].partition("```rust\n")[2].partition("\n```")[0]
-        checks.same(f"signatures: {name}", wanted, part)
-    checks.same("signatures: the lists are fresh", 0, ran(folder, "tools/signatures", "--check")[0])
-    write(f"{folder}/crates/papaya_map/src/lib.rt", SOURCE.replace("mut fmt::", "fmt::"))
-    checks.same("signatures: a `mut` less", (1, "docs/CONTRACTS.md is not as the sources are: run tools/signatures"), ran(folder, "tools/signatures", "--check"))
+    """tools/signatures takes these functions so from the sources, and sees that a list is stale."""
+    made, lines = module("signatures", f"{TOP}/tools/signatures"), SOURCE.split("\n")
+    heads = [at for at, line in enumerate(lines) if re.match(r" *pub (const )?fn ", line)]
+    found = [(made.first_sentence(lines[:at]), made.signature(lines[at:]), made.contract(lines[at:])) for at in heads]
+    for wanted, listed in zip(LISTED, found):
+        checks.same("tools/signatures", wanted, listed)
+    checks.same("tools/signatures: how many", len(LISTED), len(found))
+    made.TOP = checks.folder(files={"docs/ONE.md": "one", "docs/TWO.md": "two"})
+    for what, texts, wanted in [
+        ("fresh lists", {"ONE": "one", "TWO": "two"}, (0, "signatures: 2 passed, 0 failed")),
+        ("a stale one", {"ONE": "one", "TWO": "2"}, (1, "signatures: 1 passed, 1 failed")),
+        ("one that is not there", {"ONE": "one", "SIX": "six"}, (1, "signatures: 1 passed, 1 failed")),
+    ]:
+        made.documents, said = lambda texts=texts: texts, io.StringIO()
+        with contextlib.redirect_stdout(said), contextlib.redirect_stderr(io.StringIO()):
+            status = made.main(["--check"])
+        checks.same(f"tools/signatures: {what}", wanted, (status, said.getvalue().strip()))
 
 
 def flow(checks):
     """.ci/run: a part that fails is counted, and without a program none is begun that needs it."""
     program = "mkdir -p crates/papaya_run/out; cp tests/take.sh crates/papaya_run/out/papaya_run"
-    made = 'mkdir -p "$1"; cp tests/take.sh "$1/papaya_tests"'
-    for what, proofs, broken, wanted, skipped in [
-        ("all passes", f"{program}; echo 32 passed, 0 failed", [], (0, "45 passed, 0 failed"), []),
-        ("a part fails", f"{program}; echo 32 passed, 0 failed", ["edits"], (1, "44 passed, 1 failed"), []),
-        ("several do", f"{program}; echo 32 passed, 0 failed", ["runs", "chart", "twins"], (1, "42 passed, 3 failed"), []),
-        ("a proof fails", "echo 31 passed, 1 failed; exit 1", [], (1, "42 passed, 3 failed"), ["runs", "readme_commands"]),
-        ("a proof fails beside the program", f"{program}; echo 31 passed, 1 failed; exit 1", [], (1, "44 passed, 1 failed"), []),
-        ("rt ci is killed", "echo rt: papaya proved; kill -9 $$", [], (1, "11 passed, 3 failed"), ["runs", "readme_commands"]),
-        ("it counts well, and ends badly", f"{program}; echo 32 passed, 0 failed; exit 2", [], (1, "45 passed, 1 failed"), []),
-        ("it counts nothing", f"{program}; echo 0 passed, 0 failed", [], (1, "13 passed, 1 failed"), []),
-        ("no test is compiled", f"{program}; echo 32 passed, 0 failed", ["run_tests"], (1, "43 passed, 2 failed"), ["refused"]),
+    made, names = 'mkdir -p "$1"; cp tests/take.sh "$1/papaya_tests"', parts()
+    checks.same(".ci/run: its parts are found", True, {"first_run", "edits", "checks", "take", "runs", "refused"} <= {*names} and len(names) == len({*names}))
+    # (what rt ci does, the parts that fail, how many crates and how many parts pass and fail, and what is skipped)
+    for what, proofs, broken, (good, bad), skipped in [
+        ("all passes", f"{program}; echo 32 passed, 0 failed", [], (32, 0), []),
+        ("a part fails", f"{program}; echo 32 passed, 0 failed", ["edits"], (32, 0), []),
+        ("several do", f"{program}; echo 32 passed, 0 failed", ["runs", "chart", "twins"], (32, 0), []),
+        ("a proof fails", "echo 31 passed, 1 failed; exit 1", [], (31, 1), ["runs", "readme_commands"]),
+        ("a proof fails beside the program", f"{program}; echo 31 passed, 1 failed; exit 1", [], (31, 1), []),
+        ("rt ci is killed", "echo rt: papaya proved; kill -9 $$", [], (0, 1), ["runs", "readme_commands"]),
+        ("it counts well, and ends badly", f"{program}; echo 32 passed, 0 failed; exit 2", [], (32, 1), []),
+        ("it counts nothing", f"{program}; echo 0 passed, 0 failed", [], (0, 1), []),
+        ("no test is compiled", f"{program}; echo 32 passed, 0 failed", ["run_tests"], (32, 0), ["refused"]),
     ]:
-        files = {f"tests/{it}.sh": STUB.format(name=it) for it in PARTS}
+        files = {f"tests/{it}.sh": STUB.format(name=it) for it in names}
         files |= {"tests/readme_commands.sh": 'name=readme_commands; [[ -z "${1-}" ]] || name=first_run\n' + STUB.format(name="$name")}
         files |= {f"tests/{it}.py": f"import os, sys\nsys.exit(os.system('bash tests/{it}.sh') >> 8)\n" for it in ("checks", "refused")}
         files |= {"tools/need-rt": "true\n", "tools/chart": STUB.format(name="chart"), "tests/progress.py": "import time\ntime.sleep(600)\n"}
         files |= {"tests/run_tests.sh": STUB.format(name="run_tests") + made, "stub.sh": f"sleep 0.3\n{proofs}\n"}
         files |= {"tests/proofs.py": "import os\nos.execvp('bash', ['bash', 'stub.sh'])\n"}
         folder = checks.folder(".ci/run", "tests/end.sh", files={**files, **{f"status-{it}": "" for it in broken}})
+        lost = len(broken) + len(skipped)
+        wanted = (int(bad + lost > 0), f"{good + len(names) - lost} passed, {bad + lost} failed")
         checks.same(f".ci/run: {what}", wanted, ran(folder, "bash", ".ci/run"))
-        begun = {it for it in PARTS if os.path.exists(f"{folder}/begun-{it}")}
-        checks.same(f".ci/run: {what}: what is skipped", sorted(skipped), sorted({*PARTS} - begun))
+        begun = {it for it in names if os.path.exists(f"{folder}/begun-{it}")}
+        checks.same(f".ci/run: {what}: what is skipped", sorted(skipped), sorted({*names} - begun))
 
 
 # The modules by which edits and tests are tried, and a script over them.
@@ -252,7 +272,6 @@ def lists_of_tests(checks):
 
 def kits(checks):
     """kept.py: a library of the kit that changes below its folder makes another sum."""
-    sys.path.insert(0, f"{TOP}/tests")
     from kept import kit_sum
 
     files = {it: "one" for it in ("KIT-ID", "WHAT", "bin/rattle", "logic_built/a.oantt", "rlibs/a.rlib/format", "rlibs/a.rlib/lang/b")}
@@ -337,7 +356,6 @@ os.wait()
 
 def lanes(checks):
     """proofs.py: a crate of the longest chain gets its share beside others, a short one gets one job, and copies count."""
-    sys.path.insert(0, f"{TOP}/tests")
     import proofs
 
     tasks = {(name, "proof"): ([(it, "proof") for it in below], 100, 1e9, None) for name, below in [("low", []), ("book", ["low"]), ("side", ["low"]), ("top", ["book"])]}
@@ -365,7 +383,7 @@ def lanes(checks):
 def main():
     with tempfile.TemporaryDirectory(prefix="checks-") as room:
         checks = Checks(room)
-        for it in (shell_tests, links, quoted_code, speed_table, signatures, lists_of_tests, kits, named_goals, lanes, flow):
+        for it in (shell_tests, links, quoted_code, speed_tables, signatures, lists_of_tests, kits, named_goals, lanes, flow):
             it(checks)
     print(f"checks.py: {checks.passed} passed, {checks.failed} failed")
     return 1 if checks.failed or not checks.passed else 0

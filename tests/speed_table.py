@@ -1,8 +1,8 @@
-"""README's table of speed has the figures of docs/PERFORMANCE.md: of this map those of "Instructions of an operation" less the row
-`loop`, and of papaya about those of "Beside papaya and other maps". What that second table has of this map is the same too.
+"""docs/PERFORMANCE.md has the same figures in its two tables of instructions: those of this map beside papaya are those of
+"Instructions of an operation" less the row `loop`. If README has a table of speed, it has these figures too.
 
-Where the row `loop` has no figure, one loop explains all figures of the row. papaya's may be 3 less, as that table's own text says:
-README's heading says "about".
+Where the row `loop` has no figure, one loop explains all figures of the row. README's figures of papaya may be up to 3 less than those of
+the second table, as that table's own text says: README's heading says "about".
 """
 
 import os
@@ -11,7 +11,9 @@ import sys
 
 TOP = os.path.dirname(os.path.dirname(os.path.abspath(__file__)))
 
-# README's columns and rows, as the tables of docs/PERFORMANCE.md name them.
+# The second table's columns of this map as the first one names them, README's as the first and as the second one name them, and
+# README's rows.
+THERE_OURS = {"session": "session", "pins": "pin-a-call"}
 OURS = {"a map pinned once": "shared", "a session": "session", "pinned for each call": "pin-a-call", "seq": "seq"}
 BESIDE = {"a session": "session", "pinned for each call": "pins"}
 PAPAYA = "papaya 0.2.5, about"
@@ -59,44 +61,57 @@ def is_rounded(said, exact):
     return said is not None and exact is not None and abs(said - exact) <= 0.5 + 1e-6
 
 
-def ours(row, said, gross):
-    """For each of our columns, README's figure, the one that it is to be, and whether it is that."""
-    loop = 0.0 if row in NO_LOOP else number(gross["loop"][row])
-    shown = {it: (number(said[it]), number(gross[OURS[it]][row])) for it in OURS if said[it]}
-    if loop is None:
-        # (the loops that would explain each figure: is there one for all?)
-        least = max(exact - figure - 0.5 for figure, exact in shown.values())
-        most = min(exact - figure + 0.5 for figure, exact in shown.values())
-        loop = (least + most) / 2 if least <= most else None
+def loop_of(row, shown):
+    """What the loop takes in a row, by the table or else by the figures that are shown with their exact counts. None explains all, if
+    they do not agree."""
+    if row in NO_LOOP:
+        return 0.0
+    if shown.get("loop"):
+        return shown["loop"]
+    least = max((exact - figure - 0.5 for figure, exact in shown["figures"]), default=0.0)
+    most = min((exact - figure + 0.5 for figure, exact in shown["figures"]), default=0.0)
+    return (least + most) / 2 if least <= most else None
+
+
+def compared(row, said, columns, gross):
+    """For each of these columns, the figure that is said, the one that it is to be, and whether it is that."""
+    shown = {it: (number(said[it]), number(gross[name][row])) for it, name in columns.items() if said[it]}
+    known = [it for it in shown.values() if None not in it]
+    loop = loop_of(row, {"loop": number(gross["loop"][row]), "figures": known})
     for column, (figure, exact) in shown.items():
-        yield column, figure, exact and loop is not None and exact - loop, exact is not None and loop is not None and is_rounded(figure, exact - loop)
+        is_known = exact is not None and loop is not None
+        yield column, figure, exact - loop if is_known else None, is_known and is_rounded(figure, exact - loop)
 
 
-def beside(row, said, there):
-    """The same by the second table: of this map, and about of papaya."""
-    of = there[THERE.get(row, row)]
-    for column, name in BESIDE.items():
-        if said[column] and of[name]:
-            yield column, number(said[column]), number(of[name]), said[column] == of[name]
+def about(said, of):
+    """The same of README's figures of papaya, by the second table."""
     for figure, name in zip(map(float, re.findall(r"\d+", said[PAPAYA])), ("papaya", "papaya-pins")):
         yield PAPAYA, figure, number(of[name]), bool(of[name]) and 0 <= float(of[name]) - figure <= ABOUT
 
 
 def main():
-    readme = table("README.md", "Speed", PAPAYA)
     gross = table("docs/PERFORMANCE.md", "Instructions of an operation", "get hit")
     there = table("docs/PERFORMANCE.md", "Beside papaya and other maps", "papaya-pins")
-    passed, failed = 0, 0
-    for name in sorted({*ROWS} ^ {*readme}):
-        failed += 1
-        print(f"README.md: the table of speed and this script differ in the row {name}", file=sys.stderr)
-    for name in [it for it in ROWS if it in readme]:
-        for column, figure, wanted, is_well in [*ours(ROWS[name], readme[name], gross), *beside(ROWS[name], readme[name], there)]:
-            passed, failed = passed + is_well, failed + (not is_well)
-            if not is_well:
-                print(f"README.md: {name}: {column}: {figure:g}, where docs/PERFORMANCE.md comes to {wanted}", file=sys.stderr)
-    print(f"speed_table.py: {passed} passed, {failed} failed")
-    return 1 if failed or not passed else 0
+    found = []
+    rows = {name: row for row, name in THERE.items()}
+    for name, said in there.items():
+        found += [("docs/PERFORMANCE.md", name, *it) for it in compared(rows.get(name, name), said, THERE_OURS, gross)]
+    with open(f"{TOP}/README.md", encoding="utf-8") as it:
+        has_table = PAPAYA in it.read()
+    if has_table:
+        readme = table("README.md", "Speed", PAPAYA)
+        found += [("README.md", name, "this row", 0, "none", False) for name in sorted({*ROWS} ^ {*readme})]
+        for name in [it for it in ROWS if it in readme]:
+            of = there[THERE.get(ROWS[name], ROWS[name])]
+            found += [("README.md", name, *it) for it in compared(ROWS[name], readme[name], OURS, gross)]
+            found += [("README.md", name, *it) for it in about(readme[name], of)]
+            both = [(it, readme[name][it], of[BESIDE[it]]) for it in BESIDE if readme[name][it]]
+            found += [("README.md", name, it, number(said), number(wanted), said == wanted) for it, said, wanted in both]
+    wrong = [it for it in found if not it[-1]]
+    for document, name, column, figure, wanted, _ in wrong:
+        print(f"{document}: {name}: {column}: {figure:g}, where docs/PERFORMANCE.md comes to {wanted}", file=sys.stderr)
+    print(f"speed_table.py: {len(found) - len(wrong)} passed, {len(wrong)} failed")
+    return 1 if wrong or not found else 0
 
 
 if __name__ == "__main__":
