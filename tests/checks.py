@@ -358,7 +358,8 @@ def lanes(checks):
     """proofs.py: a crate of the longest chain gets its share beside others, a short one gets one job, and copies count."""
     import proofs
 
-    tasks = {(name, "proof"): ([(it, "proof") for it in below], 100, 1e9, None) for name, below in [("low", []), ("book", ["low"]), ("side", ["low"]), ("top", ["book"])]}
+    crates = {"low": [], "book": ["low"], "side": ["low"], "top": ["book"]}
+    tasks = {(name, "proof"): ([(it, "proof") for it in below], 100, 1e9, None) for name, below in crates.items()}
     made = proofs.Lanes(tasks, 4, 2e10, {"low": 0.2, "book": 9, "side": 2})
     checks.same("proofs.py: a crate that is not listed counts by its lines", 11.2 / 3, made.work["top", "proof"])
     for what, name, idle, others, wanted in [
@@ -373,8 +374,8 @@ def lanes(checks):
     checks.same("proofs.py: a process that is measured ends as it does", 0, process.wait())
     _, jobs, work, memory = proofs.Measured.used["a"]
     checks.same("proofs.py: what its copies take counts", (2, True, True), (jobs, 0.3 <= work < 3, memory > 1000))
-    log = proofs.Measured.table().replace("| 0.0 |", "| 4.5 |", 1)
-    folder = checks.folder("tests/proofs.py", files={"tests/minutes.txt": "# Minutes\na 1\nb 2\n", "log": re.sub(r"\| [\d.]+ (\| [\d.]+ \|\n)", r"| 4.5 \1", log)})
+    log = re.sub(r"\| [\d.]+ (\| [\d.]+ \|\n)", r"| 4.5 \1", proofs.Measured.table())
+    folder = checks.folder("tests/proofs.py", files={"tests/minutes.txt": "# Minutes\na 1\nb 2\n", "log": log})
     ran(folder, sys.executable, "-B", "tests/proofs.py", "--take", "log")
     checks.same("proofs.py: minutes are taken from a log", "# Minutes\na 4.5\nb 2\n", open(f"{folder}/tests/minutes.txt", encoding="utf-8").read())
     checks.same("proofs.py: a log without a table", 1, ran(folder, sys.executable, "-B", "tests/proofs.py", "--take", "tests/minutes.txt")[0])

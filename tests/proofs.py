@@ -46,7 +46,9 @@ def module(name, path):
 
 
 def minutes():
-    """The minutes of one processor that a crate took by the last run from nothing."""
+    """The minutes of one processor that a crate took by the last run from nothing. Without the file none is known."""
+    if not os.path.exists(MINUTES):
+        return {}
     with open(MINUTES, encoding="utf-8") as it:
         return {name: float(number) for name, number in re.findall(r"^(\w+) ([\d.]+)$", it.read(), re.M)}
 
@@ -165,7 +167,7 @@ def measure(rt):
             builtins.print(Measured.table(), flush=True)
         builtins.print(*words, **how)
 
-    if "wait_flags" in inspect.signature(subprocess.Popen._try_wait).parameters:
+    if hasattr(subprocess.Popen, "_try_wait"):
         subprocess.Popen, rt.print = Measured, said
 
 
