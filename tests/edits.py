@@ -258,7 +258,6 @@ def try_once(room, crate, edits, way):
 
 def try_right(room, crate, edits):
     """Makes the right functions in place of the wrong ones, and says whether their named goals are proved by the same search."""
-    edits = [it for it in edits if it.is_searched(crate)]
     lines = [it.shown(crate) for it in edits]
     for it in edits:
         it.is_wrong = False
@@ -280,19 +279,20 @@ def try_right(room, crate, edits):
     return told
 
 
-def copies_of(crate):
-    """The edits of a crate, by the copies in which they are made. Those of one file stand beside each other: what
-    their functions cite is much the same, and each copy reads that once."""
+def copies_of(crate, is_right):
+    """The edits of a crate, by the copies in which they are made, or just those whose goal is searched for. Those of one file stand
+    beside each other: what their functions cite is much the same, and each copy reads that once."""
     edits = [Edit(crate, it) for it in sorted(os.listdir(f"{TOP}/crates/{crate}/{TOGETHER}"))]
+    edits = [it for it in edits if not is_right or it.is_searched(crate)]
     edits.sort(key=lambda it: (it.file, it.function))
-    copies = -(-len(edits) // AT_ONCE)
+    copies = -(-len(edits) // AT_ONCE) or 1
     ends = [len(edits) * it // copies for it in range(copies + 1)]
     return [edits[first:end] for first, end in zip(ends, ends[1:])]
 
 
 def right_ones(tries):
     """Looks at the right functions of these tries, and records what was shown."""
-    wanted = {it.shown(crate) for crate, edits in tries for it in edits if it.is_searched(crate)}
+    wanted = {it.shown(crate) for crate, edits in tries for it in edits}
     is_well = try_all("edits", tries, lambda crate, _: below(crate), try_right, "goals of right functions proved")
     right_goals.record({crate for crate, _ in tries}, wanted)
     return is_well
@@ -304,7 +304,7 @@ def main(names):
     # (as `rt ci` builds them: the lowest first)
     every = sorted((it for it in NAMED if os.path.isdir(f"{TOP}/crates/{it}/{TOGETHER}")), key=lambda it: len(below(it)))
     try:
-        tries = [(crate, edits) for crate in names or every for edits in copies_of(crate)]
+        tries = [(crate, edits) for crate in names or every for edits in copies_of(crate, is_right)]
     except Bad as why:
         print(f"edits: {why}", file=sys.stderr)
         return 1
