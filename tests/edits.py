@@ -249,7 +249,7 @@ def try_once(room, crate, edits, way):
         folder = f"{room}/{crate}/proofs/{edit.function.replace('::', '/')}"
         line = goals.line_of(crate, edit.function, said, folder) if edit.may_name and not is_named else ""
         if line:
-            print(f"edits: {crate}/{edit.name}: name its goal: {line}", end="", flush=True)
+            print(f"edits: {crate}/{edit.name}: name its goal, if the right function has it: {line}", end="", flush=True)
     print(f"edits: {crate}, {len(edits)} in one copy: {said.splitlines()[-1]}", flush=True)
     if not left:
         kept.keep(told)
