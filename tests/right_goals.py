@@ -39,7 +39,8 @@ def answers(folder):
 def line_of(crate, function, goal, right):
     """The line of a goal of this function, whose text is that of the sources."""
     folder = f"{TOP}/crates/{crate}/proofs/{function.replace('::', '/')}"
-    code = [it.strip() for it in right.split("\n") if it.strip() and not it.strip().startswith("//")]
+    # (its layout may change)
+    code = " ".join(it for it in right.split("\n") if not it.strip().startswith("//")).split()
     read = repr((crate, function, goal, code, answers(folder), goals.SEARCHES, logic()))
     return f"{crate} {function} {goals.name_of(goal)} {hashlib.sha256(read.encode()).hexdigest()[:24]}"
 
