@@ -265,7 +265,7 @@ def lists_of_tests(checks):
         ("a crate more", {"tests/crates/a/lib.rs": test * 2, "tests/crates/b/lib.rs": test}, False),
         ("a crate less", {"tests/crates/.none/lib.rs": ""}, False),
     ]:
-        files |= {"crates.txt": "", "tests/unproved.txt": "# A list\na 2: b c\n"}
+        files |= {"crates.txt": "", "tests/unproved.txt": "# A list\na: b c\n# a 2\n# d 1\n"}
         said = ran(checks.folder(*MODULES, files=files), sys.executable, "-B", "-c", f"{OVER}import unproved\nunproved.stop_on_lists()\nprint('well')")
         checks.same(f"unproved.py: {what}", wanted, said == (0, "well"))
 
