@@ -17,9 +17,10 @@ for a proof of this goal alone (goals.py). Without `goal:` it searches for each,
 An edit of which that cannot be said is tried once more, without `goal:`, and then beside the proofs of what its function
 calls. A copy whose edits an earlier run on this machine saw refused, over all that it reads, is not tried again.
 
-With --right the right functions stand in place of the wrong ones: the same search has to find a proof of the named goal,
-where the right function has that goal. So what refuses the wrong body is not that the search is too weak. The gate does
-not do this: do it when you name a goal.
+With --right the right functions stand in place of the wrong ones: the same search has to find a proof of the named goal.
+So what refuses the wrong body is not that the search is too weak. Do it when you name a goal: tests/right_goals.txt keeps what
+it showed (right_goals.py), and an edit fails that names a searched goal without a line there. One whose right function does not have the
+goal can name none.
 """
 
 import os
@@ -29,6 +30,7 @@ import sys
 from enum import Enum
 
 import goals
+import right_goals
 from kept import Try
 from prover import LOST, NAMED, TOP, Bad, Change, below, check, copy_of, digest, entries_of, try_all, verdicts_of
 from standing import is_of_trait, take_at_word, text_of
@@ -80,19 +82,28 @@ class Edit(Change):
         folder = f"{TOP}/crates/{crate}/proofs/{self.function.replace('::', '/')}"
         return bool(self.goal()) and not goals.has_answer(folder, self.goal())
 
-    def make(self, source, copy, number):
-        """Makes the change in a copy of these sources: in a function of its own with this number, where it can."""
-        text = open(f"{source}/{self.file}", encoding="utf-8").read()
+    def right(self, source):
+        """The right function in these sources, and the line at which it begins."""
+        text = text_of(f"{source}/{self.file}")
         lines, old = text.split("\n"), self.pairs[0][1]
         line = text[: text.find(old)].count("\n")
         stands = [it for it in extents(lines, self.short()) if it[0] <= line <= it[1]]
         if text.count(old) != 1 or not stands:
             raise Bad(f"{self.name}: {self.file} has this text {text.count(old)} times, and not once in its function: {old}")
         first, last = stands[0]
+        return "\n".join(lines[first : last + 1]), first
+
+    def shown(self, crate):
+        """The line that says that the search for its named goal proves that of the right function."""
+        return right_goals.line_of(crate, self.function, self.goal(), self.right(f"{TOP}/crates/{crate}")[0])
+
+    def make(self, source, copy, number):
+        """Makes the change in a copy of these sources: in a function of its own with this number, where it can."""
+        right, first = self.right(source)
         by_hand = os.path.exists(f"{source}/proofs/{self.function.replace('::', '/')}/Proof.antt")
-        if by_hand or is_of_trait(lines, first):
+        if by_hand or is_of_trait(text_of(f"{source}/{self.file}").split("\n"), first):
             return self.apply(copy)
-        return self.make_beside(copy, "\n".join(lines[first : last + 1]), number)
+        return self.make_beside(copy, right, number)
 
     def make_beside(self, copy, right, number):
         """Puts the spoiled function behind the right one."""
@@ -191,14 +202,24 @@ def make_copy(room, crate, edits, way):
 def try_copy(room, crate, edits):
     """Tries these edits in one copy of the crate, and says how each was refused. Those that are not are tried once more, in
     a way that takes longer."""
-    told = []
+    told, lacking = [], unshown(crate, edits)
     for way in Way:
         refused, left = try_once(f"{room}/{way.name}", crate, edits, way)
         told += refused
-        if not left:
-            return told
         edits = [Edit(crate, f"{it.name}.edit") for it in left]
-    raise Bad(f"{crate}: NOT REFUSED: {' '.join(it.name for it in edits)}")
+        if not edits:
+            break
+    if edits:
+        raise Bad(f"{crate}: NOT REFUSED: {' '.join(it.name for it in edits)}")
+    if lacking:
+        raise Bad(f"{crate}: NOT SHOWN that the search proves the goal of the right function: python3 tests/edits.py --right {crate}: {' '.join(lacking)}")
+    return told
+
+
+def unshown(crate, edits):
+    """The edits that name a searched goal of which tests/right_goals.txt does not say that the search proves it of the right function."""
+    recorded = right_goals.recorded()
+    return [it.name for it in edits if it.is_searched(crate) and it.shown(crate) not in recorded]
 
 
 def try_once(room, crate, edits, way):
@@ -228,7 +249,7 @@ def try_once(room, crate, edits, way):
         folder = f"{room}/{crate}/proofs/{edit.function.replace('::', '/')}"
         line = goals.line_of(crate, edit.function, said, folder) if edit.may_name and not is_named else ""
         if line:
-            print(f"edits: {crate}/{edit.name}: name its goal: {line}", end="", flush=True)
+            print(f"edits: {crate}/{edit.name}: name its goal, if the right function has it: {line}", end="", flush=True)
     print(f"edits: {crate}, {len(edits)} in one copy: {said.splitlines()[-1]}", flush=True)
     if not left:
         kept.keep(told)
@@ -237,44 +258,60 @@ def try_once(room, crate, edits, way):
 
 def try_right(room, crate, edits):
     """Makes the right functions in place of the wrong ones, and says whether their named goals are proved by the same search."""
-    edits = [it for it in edits if it.is_searched(crate)]
+    lines = [it.shown(crate) for it in edits]
     for it in edits:
         it.is_wrong = False
     make_copy(room, crate, edits, Way.NAMED)
     said = check(room, crate, [], [it.function for it in edits], "--allow-holes") if edits else ""
-    verdicts, told = verdicts_of(said), []
-    for it in edits:
+    verdicts, told, wrong = verdicts_of(said), [], []
+    for it, line in zip(edits, lines):
         name, errors = goals.name_of(it.goal()), goals.errors_at(it.function, said)
         if any(LOST.search(entry) for entry in errors):
-            told.append(f"{crate}/{it.name}: the right function has no goal `{name}`")
+            wrong.append(f"{crate}/{it.name}: the right function has no goal `{name}`: take the line `goal:` out")
         elif errors or f"{crate}::{it.function}" not in verdicts:
-            raise Bad(f"{crate}/{it.name}: the right function's `{name}` IS NOT PROVED by the search\n{digest(said)}")
+            wrong.append(f"{crate}/{it.name}: the right function's `{name}` IS NOT PROVED by the search: take the line `goal:` out")
         else:
+            right_goals.show(crate, line)
             told.append(f"{crate}/{it.name}: the right function's `{name}` is proved")
+    if wrong:
+        print("".join(f"edits: {it}\n" for it in told), end="", flush=True)
+        raise Bad("\n".join([*wrong, digest(said)]))
     return told
 
 
-def copies_of(crate):
-    """The edits of a crate, by the copies in which they are made. Those of one file stand beside each other: what
-    their functions cite is much the same, and each copy reads that once."""
+def copies_of(crate, is_right):
+    """The edits of a crate, by the copies in which they are made, or just those whose goal is searched for. Those of one file stand
+    beside each other: what their functions cite is much the same, and each copy reads that once."""
     edits = [Edit(crate, it) for it in sorted(os.listdir(f"{TOP}/crates/{crate}/{TOGETHER}"))]
+    edits = [it for it in edits if not is_right or it.is_searched(crate)]
     edits.sort(key=lambda it: (it.file, it.function))
-    copies = -(-len(edits) // AT_ONCE)
+    copies = -(-len(edits) // AT_ONCE) or 1
     ends = [len(edits) * it // copies for it in range(copies + 1)]
     return [edits[first:end] for first, end in zip(ends, ends[1:])]
 
 
+def right_ones(tries):
+    """Looks at the right functions of these tries, and records what was shown."""
+    wanted = {it.shown(crate) for crate, edits in tries for it in edits}
+    is_well = try_all("edits", tries, lambda crate, _: below(crate), try_right, "goals of right functions proved")
+    right_goals.record({crate for crate, _ in tries}, wanted)
+    return is_well
+
+
 def main(names):
-    call, done = (try_right, "right functions looked at") if "--right" in names else (try_copy, "refused")
+    is_right = "--right" in names
     names = [it for it in names if it != "--right"]
     # (as `rt ci` builds them: the lowest first)
     every = sorted((it for it in NAMED if os.path.isdir(f"{TOP}/crates/{it}/{TOGETHER}")), key=lambda it: len(below(it)))
     try:
-        tries = [(crate, edits) for crate in names or every for edits in copies_of(crate)]
+        tries = [(crate, edits) for crate in names or every for edits in copies_of(crate, is_right)]
     except Bad as why:
         print(f"edits: {why}", file=sys.stderr)
         return 1
-    return 0 if try_all("edits", tries, lambda crate, _: below(crate), call, done) else 1
+    if is_right:
+        return 0 if right_ones(tries) else 1
+    return 0 if try_all("edits", tries, lambda crate, _: below(crate), try_copy) else 1
 
 
-sys.exit(main(sys.argv[1:]))
+if __name__ == "__main__":
+    sys.exit(main(sys.argv[1:]))

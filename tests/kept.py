@@ -35,17 +35,30 @@ def sum_of(folder):
     return found.hexdigest()
 
 
+def kit_sum(kit):
+    """The sum of a kit: its names, the place, size and time of each file that a check reads, and what says of a library
+    from what it was built."""
+    found = hashlib.sha256()
+    files = [f"{kit}/KIT-ID", f"{kit}/WHAT"]
+    for part in ("bin", "logic_built", "rlibs"):
+        # (a kit made by tools/kit has links)
+        files += [f"{at}/{name}" for at, _, names in os.walk(f"{kit}/{part}", followlinks=True) for name in names]
+    for path in sorted(files):
+        name, at = os.path.relpath(path, kit), os.stat(path)
+        found.update(repr((name, at.st_size, at.st_mtime_ns)).encode())
+        if os.path.basename(name) in ("KIT-ID", "WHAT", "format"):
+            with open(path, "rb") as it:
+                found.update(it.read())
+    return found.hexdigest()
+
+
 @functools.lru_cache(maxsize=None)
 def common():
-    """The sum of what all tries read: the kit, by its names and its prover, and these scripts."""
-    found = hashlib.sha256()
-    scripts = [f"{TOP}/tests/{it}.py" for it in ("prover", "kept", "standing", "goals", "edits", "twins")]
-    for path in [f"{KIT}/KIT-ID", f"{KIT}/WHAT", *scripts]:
-        with open(path, "rb") as it:
-            found.update(repr((os.path.basename(path), it.read())).encode())
-    for name in ("bin/rattle", "logic_built", "rlibs"):
-        at = os.stat(f"{KIT}/{name}")
-        found.update(repr((name, at.st_size, at.st_mtime_ns)).encode())
+    """The sum of what all tries read: the kit, and these scripts."""
+    found = hashlib.sha256(kit_sum(KIT).encode())
+    for name in ("prover", "kept", "standing", "goals", "edits", "twins"):
+        with open(f"{TOP}/tests/{name}.py", "rb") as it:
+            found.update(repr((name, it.read())).encode())
     return found.hexdigest()
 
 

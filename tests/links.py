@@ -41,7 +41,7 @@ def main():
         for link in lost:
             print(f"{name}: {link} is not there", file=sys.stderr)
     print(f"links.py: {passed} passed, {failed} failed")
-    return 1 if failed else 0
+    return 1 if failed or not passed else 0
 
 
 if __name__ == "__main__":

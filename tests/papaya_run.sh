@@ -84,7 +84,7 @@ for flag in --help -h '--unproved --help'; do
     same "$flag ends well" 0 "$(run $flag)"
     same "$flag prints the form" 'papaya-run [--unproved] <seq|shared|core> <inc:N|block> <id|zero>' \
         "$(head -1 "$folder/output")"
-    same "$flag says nothing else" '' "$(cat "$folder/errors")"
+    silent "$flag says nothing else" cat "$folder/errors"
 done
 same 'help builds nothing' 'none' "$([[ -e "$made/crates/papaya_run/out" ]] && echo some || echo none)"
 
@@ -183,7 +183,7 @@ papaya-run: papaya_run proved in N s, 3 of 3' "$(sed 's/ in [0-9]* s,/ in N s,/'
 # A program that is fresh runs with no word.
 same 'a fresh program runs' 0 "$(run seq inc:8 zero)"
 same 'a fresh program gets its arguments' 'ran seq inc:8 zero' "$(cat "$folder/output")"
-same 'a fresh program runs with no word' '' "$(cat "$folder/errors")"
+silent 'a fresh program runs with no word' cat "$folder/errors"
 
 # What is wrong with a line of a file is said behind the program's own words.
 wrong() {
@@ -249,7 +249,7 @@ same 'just those are there' $'papaya_low\npapaya_mid' "$(ls "$folder/proved/crat
 status=0
 "$made/tools/prove" "$folder/proved" papaya_mid 2>/dev/null || status=$?
 same 'a folder that is there is refused' 1 "$status"
-same 'nothing is left but the program' '' "$(find "$made" -name proved)"
+silent 'nothing is left but the program' find "$made" -name proved
 
 # The programs of examples/ do so too.
 for flag in --help -h '--unproved --help'; do
@@ -268,7 +268,7 @@ count-words: papaya_low proved in N s, 1 of 2
 count-words: proving count_words
 count-words: count_words proved in N s, 2 of 2' "$(sed 's/ in [0-9]* s,/ in N s,/' "$folder/errors")"
 same 'a fresh example runs' 0 "$(count_words)"
-same 'and says nothing' '' "$(cat "$folder/errors")"
+silent 'and says nothing' cat "$folder/errors"
 touch -d '+3 minutes' "$made/crates/papaya_low/src/lib.rt"
 same 'a stale example is built again' 0 "$(count_words)"
 same 'which it says' 'count-words: proving and building 2 crates; without the proof: examples/count-words --unproved' \

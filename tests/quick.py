@@ -17,8 +17,8 @@ import time
 from concurrent.futures import ThreadPoolExecutor
 
 from prover import NAMED, TOP, Bad, lanes
-from run_tests import MOST_SECONDS, count, make, make_together, ran, run, run_together
-from unproved import EVERY, compiled, files_of, is_program
+from run_tests import MOST_SECONDS, make, make_together, ran, run, run_together
+from unproved import EVERY, compiled, count, files_of, is_program
 
 # The memory that one crate takes to compile, in kB.
 EACH = 1_500_000
@@ -98,7 +98,7 @@ def side_by_side(room):
     parts = [("tests/crates", run_unproved, room), *crates_alone(room, NAMED)]
     for name in ("papaya_run.sh", "readme_code.sh", "take.sh", "kit.sh"):
         parts.append((name, ran, "bash", f"{TOP}/tests/{name}"))
-    parts.append(("sentences.py", ran, "python3", "-B", f"{TOP}/tests/sentences.py"))
+    parts.append(("checks.py", ran, "python3", "-B", f"{TOP}/tests/checks.py"))
     return [*parts, ("tools/chart", ran, f"{TOP}/tools/chart", "--check")]
 
 

@@ -3,7 +3,8 @@
 # proved, that of docs/GUIDE.md in any crate or its tests, the definitions of docs/GUIDE.md and docs/DEFINITIONS.md in specs/,
 # and the calls of docs/SIGNATURES.md in the sources. Examples in the comments of calls stand in papaya_uses_tests,
 # which runs them (quoted_examples.py). papaya/specs re-export what contracts cite (reexports.py). README and CHANGELOG
-# name the release and the kit of VERSION. Links between documents find their headings (links.py).
+# name the release and the kit of VERSION. Links between documents find their headings (links.py). README's speed table has
+# the figures of docs/PERFORMANCE.md (speed_table.py).
 set -euo pipefail
 cd "$(dirname "${BASH_SOURCE[0]}")/.."
 
@@ -44,19 +45,31 @@ stands() {
     fi
 }
 
+# counted COMMAND..: takes over how many cases passed and failed, by the last line that the command prints. One that counts
+# none, or ends badly, has failed.
+counted() {
+    local status=0 said
+    said="$("$@" 2>&1)" || status=$?
+    if [[ "$(tail -1 <<<"$said")" =~ ^[a-z_.]+:\ ([0-9]+)\ passed,\ ([0-9]+)\ failed$ && "$status" == 0 && "${BASH_REMATCH[1]}" -gt 0 ]]; then
+        passed=$((passed + BASH_REMATCH[1]))
+        failed=$((failed + BASH_REMATCH[2]))
+    else
+        failed=$((failed + 1))
+        printf 'readme_code.sh: %s ended with status %s:\n%s\n' "$*" "$status" "$said" >&2
+    fi
+}
+
 quoted README.md rust crates/papaya_uses/src/*.rt crates/shop/src/main.rt
 mapfile -t sources < <(find crates/*/src tests/crates -name '*.r[ts]')
 quoted docs/GUIDE.md rust "${sources[@]}"
 quoted docs/GUIDE.md antt crates/papaya_uses/specs/*.antt
 quoted docs/DEFINITIONS.md text crates/papaya_*/specs/*.antt
 
-stands 'docs/SIGNATURES.md and docs/CONTRACTS.md' "$(tools/signatures --check)" 'signatures: 2 passed, 0 failed'
-stands 'examples in comments' "$(python3 -B tests/quoted_examples.py 2>&1 | sed 's/[0-9]* passed/all passed/')" \
-    'quoted_examples.py: all passed, 0 failed'
-stands 'what papaya/specs re-export' "$(python3 -B tests/reexports.py 2>&1 | sed 's/[0-9]* passed/all passed/')" \
-    'reexports.py: all passed, 0 failed'
-stands 'links between documents' "$(python3 -B tests/links.py 2>&1 | sed 's/[0-9]* passed/all passed/')" \
-    'links.py: all passed, 0 failed'
+counted tools/signatures --check
+counted python3 -B tests/quoted_examples.py
+counted python3 -B tests/reexports.py
+counted python3 -B tests/links.py
+counted python3 -B tests/speed_table.py
 version="$(sed -n 's/^version //p' VERSION)"
 date="$(sed -n 's/^date //p' VERSION)"
 stands 'the release of README.md' "$(grep -oE 'release is [0-9.]+ of [0-9-]+' README.md)" "release is $version of $date"

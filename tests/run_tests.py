@@ -15,18 +15,12 @@ import tempfile
 import time
 
 from prover import KIT, TOP, Bad, is_proving
-from unproved import TESTS, TOGETHER, compiled, files_of, stop_on_layout
+from unproved import TESTS, TOGETHER, compiled, count, stop_on_layout, stop_on_lists
 
 # The seconds that one test may take on a loaded machine.
 MOST_SECONDS = 600
 
 TALLY = re.compile(r"(\d+) passed[,;] (\d+) failed")
-
-
-def count(crate):
-    """How many tests in Rust a crate has."""
-    texts = [open(it, encoding="utf-8").read() for it in files_of(crate)]
-    return sum(len(re.findall(r"^ *#\[test\]$", it, re.M)) for it in texts)
 
 
 def ran(*words, **how):
@@ -59,6 +53,7 @@ def make(crate, room):
 
 def make_together(room):
     """Compiles the tests of all crates of tests/crates into one program in the folder."""
+    stop_on_lists()
     for crate in TESTS:
         stop_on_layout(crate)
     compiled(TOGETHER, room)

@@ -32,28 +32,31 @@ take() {
     "$from/tools/take" "$@" >"$room/output" 2>"$room/errors" || status=$?
     echo "$status"
 }
+# The crates that a list has twice.
+twice() { cut -d: -f1 "$1" | sort | uniq -d; }
 # All that is in a repository, with the sums of its files.
 whole() { (cd "$1" && find . -type f -not -path './.git/*' -print0 | sort -z | xargs -0r sha256sum); }
 
 same 'a folder that is no repository is refused' 2 "$(take "$room/none")"
 same 'a crate that there is not is refused' 2 "$(take "$room/more" papaya_jsn)"
-same 'nothing is taken then' '' "$(ls "$room/more")"
+silent 'nothing is taken then' ls "$room/more"
 same 'a further crate is taken' 0 "$(take "$room/more" papaya_json)"
 same 'a crate that is asked for comes too' $'papaya\npapaya_json' "$(ls "$room/more/crates" | grep -xE 'papaya|papaya_json')"
 for time in first second; do
     same "the $time time it ends well" 0 "$(take "$room/to")"
-    same "the $time time nothing is amiss" '' "$(cat "$room/errors")"
+    silent "the $time time nothing is amiss" cat "$room/errors"
     # every crate that a line or a source names is there, and no test, program or caller
     named="$(grep -hoE '\b(Rattle\.)?papaya[a-z_]*(::|\.)' -r "$room/to/crates" --include='*.rt' --include='*.antt' |
         sed 's/^Rattle\.//; s/[.:]*$//' | sort -u)"
     same "the $time time, what the crates name is there" "$named" "$(ls "$room/to/crates" | grep -xF "$named")"
-    same "the $time time, no crate is listed twice" '' "$(cut -d: -f1 "$room/to/crates.txt" | sort | uniq -d)"
+    silent "the $time time, no crate is listed twice" twice "$room/to/crates.txt"
     same "the $time time, each crate is listed" "$(ls "$room/to/crates")" \
         "$(cut -d: -f1 "$room/to/crates.txt" | grep -v '^shop$' | sort)"
 done
 same 'it is said that a first check is long' 'take: 0 of them are proved on this machine, and a first rt check there proves the others, one by one: far over an hour for all;
 take: better run tools/prove --here papaya in '"$from"', half an hour to two hours for all on four processors, and then take again' "$(tail -n +2 "$room/output")"
-same 'no test, program or caller is taken' '' "$(ls "$room/to/crates" | grep -E '_tests$|_run$|_bench$|_uses$' || true)"
+silent 'no test, program or caller is taken' find "$room/to/crates" -mindepth 1 -maxdepth 1 -regextype egrep \
+    -regex '.*_(tests|run|bench|uses)'
 same 'the handles go along' "$(cat "$top/HANDLES")" "$(cat "$room/to/HANDLES")"
 same "the user's own line stays" 'shop: papaya' "$(grep shop "$room/to/crates.txt")"
 same 'the license goes along' "$(cat "$top/LICENSE")" "$(cat "$room/to/crates/papaya/LICENSE")"
@@ -108,7 +111,7 @@ take: crates/papaya/src/lib.rt
 take: crates/papaya_json/src/lib.rt' "$(cat "$room/errors")"
 same 'it is as it was' "$before" "$(whole .)"
 same 'by a flag it is overwritten' 0 "$(take --overwrite .)"
-same 'what was taken is there then' '' "$(diff -r "$from/crates" crates | grep -v LICENSE)"
+silent 'what was taken is there then' diff -r -x LICENSE "$from/crates" crates
 same 'the line too' 'papaya: papaya_low' "$(grep '^papaya:' crates.txt)"
 rm -r "$from/crates/papaya_json"
 same 'a crate that is none of these any more' 0 "$(take .)"
@@ -143,6 +146,6 @@ echo 'Handles allowed: Threads, Wait, Net.' >HANDLES
 same 'a repository whose HANDLES has more' 0 "$(take .)"
 same 'is told what that costs' "take: HANDLES of . allows more than papaya's own, so the gate there proves papaya once for itself" \
     "$(grep HANDLES "$room/output")"
-same 'nothing is amiss there' '' "$(cat "$room/errors")"
+silent 'nothing is amiss there' cat "$room/errors"
 
 told take.sh
