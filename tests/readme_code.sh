@@ -1,9 +1,9 @@
 #!/usr/bin/env bash
-# The documents quote the sources word for word: the Rust code of README.md stands in papaya_uses and shop, where it is
-# proved, that of docs/GUIDE.md in any crate or its tests, the definitions of docs/GUIDE.md and docs/DEFINITIONS.md in specs/,
-# and the calls of docs/SIGNATURES.md in the sources. Examples in the comments of calls stand in papaya_uses_tests,
-# which runs them (quoted_examples.py). README and CHANGELOG name the release and the kit of VERSION. Links between
-# documents find their headings (links.py).
+# The documents quote the sources word for word: the Rust code of README.md stands in papaya_uses, where it is proved, and in
+# examples/first.rs, which first.sh runs; that of docs/GUIDE.md in any crate or its tests, the definitions of docs/GUIDE.md and
+# docs/DEFINITIONS.md in specs/, and the calls of docs/SIGNATURES.md in the sources. Examples in the comments of calls stand in
+# papaya_uses_tests, which runs them (quoted_examples.py). README's figures stand in docs/PERFORMANCE.md (figures.py). README and
+# CHANGELOG name the release and the kit of VERSION. Links between documents find their headings (links.py).
 set -euo pipefail
 cd "$(dirname "${BASH_SOURCE[0]}")/.."
 
@@ -44,7 +44,7 @@ stands() {
     fi
 }
 
-quoted README.md rust crates/papaya_uses/src/*.rt crates/shop/src/main.rt
+quoted README.md rust crates/papaya_uses/src/*.rt examples/first.rs
 mapfile -t sources < <(find crates/*/src tests/crates -name '*.r[ts]')
 quoted docs/GUIDE.md rust "${sources[@]}"
 quoted docs/GUIDE.md antt crates/papaya_uses/specs/*.antt
@@ -55,6 +55,8 @@ stands 'examples in comments' "$(python3 -B tests/quoted_examples.py 2>&1 | sed 
     'quoted_examples.py: all passed, 0 failed'
 stands 'links between documents' "$(python3 -B tests/links.py 2>&1 | sed 's/[0-9]* passed/all passed/')" \
     'links.py: all passed, 0 failed'
+stands 'the figures of README.md' "$(python3 -B tests/figures.py 2>&1 | sed 's/[0-9]* passed/all passed/')" \
+    'figures.py: all passed, 0 failed'
 version="$(sed -n 's/^version //p' VERSION)"
 date="$(sed -n 's/^date //p' VERSION)"
 stands 'the release of README.md' "$(grep -oE 'release is [0-9.]+ of [0-9-]+' README.md)" "release is $version of $date"
