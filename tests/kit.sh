@@ -8,9 +8,10 @@ trap 'rm -rf "$room"' EXIT
 source "$top/tests/same.sh"
 
 # A repository of four crates, and a kit with one library.
-mkdir -p "$room"/from/{tools,crates/{papaya_low,papaya,papaya_more,papaya_run}/src} "$room"/first/{bin,rlibs/std.rlib,rattle/std,c}
+mkdir -p "$room"/from/{docs,tools,crates/{papaya_low,papaya,papaya_more,papaya_run}/src} "$room"/first/{bin,rlibs/std.rlib,rattle/std,c}
 cp "$top"/tools/{kit,need-rt,prove} "$room/from/tools"
-cp "$top/HANDLES" "$room/from"
+cp "$top/HANDLES" "$top/LICENSE" "$room/from"
+cp "$top"/docs/*.md "$room/from/docs"
 printf '# crates\npapaya_low:\npapaya: papaya_low std\npapaya_more: papaya\npapaya_run: papaya\n' >"$room/from/crates.txt"
 touch "$room"/from/crates/{papaya_low,papaya,papaya_more}/src/lib.rt "$room/from/crates/papaya_run/src/main.rt"
 echo 'one kit' >"$room/first/KIT-ID"
@@ -57,6 +58,7 @@ kit: proving papaya
 kit: papaya proved in N s, 2 of 2' "$(sed 's/ in [0-9]* s,/ in N s,/' "$room/errors")"
 same 'its libraries' 'papaya.rlib papaya_low.rlib std.rlib' "$(ls "$room/kit/rlibs" | xargs)"
 same 'their sources' 'papaya papaya_low std' "$(ls "$room/kit/rattle" | xargs)"
+same 'its page on calling' '# Calling `papaya`' "$(head -1 "$room/kit/rattle/papaya/CALLING.md")"
 same 'all else of the first kit' 'read me' "$(cat "$room/kit/START-HERE.md")"
 same 'its rt finds the kit itself' "$room/kit/START-HERE.md" "$("$room/kit/bin/rt" doc)"
 first="$(cat "$room/kit/WHAT")"

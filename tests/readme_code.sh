@@ -48,9 +48,11 @@ quoted README.md rust crates/papaya_uses/src/*.rt examples/first.rs
 mapfile -t sources < <(find crates/*/src tests/crates -name '*.r[ts]')
 quoted docs/GUIDE.md rust "${sources[@]}"
 quoted docs/GUIDE.md antt crates/papaya_uses/specs/*.antt
+quoted docs/CALLING.md rust crates/papaya_uses/src/*.rt docs/CONTRACTS.md
+quoted docs/CALLING.md antt crates/papaya_uses/specs/*.antt
 quoted docs/DEFINITIONS.md text crates/papaya_*/specs/*.antt
 
-stands 'docs/SIGNATURES.md and docs/CONTRACTS.md' "$(tools/signatures --check)" 'signatures: 2 passed, 0 failed'
+stands 'docs/SIGNATURES.md, CONTRACTS.md and CALLING.md' "$(tools/signatures --check)" 'signatures: 3 passed, 0 failed'
 stands 'examples in comments' "$(python3 -B tests/quoted_examples.py 2>&1 | sed 's/[0-9]* passed/all passed/')" \
     'quoted_examples.py: all passed, 0 failed'
 stands 'links between documents' "$(python3 -B tests/links.py 2>&1 | sed 's/[0-9]* passed/all passed/')" \
