@@ -142,12 +142,15 @@ fn moves(
     from: u64,
     to: u64,
 ) -> Result<(), Refused> {
+    if from == to {
+        return Ok(());
+    }
     let _alone = lock.lock(rt);
     let pinned = shelves.pin();
-    let Some(pieces) = pinned.remove(rt, &from)? else {
-        return Ok(());
-    };
-    pinned.update_or_insert(rt, to, |had| had.saturating_add(*pieces), *pieces)?;
+    if let Some(pieces) = pinned.get(&from) {
+        pinned.update_or_insert(rt, to, |had| had.saturating_add(*pieces), *pieces)?;
+        pinned.remove(rt, &from)?;
+    }
     Ok(())
 }
 
