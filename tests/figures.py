@@ -4,8 +4,7 @@ import os
 import re
 import sys
 
-from sentences import TOP
-
+TOP = os.path.dirname(os.path.dirname(os.path.abspath(__file__)))
 HEAD, END = "In time and memory", "## What is not proved"
 
 

@@ -1,9 +1,9 @@
 #!/usr/bin/env bash
-# The documents quote the sources word for word: the Rust code of README.md stands in papaya_uses, where it is proved, and in
-# examples/first.rs, which first.sh runs; that of docs/GUIDE.md in any crate or its tests, the definitions of docs/GUIDE.md and
-# docs/DEFINITIONS.md in specs/, and the calls of docs/SIGNATURES.md in the sources. Examples in the comments of calls stand in
-# papaya_uses_tests, which runs them (quoted_examples.py). README's figures stand in docs/PERFORMANCE.md (figures.py). README and
-# CHANGELOG name the release and the kit of VERSION. Links between documents find their headings (links.py).
+# The documents quote the sources word for word: the Rust code of README.md stands in papaya_uses, where it is
+# proved, and in examples/first.rs, that of docs/GUIDE.md in any crate or its tests, the definitions of docs/GUIDE.md and docs/DEFINITIONS.md in specs/,
+# and the calls of docs/SIGNATURES.md in the sources. Examples in the comments of calls stand in papaya_uses_tests,
+# which runs them (quoted_examples.py). README and CHANGELOG name the release and the kit of VERSION. Links between
+# documents find their headings (links.py).
 set -euo pipefail
 cd "$(dirname "${BASH_SOURCE[0]}")/.."
 
