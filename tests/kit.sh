@@ -8,12 +8,12 @@ trap 'rm -rf "$room"' EXIT
 source "$top/tests/same.sh"
 
 # A repository of four crates, and a kit with one library.
-mkdir -p "$room"/from/{docs,tools,crates/{papaya_low,papaya,papaya_more,papaya_run}/src} "$room"/first/{bin,rlibs/std.rlib,rattle/std,c}
+mkdir -p "$room"/from/{tools,crates/{papaya_low,papaya,papaya_more,papaya_run}/src} "$room"/first/{bin,rlibs/std.rlib,rattle/std,c}
 cp "$top"/tools/{kit,need-rt,prove} "$room/from/tools"
-cp "$top/HANDLES" "$top/LICENSE" "$room/from"
-cp "$top"/docs/*.md "$room/from/docs"
+cp "$top/HANDLES" "$room/from"
 printf '# crates\npapaya_low:\npapaya: papaya_low std\npapaya_more: papaya\npapaya_run: papaya\n' >"$room/from/crates.txt"
 touch "$room"/from/crates/{papaya_low,papaya,papaya_more}/src/lib.rt "$room/from/crates/papaya_run/src/main.rt"
+cp -r "$top/LICENSE" "$top/docs" "$room/from"
 echo 'one kit' >"$room/first/KIT-ID"
 echo 'archive 1' >"$room/first/WHAT"
 echo 'read me' >"$room/first/START-HERE.md"
