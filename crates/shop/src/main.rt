@@ -100,8 +100,9 @@ fn serve_by_two(rt: &(impl Threads + Wait + Sync), stock: &Stock) -> Result<u64,
         let Ok(other) = scope.spawn(move || serve(rt, stock, 13)) else {
             return Err(Refused::Memory);
         };
-        let own = serve(rt, stock, 9)?;
-        Ok(other.join(rt)?.saturating_add(own))
+        let own = serve(rt, stock, 9);
+        let other = other.join(rt)?;
+        Ok(own?.saturating_add(other))
     })
 }
 
