@@ -1,10 +1,10 @@
 #!/usr/bin/env bash
-# The documents quote the sources word for word: the Rust code of README.md stands in papaya_uses and shop, where it is
-# proved, that of docs/GUIDE.md in any crate or its tests, the definitions of docs/GUIDE.md and docs/DEFINITIONS.md in specs/,
-# and the calls of docs/SIGNATURES.md in the sources. Examples in the comments of calls stand in papaya_uses_tests,
-# which runs them (quoted_examples.py). papaya/specs re-export what contracts cite (reexports.py). README and CHANGELOG
-# name the release and the kit of VERSION. Links between documents find their headings (links.py). README's speed table has
-# the figures of docs/PERFORMANCE.md (speed_table.py).
+# The documents quote the sources word for word: the Rust code of README.md stands in papaya_uses, where it is proved, and in
+# examples/first.rs, that of docs/GUIDE.md in any crate or its tests, the definitions of docs/GUIDE.md and docs/DEFINITIONS.md
+# in specs/, and the calls of docs/SIGNATURES.md in the sources. Examples in the comments of calls stand in papaya_uses_tests,
+# which runs them (quoted_examples.py). papaya/specs re-export what contracts cite (reexports.py). README and CHANGELOG name the
+# release and the kit of VERSION. Links between documents find their headings (links.py). README's sentences on times and memory
+# are PERFORMANCE's (figures.py), whose tables of instructions have the same figures (speed_table.py).
 set -euo pipefail
 cd "$(dirname "${BASH_SOURCE[0]}")/.."
 
@@ -59,16 +59,19 @@ counted() {
     fi
 }
 
-quoted README.md rust crates/papaya_uses/src/*.rt crates/shop/src/main.rt
+quoted README.md rust crates/papaya_uses/src/*.rt examples/first.rs
 mapfile -t sources < <(find crates/*/src tests/crates -name '*.r[ts]')
 quoted docs/GUIDE.md rust "${sources[@]}"
 quoted docs/GUIDE.md antt crates/papaya_uses/specs/*.antt
+quoted docs/CALLING.md rust crates/papaya_uses/src/*.rt docs/CONTRACTS.md
+quoted docs/CALLING.md antt crates/papaya_uses/specs/*.antt
 quoted docs/DEFINITIONS.md text crates/papaya_*/specs/*.antt
 
 counted tools/signatures --check
 counted python3 -B tests/quoted_examples.py
 counted python3 -B tests/reexports.py
 counted python3 -B tests/links.py
+counted python3 -B tests/figures.py
 counted python3 -B tests/speed_table.py
 version="$(sed -n 's/^version //p' VERSION)"
 date="$(sed -n 's/^date //p' VERSION)"

@@ -14,7 +14,7 @@ abbrev pub IsSignedIn : (token user : ℕ) → Seen → Seen → Option ℕ → 
 IsSignedIn token user old new before = (answer : Option (Bor ℕ))
     × (option_map (λ v. v.now) answer ≡ before) × IsPut (λ a b. a == b) token user old new answer
 
--- In some history between the two the token had this user, or none.
+-- In some history between `old` and `new` the token had this user, or none.
 abbrev pub IsUserBetween : ℕ → Seen → Seen → Option ℕ → Type 0
 IsUserBetween token old new user = (found : Option (Bor ℕ)) × (option_map (λ v. v.now) found ≡ user)
     × IsAnsweredBetween (λ a b. a == b) (λ key. token == key) old new found

@@ -1,10 +1,11 @@
-//! `shop`: four threads book deliveries, and then two sell at once. Strangers choose the numbers of
-//! the articles, so the map hashes them with a random seed.
+//! `shop`: four threads book deliveries, and then two sell at once, and never more than there is.
+//! Strangers choose the numbers of the articles, so the map hashes them with a random seed.
 #![tactic(auto)]
 
-use papaya::{HashMap, Refused, Session};
+use papaya::{Compute, HashMap, Operation, Refused, Session};
 use std::alloc::Global;
 use std::hash::RandomState;
+use std::process::ExitCode;
 use std::sync::Wait;
 use std::thread::{Threads, map_chunks};
 use std::{io, thread};
@@ -40,6 +41,7 @@ fn book_all(
     stock: &Stock,
     deliveries: &[(u64, u64)],
 ) -> Result<(), Refused> {
+    // `map_chunks` requires a size above 0
     let size = deliveries.len().div_ceil(4).max(1);
     let booked = map_chunks(
         rt,
@@ -57,44 +59,74 @@ fn book_all(
     Ok(())
 }
 
-/// Sells pieces of an article, one by one, by one thread.
-fn sell(rt: &impl Wait, stock: &Stock, article: u64, pieces: u64) -> Result<(), Refused> {
-    let mut session = Session::new(stock);
-    for _ in 0..pieces {
-        session.update(rt, article, |had| had.saturating_sub(1))?;
-    }
-    Ok(())
-}
-
-/// Sells article 1 by two threads at once: one of the scope's, and this one.
-fn sell_by_two(rt: &(impl Threads + Wait + Sync), stock: &Stock) -> Result<(), Refused> {
-    thread::scope(thread::scope_env(), rt, |scope| {
-        let Ok(other) = scope.spawn(move || sell(rt, stock, 1, 25)) else {
-            return Err(Refused::Memory);
-        };
-        let own = sell(rt, stock, 1, 35);
-        other.join(rt)?;
-        own
+/// Sells pieces of an article in one step, and returns how many are left. If there are fewer, it
+/// sells none and returns `None`.
+fn sell(
+    rt: &impl Wait,
+    stock: &mut Session<'_, u64, u64, RandomState>,
+    article: u64,
+    pieces: u64,
+) -> Result<Option<u64>, Refused> {
+    let sold = stock.compute(rt, article, |entry| match entry {
+        Some((_, had)) => match had.checked_sub(pieces) {
+            Some(0) => Operation::Remove,
+            Some(left) => Operation::Insert(left),
+            None => Operation::Abort(()),
+        },
+        None => Operation::Abort(()),
+    })?;
+    Ok(match sold {
+        Compute::Updated { new: (_, left), .. } => Some(*left),
+        Compute::Removed(..) => Some(0),
+        Compute::Inserted(..) | Compute::Aborted(()) => None,
     })
 }
 
-/// Returns how many pieces of article 1 are left after all of that.
-fn left_of(
+/// Serves customers who each buy 5 pieces of article 1, by one thread. Returns how many it served.
+fn serve(rt: &impl Wait, stock: &Stock, customers: u64) -> Result<u64, Refused> {
+    let mut session = Session::new(stock);
+    let mut served = 0u64;
+    for _ in 0..customers {
+        if sell(rt, &mut session, 1, 5)?.is_some() {
+            served = served.saturating_add(1);
+        }
+    }
+    Ok(served)
+}
+
+/// Serves 13 and 9 customers by two threads at once: one of the scope's, and this one.
+fn serve_by_two(rt: &(impl Threads + Wait + Sync), stock: &Stock) -> Result<u64, Refused> {
+    thread::scope(thread::scope_env(), rt, |scope| {
+        let Ok(other) = scope.spawn(move || serve(rt, stock, 13)) else {
+            return Err(Refused::Memory);
+        };
+        let own = serve(rt, stock, 9);
+        let other = other.join(rt)?;
+        Ok(own?.saturating_add(other))
+    })
+}
+
+/// Books the deliveries and serves the customers. Returns how many customers were served.
+fn run(
     rt: &(impl Threads + Wait + Sync),
     alloc: Global,
     hasher: RandomState,
 ) -> Result<u64, Refused> {
     let stock: Stock = HashMap::with_hasher(rt, alloc, hasher)?;
     book_all(rt, alloc, &stock, &DELIVERIES)?;
-    sell_by_two(rt, &stock)?;
-    let mut session = Session::new(&stock);
-    Ok(session.get(&1u64).copied().unwrap_or(0))
+    serve_by_two(rt, &stock)
 }
 
-fn main(rt: HostRuntime) -> io::Result<()> {
+fn main(rt: HostRuntime) -> io::Result<ExitCode> {
     let hasher = RandomState::new(&rt)?;
-    match left_of(&rt, rt.alloc(), hasher) {
-        Ok(left) => println!(rt; "{left} pieces are left"),
-        Err(refused) => println!(rt; "refused: {refused}"),
+    match run(&rt, rt.alloc(), hasher) {
+        Ok(served) => {
+            println!(rt; "{served} of 22 customers bought 5 pieces each")?;
+            Ok(ExitCode::SUCCESS)
+        }
+        Err(refused) => {
+            eprintln!(rt; "refused: {refused}")?;
+            Ok(ExitCode::FAILURE)
+        }
     }
 }
