@@ -14,7 +14,7 @@ pub use Rattle.papaya_map_compute.specs.ComputeAnswers.{IsComputeBy, IsOperated,
 pub use Rattle.papaya_map.specs.Storing.{IsCurrent, IsInPlace, IsStored, IsThereBy, IsTried, IsTriedWith, IsUpdated, IsUpserted}
 pub use Rattle.papaya_call_law.specs.ScanAnswers.{IsLastAnswer}
 pub use Rattle.papaya_map_scan.specs.Leaving.{AreDropped, Drops, HasDropped, HasKept, IsCleared, IsRetained, WasTakenOut}
-pub use Rattle.papaya_map.specs.Collected.{AreCloned, AreCopied, AreStored, AreWalked, Stores}
+pub use Rattle.papaya_map.specs.Collected.{AreCloned, AreCopied, AreStored, AreYielded, Had, Stores}
 pub use Rattle.papaya_map.specs.Known.{Known}
 -- how a map is made, which history a plain call is of, and why a change finds no room
 pub use Rattle.papaya_map.specs.Fixed.{HasFirstTable, HasLearned, HasSettingsOf, IsFor}

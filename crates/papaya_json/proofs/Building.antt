@@ -1,15 +1,18 @@
 -- The object of some entries, after one more entry.
 use Rattle.std.proofs.Common.{◌≡◌, suc, ◌+◌, ◌<◌, ◌≤◌, ◌||◌, not, cond, Bool, true, false, List, []}
-use Rattle.std.proofs.Common.{◌∷◌, ◌++◌, length, map, Option, Some, String, Global, string_bytes}
+use Rattle.std.proofs.Common.{◌∷◌, ◌++◌, length, map, Option, Some, Result, Ok, Err, String, Global, string_bytes}
+use Rattle.std.specs.Prelude.{IfOk}
 use Rattle.std.proofs.Common.{string_cmp, refl, sym, ap, ◌∙◌, subst, arith}
 use Rattle.std.proofs.lemmas.List.{length_push}
 use Rattle.std.proofs.lemmas.List.Sums.{fold_push}
-use Rattle.std.specs.List.{AllZip, Any}
+use Rattle.std.proofs.lemmas.List.Elements.{All-cons, All-head, All-nil, All-tail}
+use Rattle.std.specs.List.{All, AllZip, Any}
 use Rattle.std.specs.BTreeMap.{insert_entry}
 use Rattle.serde_json.specs.Data.{Members, no_members, put}
 use Rattle.serde_json.specs.View.{view, members_view}
 use Rattle.serde_json.specs.declared.value.Value.{Value}
 use Rattle.serde_json.proofs.Views.{members_view-insert_entry}
+use Rattle.papaya_set.specs.Sets.{entry_of_key}
 use Rattle.papaya_json.specs.Objects.{IsMember, Member, object_of}
 
 pub more_than_one : (c n : Bool) → c ≡ true → (c || n) ≡ c
@@ -28,6 +31,25 @@ map_push f (y ∷ ys) x = ap (λ l. f y ∷ l) (map_push f ys x)
 pub any_middle : {A : Type 0} (P : A → Type 0) (xs : List A) (x : A) (ys : List A) → P x → Any P (xs ++ x ∷ ys)
 any_middle P [] x ys here = (0, x, omega arith, refl, here)
 any_middle P (y ∷ xs) x ys here = let a = any_middle P xs x ys here in (suc a.0, a.1, omega (arith, a.2), a.3, a.4)
+
+-- two facts about a result that is Ok, as one
+pub ok_both : {A E : Type 0} {P Q R : A → Type 0} (r : Result A E) → ((a : A) → P a → Q a → R a) → IfOk r P → IfOk r Q → IfOk r R
+ok_both (Ok a) f p q = f a p q
+ok_both (Err e) f p q = tt
+
+-- the entries of the keys of entries with unit values
+keys_same : {K : Type 0} (es : List (K × Unit {0})) → es ≡ map entry_of_key (map (λ e. e.0) es)
+keys_same [] = refl
+keys_same ((k, u) ∷ es) = ap (λ (later : List _). (k, tt) ∷ later) (keys_same es)
+
+pub keys_again : {K : Type 0} (P : List (K × Unit {0}) → Type 0) (es : List (K × Unit {0})) → P es → P (map entry_of_key (map (λ e. e.0) es))
+keys_again P es is = subst P (keys_same es) is
+
+-- a fact about entries with unit values is one about their keys
+pub all_keys : {K : Type 0} (P : K × Unit {0} → Type 0) (es : List (K × Unit {0})) → All P es → All (λ k. P (entry_of_key k)) (map (λ e. e.0) es)
+all_keys P [] all = All-nil (λ k. P (entry_of_key k))
+all_keys P ((k, u) ∷ es) all = All-cons (λ k. P (entry_of_key k)) k (map (λ e. e.0) es) (All-head P (k, u) es all)
+    (all_keys P es (All-tail P (k, u) es all))
 
 -- one more of each list
 pub zip_more : {A B : Type 0} (R : A → B → Type 0) (xs : List A) (ys : List B) (x : A) (y : B) → AllZip R xs ys → R x y → AllZip R (xs ++ x ∷ []) (ys ++ y ∷ [])

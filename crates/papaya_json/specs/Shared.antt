@@ -1,6 +1,6 @@
 -- The JSON of shared maps and sets, by what was stored.
 use Rattle.std.specs.Prelude.{◌≡◌, ◌⊎◌, List}
-use Rattle.std.specs.List.{AllZip, Any}
+use Rattle.std.specs.List.{All, AllZip, Any}
 use Rattle.papaya_words.specs.declared.refused.Refused.{Refused}
 use Rattle.papaya_words.specs.declared.refused.Refused.TheVariants.{Capacity, Item}
 use Rattle.papaya_seq.specs.Map.{IsMakeRefusal}
@@ -17,3 +17,9 @@ IsUnread unread refused items = IsMakeRefusal refused ⊎ ((refused ≡ Item) ×
 -- `why` holds for some list of items.
 abbrev pub IsUnwritten : {A : Type 0} → (List A → Refused → Type 0) → Refused → Type 0
 IsUnwritten {A = A} why refused = (refused ≡ Capacity) ⊎ ((items : List A) × why items refused)
+
+-- The same for a session's map: `why` holds for some list of items, and `had` of each of them.
+abbrev pub IsUnwrittenOf : {A : Type 0} → (had : A → Type 0) → (why : List A → Refused → Type 0)
+    → Refused → Type 0
+IsUnwrittenOf {A = A} had why refused = (refused ≡ Capacity)
+    ⊎ ((items : List A) × All had items × why items refused)

@@ -1,19 +1,23 @@
 //! Shared maps as JSON objects, shared sets as JSON arrays, and back.
-ghost use Rattle.std.specs.Prelude.{◌≡◌, ◌⊎◌, IfErr, IfOk, List, None, [], map};
+ghost use Rattle.std.specs.Prelude.{◌≡◌, IfErr, IfOk, List, None, [], map};
 ghost use Rattle.std.specs.Fn.{FnReturnsAt};
+ghost use Rattle.std.specs.List.{All};
+ghost use mathlib.Core.List.{IsPrefix};
 ghost use Rattle.papaya_words.specs.declared.limits.TheConstants.{DEFAULT_CHUNK, DEFAULT_SHARDS};
-ghost use Rattle.papaya_map.specs.Collected.{AreStored, AreWalked};
+ghost use Rattle.papaya_map.specs.Collected.{AreStored, AreYielded, Had};
 ghost use Rattle.papaya_map.specs.Fixed.{IsFor};
 ghost use Rattle.papaya_set.specs.Sets.{entry_of_key};
 ghost use Rattle.papaya_json.specs.Arrays.{HasNoKey, IsArray, IsArrayWith, IsKey};
 ghost use Rattle.papaya_json.specs.Arrays.{IsListRefusal, IsNoArrayOr};
 ghost use Rattle.papaya_json.specs.Objects.{HasNoPair, IsNoObjectOr, IsObject, IsObjectWith};
 ghost use Rattle.papaya_json.specs.Objects.{IsPair, IsWriteRefusal};
-ghost use Rattle.papaya_json.specs.Shared.{IsEachStored, IsUnread, IsUnwritten};
+ghost use Rattle.papaya_json.specs.Shared.{IsEachStored, IsUnread, IsUnwritten, IsUnwrittenOf};
 
-use crate::to_value::{array_from, object_from};
+use crate::to_value::{push, put};
 use papaya_map::map::HashMap;
 use papaya_map::pass::Pass;
+use papaya_map::session::Session;
+use papaya_map_scan::walk::Iter;
 use papaya_set::set::HashSet;
 use papaya_words::refused::Refused;
 use papaya_words::resize_mode::ResizeMode;
@@ -42,14 +46,94 @@ where
     W: Fn(&V) -> Option<Value>,
     requires key { T.IsAlwaysCallable key }
     requires value { W.IsAlwaysCallable value }
-    ensures ok { IfOk result (λ v. (pairs : List (K × V)) × AreWalked K.eq map.now.book map.now.seen
-        pairs
+    ensures ok { IfOk result (λ v. (pairs : List (K × V))
         × IsObject (FnReturnsAt T.Fn key) (FnReturnsAt W.Fn value) pairs v) }
     ensures err { IfErr result (IsUnwritten (IsWriteRefusal (FnReturnsAt T.Fn key)
         (FnReturnsAt W.Fn value))) }
 {
-    let pairs = map.pin().iter(rt)?;
-    object_from(alloc, pairs, key, value)
+    let mut pairs = map.pin().iter(rt)?;
+    object_of(alloc, &mut pairs, key, value)
+}
+
+/// Returns the map of a session as a JSON object, as [`shared_map_to_value`] does. The object has a
+/// member for each entry that the session had observed in the map, unless a change took the entry
+/// out meanwhile. Each member is that of an entry which the map had at some point since. The session
+/// then has observed the iteration.
+///
+/// # Errors
+///
+/// Fails with `Refused::Item`, `Refused::KeyClash`, `Refused::Memory` or `Refused::Capacity`, as
+/// `shared_map_to_value` does.
+pub fn session_to_value<R: Wait, K: Hash + Eq, V, S: BuildHasher, T, W>(
+    rt: &R,
+    alloc: Global,
+    session: &mut Session<'_, K, V, S>,
+    key: T,
+    value: W,
+) -> Result<Value, Refused>
+where
+    T: Fn(&K) -> Option<String>,
+    W: Fn(&V) -> Option<Value>,
+    requires key { T.IsAlwaysCallable key }
+    requires value { W.IsAlwaysCallable value }
+    ensures map { session.new.map ≡ session.old.map }
+    ensures seen { IsPrefix session.old.history session.new.history }
+    ensures tables { IsPrefix session.old.tables session.new.tables }
+    ensures made { session.new.made ≡ session.old.made }
+    ensures ok { IfOk result (λ v. (pairs : List (K × V))
+        × AreYielded K.eq session.old.history session.new.history pairs
+        × IsObject (FnReturnsAt T.Fn key) (FnReturnsAt W.Fn value) pairs v) }
+    ensures err { IfErr result (IsUnwrittenOf (Had K.eq session.old.history session.new.history)
+        (IsWriteRefusal (FnReturnsAt T.Fn key) (FnReturnsAt W.Fn value))) }
+{
+    let mut pairs = session.iter(rt)?;
+    let written = object_of(alloc, &mut pairs, key, value);
+    session.learn_walk(&pairs);
+    written
+}
+
+/// Returns the object of the entries that an iterator yields, as `object_from` does. The iterator
+/// has not yielded any yet.
+fn object_of<K: Hash + Eq, V, S: BuildHasher, T, W>(
+    alloc: Global,
+    pairs: &mut Iter<'_, K, V, S>,
+    key: T,
+    value: W,
+) -> Result<Value, Refused>
+where
+    T: Fn(&K) -> Option<String>,
+    W: Fn(&V) -> Option<Value>,
+    requires new { pairs.old.given ≡ [] }
+    requires key { T.IsAlwaysCallable key }
+    requires value { W.IsAlwaysCallable value }
+    ensures book { pairs.new.book ≡ pairs.old.book }
+    ensures seen { IsPrefix pairs.old.history pairs.new.history }
+    ensures had { All (Had K.eq pairs.old.began pairs.new.history) pairs.new.given }
+    ensures yielded { IfOk result (λ _. AreYielded K.eq pairs.old.began pairs.new.history
+        pairs.new.given) }
+    ensures ok { IfOk result (IsObject (FnReturnsAt T.Fn key) (FnReturnsAt W.Fn value)
+        pairs.new.given) }
+    ensures err { IfErr result (IsWriteRefusal (FnReturnsAt T.Fn key) (FnReturnsAt W.Fn value)
+        pairs.new.given) }
+{
+    let mut members: Map<String, Value> = Map::new(alloc);
+    let mut clash = false;
+    while let Some((k, v)) = pairs.next() {
+        let Some(name) = key(k) else {
+            return Err(Refused::Item);
+        };
+        let Some(member) = value(v) else {
+            return Err(Refused::Item);
+        };
+        match put(&mut members, name, member) {
+            Ok(new) => clash = clash || !new,
+            Err(refused) => return Err(refused),
+        }
+    }
+    if clash {
+        return Err(Refused::KeyClash);
+    }
+    Ok(Value::Object(members))
 }
 
 /// Inserts the entries of an object's members into a map without a limit, by a pass.
@@ -173,13 +257,74 @@ pub fn shared_set_to_value<R: Wait, K: Hash + Eq, S: BuildHasher, T: Fn(&K) -> O
     key: T,
 ) -> Result<Value, Refused>
     requires { T.IsAlwaysCallable key }
-    ensures ok { IfOk result (λ v. (keys : List K)
-        × AreWalked K.eq set.now.book set.now.seen (map entry_of_key keys)
-        × IsArray (FnReturnsAt T.Fn key) keys v) }
+    ensures ok { IfOk result (λ v. (keys : List K) × IsArray (FnReturnsAt T.Fn key) keys v) }
     ensures err { IfErr result (IsUnwritten (IsListRefusal (FnReturnsAt T.Fn key))) }
 {
-    let keys = set.pin().iter(rt)?;
-    array_from(alloc, keys, key)
+    let mut pairs = set.map().pin().iter(rt)?;
+    array_of(alloc, &mut pairs, key)
+}
+
+/// Returns the set of a session as a JSON array, as [`shared_set_to_value`] does. The session is of
+/// the set's map ([`HashSet::map`]). The array has an item for each key that the session had
+/// observed in the set, unless a change took the key out meanwhile. Each item is that of a key which
+/// the set had at some point since. The session then has observed the iteration.
+///
+/// # Errors
+///
+/// Fails with `Refused::Item`, `Refused::Memory` or `Refused::Capacity`, as `shared_set_to_value`
+/// does.
+pub fn set_session_to_value<R: Wait, K: Hash + Eq, S: BuildHasher, T: Fn(&K) -> Option<Value>>(
+    rt: &R,
+    alloc: Global,
+    session: &mut Session<'_, K, (), S>,
+    key: T,
+) -> Result<Value, Refused>
+    requires { T.IsAlwaysCallable key }
+    ensures map { session.new.map ≡ session.old.map }
+    ensures seen { IsPrefix session.old.history session.new.history }
+    ensures tables { IsPrefix session.old.tables session.new.tables }
+    ensures made { session.new.made ≡ session.old.made }
+    ensures ok { IfOk result (λ v. (keys : List K)
+        × AreYielded K.eq session.old.history session.new.history (map entry_of_key keys)
+        × IsArray (FnReturnsAt T.Fn key) keys v) }
+    ensures err { IfErr result (IsUnwrittenOf (λ k. Had K.eq session.old.history
+        session.new.history (entry_of_key k)) (IsListRefusal (FnReturnsAt T.Fn key))) }
+{
+    let mut pairs = session.iter(rt)?;
+    let written = array_of(alloc, &mut pairs, key);
+    session.learn_walk(&pairs);
+    written
+}
+
+/// Returns the array of the keys of the entries that an iterator yields, as `array_from` does. The
+/// iterator has not yielded any yet.
+fn array_of<K: Hash + Eq, S: BuildHasher, T: Fn(&K) -> Option<Value>>(
+    alloc: Global,
+    pairs: &mut Iter<'_, K, (), S>,
+    key: T,
+) -> Result<Value, Refused>
+    requires new { pairs.old.given ≡ [] }
+    requires key { T.IsAlwaysCallable key }
+    ensures book { pairs.new.book ≡ pairs.old.book }
+    ensures seen { IsPrefix pairs.old.history pairs.new.history }
+    ensures had { All (Had K.eq pairs.old.began pairs.new.history) pairs.new.given }
+    ensures yielded { IfOk result (λ _. AreYielded K.eq pairs.old.began pairs.new.history
+        pairs.new.given) }
+    ensures ok { IfOk result (IsArray (FnReturnsAt T.Fn key) (map (λ e. e.0) pairs.new.given)) }
+    ensures err { IfErr result (IsListRefusal (FnReturnsAt T.Fn key)
+        (map (λ e. e.0) pairs.new.given)) }
+{
+    let mut items: Vec<Value> = Vec::new(alloc);
+    while let Some((k, _)) = pairs.next() {
+        let Some(item) = key(k) else {
+            return Err(Refused::Item);
+        };
+        match push(&mut items, item) {
+            Ok(()) => {}
+            Err(refused) => return Err(refused),
+        }
+    }
+    Ok(Value::Array(items))
 }
 
 /// Inserts the keys of an array's items into a set without a limit, by a pass.

@@ -19,7 +19,11 @@ use std::alloc::Global;
 use std::hash::{BuildHasher, Hash};
 
 /// Inserts a member, and returns whether its text is new.
-fn put(members: &mut Map<String, Value>, name: String, member: Value) -> Result<bool, Refused>
+pub(crate) fn put(
+    members: &mut Map<String, Value>,
+    name: String,
+    member: Value,
+) -> Result<bool, Refused>
     ensures entries { OnOk result (members.new.entries
         ≡ insert_entry string_cmp members.old.entries name member) }
     ensures new { IfOk result (λ new. length members.new.entries
@@ -123,7 +127,7 @@ where
 }
 
 /// Appends an item.
-fn push(items: &mut Vec<Value>, item: Value) -> Result<(), Refused>
+pub(crate) fn push(items: &mut Vec<Value>, item: Value) -> Result<(), Refused>
     ensures ok { OnOk result (items.new.items ≡ items.old.items ++ item ∷ []) }
     ensures err { IfErr result (λ e. e ≡ Refused.Memory) }
 {

@@ -1,24 +1,21 @@
 -- Entries that are stored one after the other; and a map that has observed them has the same
 -- settings.
-use Rattle.std.proofs.Common.{◌≡◌, ◌<◌, ◌≤◌, ℕ, Bool, Option, None, List, [], ◌∷◌, ◌++◌, map, append-nil, refl, sym, ap, ◌∙◌, subst}
+use Rattle.std.proofs.Common.{◌≡◌, ◌<◌, ◌≤◌, ℕ, Bool, true, Option, List, [], ◌∷◌, ◌++◌, map, append-nil, sym, ap, ◌∙◌, subst}
 use Rattle.std.specs.Int.{IsNextPowerOfTwo}
-use Rattle.std.specs.Iterator.{Yields}
 use mathlib.Core.List.{IsPrefix}
 use denote.Bor.{Bor}
-use Rattle.logbook.specs.Pages.{Book}
 use Rattle.papaya_words.specs.Probe.{IsEntriesFor}
 use Rattle.papaya_words.specs.declared.resize_mode.ResizeMode.{ResizeMode}
 use Rattle.papaya_map_book.specs.Limits.{HasTableFrom}
 use Rattle.papaya_map_book.specs.Logs.{Stored}
+use Rattle.papaya_map_book.specs.Own.{last_if}
 use Rattle.papaya_map_book.specs.declared.rule.entry.Begun.{Begun}
 use Rattle.papaya_map_book.proofs.Lengths.{member_since}
 use Rattle.papaya_map_book.proofs.Logs.{prefix_trans}
 use Rattle.papaya_map_change.specs.Changes.{IsPut}
 use Rattle.papaya_map_lookup.specs.History.{Change}
-use Rattle.papaya_map_scan.specs.Walked.{Gives, Walked}
 use Rattle.papaya_seq.proofs.Walked.{map_push}
-use Rattle.papaya_seq.specs.Map.{deref_pair}
-use Rattle.papaya_map.specs.Collected.{AreStored, AreWalked}
+use Rattle.papaya_map.specs.Collected.{AreStored, AreStoredBy}
 use Rattle.papaya_map.specs.Fixed.{Fixed, HasFirstTable, HasLearned, HasSettingsOf, IsFor}
 
 -- a list begins with itself
@@ -65,22 +62,23 @@ module _ {K V : Type 0} (eq : K → K → Bool) where
   stored_until [] old mid new stored more = prefix_trans old mid new stored more
   stored_until (e ∷ es) old mid new stored more = (stored.0, stored.1, stored.2, stored_until es stored.0 mid new stored.3 more)
 
-  -- the iterator returned these entries, and then none
-  pub walked : (book : Book) (seen : List (Change K (Stored K V))) (walk first left end : Walked K V) (lent : List (Bor K × Bor V)) → first ≡ walk
-      → walk.book ≡ book → IsPrefix seen walk.began → walk.given ≡ [] → Yields (Gives eq) first lent left → Gives eq left None end
-      → AreWalked eq book seen (map deref_pair lent)
-  walked book seen walk first left end lent is of_map since none gave over = record {
-    first = first;
-    left = left;
-    end = end;
-    of_map = ap (λ (w : Walked K V). w.book) is ∙ of_map;
-    since = subst (λ (w : Walked K V). IsPrefix seen w.began) (sym is) since;
-    none = ap (λ (w : Walked K V). w.given) is ∙ none;
-    lent = lent;
-    gave = gave;
-    over = over;
-    are = refl;
-  }
+  -- entries that one pass stored were stored
+  pub stored_by : (es : List (K × V)) (old new made made' : List (Change K (Stored K V))) → AreStoredBy eq es old new made made' → AreStored eq es old new
+  stored_by [] old new made made' by = by.0
+  stored_by (e ∷ es) old new made made' by = (by.0, by.1, by.2, stored_by es by.0 new (made ++ last_if true by.0) made' by.3)
+
+  -- one more
+  pub stored_by_more : (es : List (K × V)) (old mid new made m made' : List (Change K (Stored K V))) (e : K × V) (answer : Option (Bor V))
+      → AreStoredBy eq es old mid made m → IsPut eq e.0 e.1 mid new answer → made' ≡ m ++ last_if true new
+      → AreStoredBy eq (es ++ e ∷ []) old new made made'
+  stored_by_more [] old mid new made m made' e answer by put made_is = (
+    new,
+    answer,
+    put_later e.0 e.1 old mid new answer by.0 put,
+    (prefix_itself new, made_is ∙ ap (λ (cs : List (Change K (Stored K V))). cs ++ last_if true new) by.1),
+  )
+  stored_by_more (d ∷ es) old mid new made m made' e answer by put made_is =
+      (by.0, by.1, by.2, stored_by_more es by.0 mid new (made ++ last_if true by.0) m made' e answer by.3 put made_is)
 
 module _ {K V S : Type 0} (old new : Fixed K V S) (same : HasLearned old new) where
   table_learned : HasTableFrom old.initial old.opened → HasTableFrom new.initial new.opened

@@ -3,6 +3,8 @@ pub mod Ruled
 pub mod FirstTable
 -- entries that are stored one after the other
 pub mod Collected
+-- what an iteration has yielded
+pub mod Yielded
 -- if no entry stays, none is left
 pub mod Cleared
 -- the steps that a pass made, as entries of the log

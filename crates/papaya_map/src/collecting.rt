@@ -7,7 +7,7 @@ ghost use Rattle.std.specs.Iterator.{IsFiniteIterable};
 ghost use mathlib.Core.List.{IsPrefix};
 ghost use Rattle.papaya_words.specs.declared.limits.TheConstants.{DEFAULT_CHUNK, DEFAULT_SHARDS};
 ghost use Rattle.papaya_map_change.specs.Writing.{IsMemoryOrCapacity};
-ghost use Rattle.papaya_map.specs.Collected.{AreCloned, AreCopied, AreStored, Stores};
+ghost use Rattle.papaya_map.specs.Collected.{AreClonedBy, AreCopied, AreStored, AreYielded, Stores};
 ghost use Rattle.papaya_map.specs.Fixed.{HasFirstTable, HasLearned, HasSettingsOf, IsFor};
 ghost use Rattle.papaya_map.specs.Limited.{IsPlainRefusal};
 ghost use Rattle.papaya_map.specs.Plain.{IsOfHistorySince, unpinned};
@@ -17,6 +17,7 @@ ghost use Rattle.papaya_seq.specs.Map.{deref_pair};
 use crate::map::HashMap;
 use crate::observed::Observed;
 use crate::pass::Pass;
+use papaya_map_scan::walk::Iter;
 use papaya_words::refused::Refused;
 use papaya_words::resize_mode::ResizeMode;
 use std::alloc::Global;
@@ -247,28 +248,26 @@ impl<K: Hash + Eq, V: PartialEq, S: BuildHasher> HashMap<K, V, S> {
 }
 
 impl<K: Hash + Eq + Clone + Drop, V: Clone + Drop, S: BuildHasher> HashMap<K, V, S> {
-    /// Inserts clones of an iterator's entries in its order, by a pass. Fails with
-    /// `Refused::Memory` also if a clone is not made.
-    fn extend_clones_as<'a, R: Wait, U: IntoIterator<Item = (&'a K, &'a V)>>(
+    /// Inserts clones of the entries that an iterator yields, in its order, by a pass. The iterator
+    /// has not yielded any yet. Fails with `Refused::Memory` also if a clone is not made.
+    fn insert_clones_as<R: Wait>(
         &self,
         rt: &R,
-        iter: U,
+        pairs: &mut Iter<'_, K, V, S>,
         pass: &mut Pass<K, V, S>,
     ) -> Result<(), Refused>
-    where
-        K: 'a,
-        V: 'a,
-        U::IntoIter: Drop,
-        requires iter { IsFiniteIterable U.into_iter_gives U.IntoIter.can_next U.IntoIter.remaining
-            iter }
+        requires new { pairs.old.given ≡ [] }
         requires book { pass.old.book ≡ self.now.book }
         ensures book { pass.new.book ≡ pass.old.book }
-        ensures copied { IfOk result (λ _. AllCome U.into_iter_gives U.IntoIter.next_gives iter
-            (λ items. AreCloned K.eq K.is_clone V.is_clone (map deref_pair items) pass.old.history
-            pass.new.history)) }
+        ensures walk { (pairs.new.book ≡ pairs.old.book)
+            × IsPrefix pairs.old.history pairs.new.history }
+        ensures yielded { IfOk result (λ _. AreYielded K.eq pairs.old.began pairs.new.history
+            pairs.new.given) }
+        ensures cloned { IfOk result (λ _. AreClonedBy K.eq K.is_clone V.is_clone pairs.new.given
+            pass.old.history pass.new.history pass.old.made pass.new.made) }
         ensures refused { IfErr result (IsPlainRefusal self.now.begun.limit) }
     {
-        for (key, value) in iter {
+        while let Some((key, value)) = pairs.next() {
             let Ok(own_key) = key.clone() else {
                 return Err(Refused::Memory);
             };
@@ -283,18 +282,29 @@ impl<K: Hash + Eq + Clone + Drop, V: Clone + Drop, S: BuildHasher> HashMap<K, V,
         Ok(())
     }
 
-    /// Stores clones of this map's entries in another one. Fails with `Refused::Memory` also if a
-    /// clone is not made.
-    fn copy_into<R: Wait>(&self, rt: &R, copy: &mut HashMap<K, V, S>) -> Result<(), Refused>
+    /// Stores clones of this map's entries in another one. The pass is of this map, and observes
+    /// the iteration. Fails with `Refused::Memory` also if a clone is not made.
+    fn copy_into<R: Wait>(
+        &self,
+        rt: &R,
+        copy: &mut HashMap<K, V, S>,
+        pass: &mut Pass<K, V, S>,
+    ) -> Result<(), Refused>
+        requires { pass.old.book ≡ self.now.book }
+        ensures book { pass.new.book ≡ pass.old.book }
+        ensures seen { IsPrefix pass.old.history pass.new.history }
+        ensures tables { IsPrefix pass.old.tables pass.new.tables }
+        ensures made { pass.new.made ≡ pass.old.made }
         ensures same { IfOk result (λ _. HasLearned copy.old copy.new) }
-        ensures copied { IfOk result (λ _. AreCopied K.eq K.is_clone V.is_clone self.now.book
-            self.now.seen [] copy.new.seen) }
+        ensures copied { IfOk result (λ _. AreCopied K.eq K.is_clone V.is_clone pass.old.history
+            pass.new.history copy.new.seen) }
         ensures refused { IfErr result (IsPlainRefusal copy.old.begun.limit) }
     {
-        let mut pass = copy.pass();
-        let pairs = self.pin().iter(rt)?;
-        copy.extend_clones_as(rt, pairs, &mut pass)?;
-        copy.learn(&pass);
+        let mut pairs = self.pin().iter_as(rt, pass)?;
+        let mut own = copy.pass();
+        copy.insert_clones_as(rt, &mut pairs, &mut own)?;
+        copy.learn(&own);
+        pass.learn_walk(&pairs);
         Ok(())
     }
 }
@@ -316,15 +326,44 @@ impl<K: Hash + Eq + Clone + Drop, V: Clone + Drop, S: BuildHasher + Clone + Drop
         ensures made { IfOk result (λ map. (pairs : ℕ)
             × IsFor (ResizeMode.Incremental DEFAULT_CHUNK) pairs DEFAULT_SHARDS None map) }
         ensures hasher { IfOk result (λ map. S.is_clone self.now.begun.hasher map.begun.hasher) }
-        ensures copied { IfOk result (λ map. AreCopied K.eq K.is_clone V.is_clone self.now.book
-            self.now.seen [] map.seen) }
+        ensures refused { IfErr result IsMemoryOrCapacity }
+    {
+        let mut pass = self.begun(None);
+        self.try_clone_as(rt, alloc, &mut pass)
+    }
+
+    /// Returns a map of clones of this map's entries, as [`HashMap::try_clone`] does, by a pass of
+    /// this map. Each entry that the pass had observed in the map is copied, unless a change took it
+    /// out meanwhile. Each entry that is copied was in the map at some point since. The pass then
+    /// has observed the iteration over this map. Users call
+    /// [`Session::try_clone`](crate::session::Session::try_clone).
+    ///
+    /// # Errors
+    ///
+    /// Fails with `Refused::Memory` or `Refused::Capacity`, as [`HashMap::try_clone`] does.
+    pub fn try_clone_as<R: Wait>(
+        &self,
+        rt: &R,
+        alloc: Global,
+        pass: &mut Pass<K, V, S>,
+    ) -> Result<HashMap<K, V, S>, Refused>
+        requires { pass.old.book ≡ self.now.book }
+        ensures book { pass.new.book ≡ pass.old.book }
+        ensures seen { IsPrefix pass.old.history pass.new.history }
+        ensures tables { IsPrefix pass.old.tables pass.new.tables }
+        ensures own { pass.new.made ≡ pass.old.made }
+        ensures made { IfOk result (λ map. (pairs : ℕ)
+            × IsFor (ResizeMode.Incremental DEFAULT_CHUNK) pairs DEFAULT_SHARDS None map) }
+        ensures hasher { IfOk result (λ map. S.is_clone self.now.begun.hasher map.begun.hasher) }
+        ensures copied { IfOk result (λ map. AreCopied K.eq K.is_clone V.is_clone
+            pass.old.history pass.new.history map.seen) }
         ensures refused { IfErr result IsMemoryOrCapacity }
     {
         let Ok(hasher) = self.book.parts.hasher.clone() else {
             return Err(Refused::Memory);
         };
         let mut copy = HashMap::with_capacity_and_hasher(rt, alloc, self.len(), hasher)?;
-        self.copy_into(rt, &mut copy)?;
+        self.copy_into(rt, &mut copy, pass)?;
         Ok(copy)
     }
 
@@ -364,13 +403,50 @@ impl<K: Hash + Eq + Clone + Drop, V: Clone + Drop, S: BuildHasher + Clone + Drop
         ensures hasher { IfOk result (λ _. S.is_clone self.old.begun.hasher
             self.new.begun.hasher) }
         ensures opened { IfOk result (λ _. HasFirstTable self.new) }
-        ensures copied { IfOk result (λ _. AreCopied K.eq K.is_clone V.is_clone self.old.book
-            self.old.seen [] self.new.seen) }
+        ensures err { IfErr result (λ refused. IsPlainRefusal self.old.begun.limit refused
+            × (self.new ≡ self.old)) }
+    {
+        let mut pass = self.begun(None);
+        self.reclaim_as(rt, &mut pass)
+    }
+
+    /// Rebuilds the map from clones of its entries, as [`HashMap::reclaim`] does, by a pass of this
+    /// map. Each entry that the pass had observed in the map is kept, unless a change took it out
+    /// meanwhile. Each entry that is kept was in the map at some point since. 0.2.5 has no such
+    /// call.
+    ///
+    /// The pass has then observed the history of the old map to its end, and can no longer be used
+    /// for calls.
+    ///
+    /// # Errors
+    ///
+    /// Fails with `Refused::Memory` or `Refused::Capacity`, as [`HashMap::reclaim`] does. The map is
+    /// then as it was, and the pass can still be used.
+    ///
+    /// # Examples
+    ///
+    /// ```
+    /// let mut pass = map.pass();
+    /// map.pin().insert_as(rt, 1, 10, &mut pass)?;
+    /// map.reclaim_as(rt, &mut pass)?;
+    /// let value = map.pin().get(&1); // Some(&10)
+    /// ```
+    pub fn reclaim_as<R: Wait>(&mut self, rt: &R, pass: &mut Pass<K, V, S>) -> Result<(), Refused>
+        requires { pass.old.book ≡ self.old.book }
+        ensures book { pass.new.book ≡ pass.old.book }
+        ensures seen { IsPrefix pass.old.history pass.new.history }
+        ensures own { pass.new.made ≡ pass.old.made }
+        ensures ok { IfOk result (λ _. HasSettingsOf self.old self.new) }
+        ensures hasher { IfOk result (λ _. S.is_clone self.old.begun.hasher
+            self.new.begun.hasher) }
+        ensures opened { IfOk result (λ _. HasFirstTable self.new) }
+        ensures copied { IfOk result (λ _. AreCopied K.eq K.is_clone V.is_clone pass.old.history
+            pass.new.history self.new.seen) }
         ensures err { IfErr result (λ refused. IsPlainRefusal self.old.begun.limit refused
             × (self.new ≡ self.old)) }
     {
         let mut fresh = self.new_like(rt)?;
-        self.copy_into(rt, &mut fresh)?;
+        self.copy_into(rt, &mut fresh, pass)?;
         *self = fresh;
         Ok(())
     }

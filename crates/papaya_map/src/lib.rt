@@ -12,8 +12,8 @@
 //! - [`map`] has the map, and the calls of a pinned map or with a guard, a file for each kind.
 //!   [`map::making`] has the constructors, and [`pass`] the pass.
 //! - [`session`] has the session, one thread's access to the map, and its calls. A call of a pinned
-//!   map or with a guard creates a pass or a session for itself. Six calls take a pass of their
-//!   caller (`get_as` and its like), and the session's calls of that name call them.
+//!   map or with a guard creates a pass or a session for itself. Eight calls take a pass of their
+//!   caller (`get_as` and its like), and a session calls these.
 //! - [`collecting`] has the calls that take many entries or copy a map, and [`builder`] the builder
 //!   of a map.
 //! - [`observed`] has what a call returns beside its result: the evidence of the history that the

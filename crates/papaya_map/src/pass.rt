@@ -4,6 +4,7 @@
 //! `papaya_map_book` can copy such a list. A call takes it by [`Pass::window`], which leaves a list
 //! that no contract names. [`Pass::keep`] puts it back, with the exchanges made through the window.
 ghost use Rattle.std.specs.Prelude.{◌≡◌, []};
+ghost use mathlib.Core.List.{IsPrefix};
 ghost use Rattle.papaya_map_book.specs.Limits.{tables_of};
 ghost use Rattle.papaya_map_book.specs.Logs.{state_of};
 ghost use Rattle.papaya_map_book.specs.Windows.{IsLawful};
@@ -18,6 +19,7 @@ use papaya_map_book::rule::law::Law;
 use papaya_map_book::rule::offer::Seen;
 use papaya_map_book::rule::own::{CapacityCause, OwnSteps};
 use papaya_map_book::window::Window;
+use papaya_map_scan::walk::Iter;
 use std::hash::{BuildHasher, Hash};
 use std::marker::Model;
 
@@ -100,6 +102,20 @@ impl<K: Hash + Eq, V, S: BuildHasher> Pass<K, V, S> {
         ensures made { history_of result.made ≡ self.now.made }
     {
         tell(answer, &self.sight, &self.own)
+    }
+
+    /// Adds what an iterator of the same map has observed to what the pass has observed. Does nothing
+    /// at run time, and never fails.
+    pub fn learn_walk(&mut self, walk: &Iter<'_, K, V, S>)
+        requires { walk.now.book ≡ self.old.book }
+        ensures book { self.new.book ≡ self.old.book }
+        ensures seen { IsPrefix self.old.history self.new.history }
+        ensures walked { IsPrefix walk.now.history self.new.history }
+        ensures tables { IsPrefix self.old.tables self.new.tables }
+        ensures made { self.new.made ≡ self.old.made }
+        ensures given { self.new.given ≡ self.old.given }
+    {
+        self.sight.learn(&walk.seen());
     }
 
     /// Returns a window for a call by this pass, which has observed what the pass has. It takes the

@@ -4,6 +4,7 @@ ghost use mathlib.Core.List.{IsPrefix};
 ghost use Rattle.papaya_map_lookup.specs.History.{IsLegalHistory, history_of, key_of};
 
 mod computes;
+mod copying;
 mod deciding;
 mod inserting;
 mod lookups;
@@ -176,7 +177,7 @@ impl<'a, K: Hash + Eq, V, S: BuildHasher> Session<'a, K, V, S> {
         ensures made { self.new.made ≡ self.old.made }
         ensures given { self.new.given ≡ self.old.given }
     {
-        self.pass.sight.learn(&walk.seen());
+        self.pass.learn_walk(walk);
     }
 }
 

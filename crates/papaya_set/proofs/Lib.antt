@@ -2,4 +2,3 @@ pub mod Kept
 pub mod KeptShared
 pub mod Same
 pub mod Taken
-pub mod KeysWalked

@@ -1,5 +1,6 @@
 //! Sets of clones, and comparisons of sets.
-ghost use Rattle.std.specs.Prelude.{◌≡◌, ◌≢◌, ℕ, true, [], IfErr, IfOk, None, OnOk, length};
+ghost use Rattle.std.specs.Prelude.{◌≡◌, ◌≢◌, ℕ, true, IfErr, IfOk, None, OnOk, length};
+ghost use mathlib.Core.List.{IsPrefix};
 ghost use Rattle.papaya_words.specs.Probe.{IsEntriesFor};
 ghost use Rattle.papaya_words.specs.declared.limits.TheConstants.{DEFAULT_CHUNK, DEFAULT_SHARDS};
 ghost use Rattle.papaya_core_timeline.specs.Content.{content};
@@ -12,6 +13,7 @@ ghost use Rattle.papaya_map.specs.Limited.{IsPlainRefusal};
 
 use crate::seq;
 use crate::set::HashSet;
+use papaya_map::pass::Pass;
 use papaya_words::refused::Refused;
 use papaya_words::resize_mode::ResizeMode;
 use std::alloc::Global;
@@ -95,11 +97,41 @@ impl<K: Hash + Eq + Clone + Drop, S: BuildHasher + Clone + Drop> HashSet<K, S> {
         ensures made { IfOk result (λ set. (keys : ℕ)
             × IsFor (ResizeMode.Incremental DEFAULT_CHUNK) keys DEFAULT_SHARDS None set) }
         ensures hasher { IfOk result (λ set. S.is_clone self.now.begun.hasher set.begun.hasher) }
-        ensures copied { IfOk result (λ set. AreCopied K.eq K.is_clone (λ v w. w ≡ v) self.now.book
-            self.now.seen [] set.seen) }
         ensures refused { IfErr result IsMemoryOrCapacity }
     {
         match self.map.try_clone(rt, alloc) {
+            Ok(map) => Ok(HashSet { map }),
+            Err(refused) => Err(refused),
+        }
+    }
+
+    /// Returns a set of clones of this one's keys, by a pass of [`HashSet::map`]. Each key that the
+    /// pass had observed in the set is copied, unless a change took it out meanwhile. Each key that
+    /// is copied was in the set at some point since. The pass then has observed the iteration over
+    /// this set. It works as [`papaya_map::map::HashMap::try_clone_as`] does for a map.
+    ///
+    /// # Errors
+    ///
+    /// Fails with `Refused::Memory` or `Refused::Capacity`, as [`HashSet::try_clone`] does.
+    pub fn try_clone_as<R: Wait>(
+        &self,
+        rt: &R,
+        alloc: Global,
+        pass: &mut Pass<K, (), S>,
+    ) -> Result<HashSet<K, S>, Refused>
+        requires { pass.old.book ≡ self.now.book }
+        ensures book { pass.new.book ≡ pass.old.book }
+        ensures seen { IsPrefix pass.old.history pass.new.history }
+        ensures tables { IsPrefix pass.old.tables pass.new.tables }
+        ensures own { pass.new.made ≡ pass.old.made }
+        ensures made { IfOk result (λ set. (keys : ℕ)
+            × IsFor (ResizeMode.Incremental DEFAULT_CHUNK) keys DEFAULT_SHARDS None set) }
+        ensures hasher { IfOk result (λ set. S.is_clone self.now.begun.hasher set.begun.hasher) }
+        ensures copied { IfOk result (λ set. AreCopied K.eq K.is_clone (λ v w. w ≡ v)
+            pass.old.history pass.new.history set.seen) }
+        ensures refused { IfErr result IsMemoryOrCapacity }
+    {
+        match self.map.try_clone_as(rt, alloc, pass) {
             Ok(map) => Ok(HashSet { map }),
             Err(refused) => Err(refused),
         }
@@ -118,11 +150,35 @@ impl<K: Hash + Eq + Clone + Drop, S: BuildHasher + Clone + Drop> HashSet<K, S> {
         ensures hasher { IfOk result (λ _. S.is_clone self.old.begun.hasher
             self.new.begun.hasher) }
         ensures opened { IfOk result (λ _. HasFirstTable self.new) }
-        ensures copied { IfOk result (λ _. AreCopied K.eq K.is_clone (λ v w. w ≡ v) self.old.book
-            self.old.seen [] self.new.seen) }
         ensures err { IfErr result (λ refused. IsPlainRefusal self.old.begun.limit refused
             × (self.new ≡ self.old)) }
     {
         self.map.reclaim(rt)
+    }
+
+    /// Rebuilds the set from clones of its keys, as [`HashSet::reclaim`] does, by a pass of
+    /// [`HashSet::map`]. Each key that the pass had observed in the set is kept, unless a change
+    /// took it out meanwhile. Each key that is kept was in the set at some point since. It works as
+    /// [`papaya_map::map::HashMap::reclaim_as`] does for a map.
+    ///
+    /// # Errors
+    ///
+    /// Fails with `Refused::Memory` or `Refused::Capacity`, as [`HashSet::reclaim`] does. The set is
+    /// then as it was, and the pass can still be used.
+    pub fn reclaim_as<R: Wait>(&mut self, rt: &R, pass: &mut Pass<K, (), S>) -> Result<(), Refused>
+        requires { pass.old.book ≡ self.old.book }
+        ensures book { pass.new.book ≡ pass.old.book }
+        ensures seen { IsPrefix pass.old.history pass.new.history }
+        ensures own { pass.new.made ≡ pass.old.made }
+        ensures ok { IfOk result (λ _. HasSettingsOf self.old self.new) }
+        ensures hasher { IfOk result (λ _. S.is_clone self.old.begun.hasher
+            self.new.begun.hasher) }
+        ensures opened { IfOk result (λ _. HasFirstTable self.new) }
+        ensures copied { IfOk result (λ _. AreCopied K.eq K.is_clone (λ v w. w ≡ v)
+            pass.old.history pass.new.history self.new.seen) }
+        ensures err { IfErr result (λ refused. IsPlainRefusal self.old.begun.limit refused
+            × (self.new ≡ self.old)) }
+    {
+        self.map.reclaim_as(rt, pass)
     }
 }

@@ -21,10 +21,16 @@ enum Call {
     FromIter,
     FromArray,
     TryClone,
+    /// By a session, or by a pass.
+    TryCloneAs,
     WriteAndRead,
+    /// Writes by a session.
+    WriteAsAndRead,
     Extend,
     ExtendRef,
     Reclaim,
+    /// By a pass.
+    ReclaimAs,
     Eq,
     Walk,
     Reserve,
@@ -35,14 +41,17 @@ enum Call {
     TakeOut,
 }
 
-const CALLS: [Call; 14] = [
+const CALLS: [Call; 17] = [
     Call::FromIter,
     Call::FromArray,
     Call::TryClone,
+    Call::TryCloneAs,
     Call::WriteAndRead,
+    Call::WriteAsAndRead,
     Call::Extend,
     Call::ExtendRef,
     Call::Reclaim,
+    Call::ReclaimAs,
     Call::Eq,
     Call::Walk,
     Call::Reserve,
@@ -61,6 +70,8 @@ fn make<R: Wait, C: Collection>(rt: &R, alloc: Global, it: &C, call: Call) -> Re
         Call::FromIter => C::of_items(rt, alloc, ITEMS),
         Call::FromArray => C::of_array(rt, alloc, ITEMS),
         Call::TryClone => it.copied(rt, alloc),
+        Call::TryCloneAs => it.copied_as(rt, alloc),
+        Call::WriteAsAndRead => C::read(rt, alloc, &it.written_as(rt, alloc)?),
         _ => C::read(rt, alloc, &it.written(rt, alloc)?),
     }
 }
@@ -79,6 +90,7 @@ fn change<R: Wait, C: Collection>(rt: &R, it: &mut C, call: Call) -> Result<(), 
         Call::Extend => it.take(rt),
         Call::ExtendRef => it.take_lent(rt),
         Call::Reclaim => it.make_anew(rt),
+        Call::ReclaimAs => it.make_anew_as(rt),
         Call::Reserve => it.make_room(rt),
         Call::Clear => it.empty(rt),
         _ => it.keep_even(rt),
@@ -173,9 +185,12 @@ fn calls<R: Wait, C: Collection + Drop>(
         Call::Walk => walks(rt, it, keys),
         Call::Store => stores(rt, it, keys),
         Call::TakeOut => takes_out(rt, it, keys),
-        Call::FromIter | Call::FromArray | Call::TryClone | Call::WriteAndRead => {
-            makes(rt, alloc, it, call, keys)
-        }
+        Call::FromIter
+        | Call::FromArray
+        | Call::TryClone
+        | Call::TryCloneAs
+        | Call::WriteAndRead
+        | Call::WriteAsAndRead => makes(rt, alloc, it, call, keys),
         _ => changes(rt, it, call, keys),
     }
 }

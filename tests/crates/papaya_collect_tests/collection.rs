@@ -32,10 +32,18 @@ pub trait Collection: Sized {
     fn of_array<R: Wait>(rt: &R, alloc: Global, items: [Pair; 3]) -> Result<Self, Refused>;
     /// Makes one by `try_clone`.
     fn copied<R: Wait>(&self, rt: &R, alloc: Global) -> Result<Self, Refused>;
+    /// Makes one by a session's `try_clone`, or by `try_clone_as`. Without sessions as `copied`.
+    fn copied_as<R: Wait>(&self, rt: &R, alloc: Global) -> Result<Self, Refused> {
+        self.copied(rt, alloc)
+    }
     /// Reads one from JSON.
     fn read<R: Wait>(rt: &R, alloc: Global, value: &Value) -> Result<Self, Refused>;
     /// Writes it to JSON.
     fn written<R: Wait>(&self, rt: &R, alloc: Global) -> Result<Value, Refused>;
+    /// Writes it to JSON by a session. Without sessions as `written`.
+    fn written_as<R: Wait>(&self, rt: &R, alloc: Global) -> Result<Value, Refused> {
+        self.written(rt, alloc)
+    }
     /// Stores an entry; returns whether its key was new.
     fn store<R: Wait>(&mut self, rt: &R, pair: Pair) -> Result<bool, Refused>;
     /// Removes a key; returns whether it was there.
@@ -46,6 +54,10 @@ pub trait Collection: Sized {
     fn take_lent<R: Wait>(&mut self, rt: &R) -> Result<(), Refused>;
     /// Reclaims it by `reclaim`.
     fn make_anew<R: Wait>(&mut self, rt: &R) -> Result<(), Refused>;
+    /// Reclaims it by `reclaim_as`. Without passes as `make_anew`.
+    fn make_anew_as<R: Wait>(&mut self, rt: &R) -> Result<(), Refused> {
+        self.make_anew(rt)
+    }
     /// Reserves room for 100 more by `reserve`.
     fn make_room<R: Wait>(&mut self, rt: &R) -> Result<(), Refused>;
     /// Empties it by `clear`.

@@ -1,8 +1,9 @@
 // The map that threads share.
 use crate::collection::{Collection, Maker};
 use crate::keys::{Key, LENT, PAIRS, Pair, digits};
-use papaya_json::shared::{shared_map_from_value, shared_map_to_value};
+use papaya_json::shared::{session_to_value, shared_map_from_value, shared_map_to_value};
 use papaya_map::map::HashMap;
+use papaya_map::session::Session;
 use papaya_words::refused::Refused;
 use serde_json::Value;
 use std::alloc::Global;
@@ -39,6 +40,10 @@ impl Collection for HashMap<Key, u64> {
         self.try_clone(rt, alloc)
     }
 
+    fn copied_as<R: Wait>(&self, rt: &R, alloc: Global) -> Result<Self, Refused> {
+        Session::new(self).try_clone(rt, alloc)
+    }
+
     fn read<R: Wait>(rt: &R, alloc: Global, value: &Value) -> Result<Self, Refused> {
         shared_map_from_value(
             rt,
@@ -55,6 +60,16 @@ impl Collection for HashMap<Key, u64> {
             rt,
             alloc,
             self,
+            |key| digits(alloc, key),
+            |value| Some(Value::from(*value)),
+        )
+    }
+
+    fn written_as<R: Wait>(&self, rt: &R, alloc: Global) -> Result<Value, Refused> {
+        session_to_value(
+            rt,
+            alloc,
+            &mut Session::new(self),
             |key| digits(alloc, key),
             |value| Some(Value::from(*value)),
         )
@@ -78,6 +93,11 @@ impl Collection for HashMap<Key, u64> {
 
     fn make_anew<R: Wait>(&mut self, rt: &R) -> Result<(), Refused> {
         self.reclaim(rt)
+    }
+
+    fn make_anew_as<R: Wait>(&mut self, rt: &R) -> Result<(), Refused> {
+        let mut pass = self.pass();
+        self.reclaim_as(rt, &mut pass)
     }
 
     fn make_room<R: Wait>(&mut self, rt: &R) -> Result<(), Refused> {

@@ -1,7 +1,8 @@
 // The set that threads share.
 use crate::collection::{Collection, Maker};
 use crate::keys::{KEYS, Key, Pair};
-use papaya_json::shared::{shared_set_from_value, shared_set_to_value};
+use papaya_json::shared::{set_session_to_value, shared_set_from_value, shared_set_to_value};
+use papaya_map::session::Session;
 use papaya_set::set::HashSet;
 use papaya_words::refused::Refused;
 use serde_json::Value;
@@ -41,6 +42,11 @@ impl Collection for HashSet<Key> {
         self.try_clone(rt, alloc)
     }
 
+    fn copied_as<R: Wait>(&self, rt: &R, alloc: Global) -> Result<Self, Refused> {
+        let mut pass = self.map().pass();
+        self.try_clone_as(rt, alloc, &mut pass)
+    }
+
     fn read<R: Wait>(rt: &R, alloc: Global, value: &Value) -> Result<Self, Refused> {
         shared_set_from_value(
             rt,
@@ -53,6 +59,11 @@ impl Collection for HashSet<Key> {
 
     fn written<R: Wait>(&self, rt: &R, alloc: Global) -> Result<Value, Refused> {
         shared_set_to_value(rt, alloc, self, |key| Some(Value::from(key.0)))
+    }
+
+    fn written_as<R: Wait>(&self, rt: &R, alloc: Global) -> Result<Value, Refused> {
+        let mut session = Session::new(self.map());
+        set_session_to_value(rt, alloc, &mut session, |key| Some(Value::from(key.0)))
     }
 
     fn store<R: Wait>(&mut self, rt: &R, pair: Pair) -> Result<bool, Refused> {
@@ -73,6 +84,11 @@ impl Collection for HashSet<Key> {
 
     fn make_anew<R: Wait>(&mut self, rt: &R) -> Result<(), Refused> {
         self.reclaim(rt)
+    }
+
+    fn make_anew_as<R: Wait>(&mut self, rt: &R) -> Result<(), Refused> {
+        let mut pass = self.map().pass();
+        self.reclaim_as(rt, &mut pass)
     }
 
     fn make_room<R: Wait>(&mut self, rt: &R) -> Result<(), Refused> {

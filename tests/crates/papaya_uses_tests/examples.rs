@@ -69,6 +69,22 @@ fn reclaim(rt: &impl Wait, map: &mut Numbers) -> Result<(usize, usize), Refused>
     Ok((before, after))
 }
 
+fn reclaim_as(rt: &impl Wait, map: &mut Numbers) -> Result<Option<u64>, Refused> {
+    let mut pass = map.pass();
+    map.pin().insert_as(rt, 1, 10, &mut pass)?;
+    map.reclaim_as(rt, &mut pass)?;
+    let value = map.pin().get(&1); // Some(&10)
+    Ok(value.copied())
+}
+
+fn session_try_clone(rt: &impl Wait, alloc: Global, map: &Numbers) -> Result<Option<u64>, Refused> {
+    let mut session = Session::new(map);
+    session.insert(rt, 1, 10)?;
+    let copy = session.try_clone(rt, alloc)?;
+    let value = copy.pin().get(&1); // Some(&10)
+    Ok(value.copied())
+}
+
 fn pin(rt: &impl Wait, map: &Numbers) -> Found {
     let pinned = map.pin();
     let old = pinned.insert(rt, 1, 10)?; // None
@@ -287,6 +303,11 @@ fn stores(rt: &(impl Abort + Wait), map: &Numbers) -> Result<(), Refused> {
 fn shared_maps(rt: HostRuntime) -> Result<(), Fail> {
     let mut map: Numbers = HashMap::new(&rt, rt.alloc())?;
     is(&rt, reclaim(&rt, &mut map), Ok((2, 1)));
+    map.pin().clear(&rt)?;
+    is(&rt, reclaim_as(&rt, &mut map), Ok(Some(10)));
+    let copied = session_try_clone(&rt, rt.alloc(), &map);
+    is(&rt, copied, Ok(Some(10)));
+    map.pin().clear(&rt)?;
     looks_up(&rt, &map)?;
     stores(&rt, &map)?;
     Ok(())

@@ -1,27 +1,35 @@
-use Rattle.std.proofs.Common.{List, [], map, sym, ap, ◌∙◌, subst}
-use mathlib.Core.List.{IsPrefix}
+use Rattle.std.proofs.Common.{[], List, subst}
 use Rattle.papaya_map_book.specs.Logs.{Stored}
+use Rattle.papaya_map_book.proofs.Logs.{prefix_trans}
 use Rattle.papaya_map_lookup.specs.History.{Change}
-use Rattle.papaya_seq.specs.Map.{deref_pair}
-use Rattle.papaya_map.specs.Collected.{AreStored}
-use Rattle.papaya_map.specs.Fixed.{Fixed}
-use Rattle.papaya_map.proofs.Collected.{stored_until, walked}
+use Rattle.papaya_map.specs.Collected.{AreStored, AreYielded}
+use Rattle.papaya_map.proofs.Collected.{stored_by, stored_until}
+use Rattle.papaya_map.proofs.Yielded.{yielded_later}
 use Rattle.papaya_map.proofs.map.HashMap.copy_into.Goals as goal
 
 pub returns-clause-copied : goal.returns-clause-copied
 returns-clause-copied g c =
-    let e = c.in_ok-pairs.ensures in let came = c.in_ok-extend_clones_as.ensures.copied in let put = came.is.2 in (
-      map deref_pair came.items,
-      walked g.K.PartialEq.eq c.args.self.now.book c.args.self.now.seen c.in_ok-pairs.pairs came.first came.left came.is.0 came.items came.made
-          (e.walk ∙ ap (λ (z : Fixed g.row.K.Denot g.row.V.Denot g.row.S.Denot). z.book) c.pin.ensures.map)
-          (subst (λ (h : List (Change g.row.K.Denot (Stored g.row.K.Denot g.row.V.Denot))). IsPrefix c.args.self.now.seen h) (sym e.began.0) c.pin.ensures.seen)
-          e.began.1 came.came came.is.1,
+    let e = c.in_ok-pairs.ensures in let eq = g.K.PartialEq.eq in let put = c.in_ok-insert_clones_as.ensures.cloned in
+    let before : AreStored eq put.0 c.pass-own.result.history c.insert_clones_as.new.pass.history = stored_by eq put.0 _ _ _ _ put.2 in (
+      c.insert_clones_as.new.pairs.given,
+      yielded_later eq _ _ _ _ c.learn_walk.ensures.walked
+          (subst
+          (λ (h : List (Change g.row.K.Denot (Stored g.row.K.Denot g.row.V.Denot))). AreYielded eq h c.insert_clones_as.new.pairs.history c.insert_clones_as.new.pairs.given)
+          e.began.0 c.in_ok-insert_clones_as.ensures.yielded),
       (
         put.0,
         put.1,
-        stored_until g.K.PartialEq.eq put.0 [] c.extend_clones_as.new.pass.history c.learn.new.self.seen
-            (subst (λ (h : List (Change g.row.K.Denot (Stored g.row.K.Denot g.row.V.Denot))). AreStored g.K.PartialEq.eq put.0 h c.extend_clones_as.new.pass.history)
-            c.pass-pass.ensures.new put.2)
+        stored_until eq put.0 [] c.insert_clones_as.new.pass.history c.learn.new.self.seen
+            (subst (λ (h : List (Change g.row.K.Denot (Stored g.row.K.Denot g.row.V.Denot))). AreStored eq put.0 h c.insert_clones_as.new.pass.history)
+            c.pass-own.ensures.new before)
             c.learn.ensures.passed,
       ),
     )
+
+pub returns-clause-seen : goal.returns-clause-seen
+returns-clause-seen g c = prefix_trans c.args.pass.now.history c.iter_as.new.pass.history c.learn_walk.new.self.history c.iter_as.ensures.seen
+    c.learn_walk.ensures.seen
+
+pub returns-clause-tables : goal.returns-clause-tables
+returns-clause-tables g c = prefix_trans c.args.pass.now.tables c.iter_as.new.pass.tables c.learn_walk.new.self.tables c.iter_as.ensures.tables
+    c.learn_walk.ensures.tables

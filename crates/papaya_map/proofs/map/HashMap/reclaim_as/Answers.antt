@@ -1,5 +1,5 @@
 use Rattle.papaya_map.proofs.Collected.{first_learned, hasher_learned, settings_learned}
-use Rattle.papaya_map.proofs.map.HashMap.reclaim.Goals as goal
+use Rattle.papaya_map.proofs.map.HashMap.reclaim_as.Goals as goal
 
 pub returns-clause-ok : goal.returns-clause-ok
 returns-clause-ok g c = settings_learned c.in_ok-fresh.fresh c.copy_into.new.copy c.in_ok-copy_into.ensures.same c.args.self.now c.in_ok-fresh.ensures.settings

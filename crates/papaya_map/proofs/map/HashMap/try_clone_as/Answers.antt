@@ -2,7 +2,7 @@ use Rattle.std.proofs.Common.{None, rules}
 use Rattle.papaya_words.specs.declared.limits.TheConstants.{DEFAULT_CHUNK, DEFAULT_SHARDS}
 use Rattle.papaya_words.specs.declared.resize_mode.ResizeMode.TheVariants.{Incremental}
 use Rattle.papaya_map.proofs.Collected.{for_learned, hasher_learned}
-use Rattle.papaya_map.proofs.map.HashMap.try_clone.Goals as goal
+use Rattle.papaya_map.proofs.map.HashMap.try_clone_as.Goals as goal
 
 pub returns-clause-made : goal.returns-clause-made
 returns-clause-made g c = (
