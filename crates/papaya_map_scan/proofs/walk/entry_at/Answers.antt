@@ -39,7 +39,7 @@ returns-clause-had g c = λ began taken.
     let one = met.had (sym c.names_pair.ensures ∙ named) in
     let same = some_same one.0 p (sym one.1) in (
       p,
-      (c.entry.ensures.key ∙ ap (λ z. z.key.value) c.pair-2.ensures, c.entry.ensures.value ∙ ap (λ z. z.value) c.pair-2.ensures),
+      (c.entry.ensures.key ∙ ap (λ z. z.key.value) c.pair.ensures, c.entry.ensures.value ∙ ap (λ z. z.value) c.pair.ensures),
       subst (λ (q : Stored _ _). HadPair g.K.PartialEq.eq (history_of began) (history_of log) q) same one.2,
     )
 
@@ -62,4 +62,4 @@ returns-clause-passed g c = λ began at taken.
     passed_found g.K.PartialEq.eq g.K.Hash.hash_input g.S.BuildHasher.build_hasher g.S.Hasher.Hasher.write g.S.Hasher.Hasher.finish g.met.K.Eq.laws
     g.met.K.Hash.respects_eq b began log told.read.lawful c.args.number c.args.place c.word_of-word.result.0 told.read.is
     c.args.window.now.sight.log at c.word_of-word.ensures.sees.log taken p names c.entry.result
-    (c.entry.ensures.key ∙ ap (λ z. z.key.value) c.pair-2.ensures, c.entry.ensures.value ∙ ap (λ z. z.value) c.pair-2.ensures)
+    (c.entry.ensures.key ∙ ap (λ z. z.key.value) c.pair.ensures, c.entry.ensures.value ∙ ap (λ z. z.value) c.pair.ensures)
