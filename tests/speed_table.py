@@ -61,15 +61,13 @@ def is_rounded(said, exact):
     return said is not None and exact is not None and abs(said - exact) <= 0.5 + 1e-6
 
 
-def loop_of(row, shown):
-    """What the loop takes in a row, by the table or else by the figures that are shown with their exact counts. None explains all, if
-    they do not agree."""
-    if row in NO_LOOP:
-        return 0.0
-    if shown.get("loop"):
-        return shown["loop"]
-    least = max((exact - figure - 0.5 for figure, exact in shown["figures"]), default=0.0)
-    most = min((exact - figure + 0.5 for figure, exact in shown["figures"]), default=0.0)
+def loop_of(row, counted, figures):
+    """What the loop takes in a row: what was counted, or else what explains these figures by their exact counts, or none if
+    nothing does."""
+    if row in NO_LOOP or counted is not None:
+        return counted or 0.0
+    least = max((exact - figure - 0.5 for figure, exact in figures), default=0.0)
+    most = min((exact - figure + 0.5 for figure, exact in figures), default=0.0)
     return (least + most) / 2 if least <= most else None
 
 
@@ -77,7 +75,7 @@ def compared(row, said, columns, gross):
     """For each of these columns, the figure that is said, the one that it is to be, and whether it is that."""
     shown = {it: (number(said[it]), number(gross[name][row])) for it, name in columns.items() if said[it]}
     known = [it for it in shown.values() if None not in it]
-    loop = loop_of(row, {"loop": number(gross["loop"][row]), "figures": known})
+    loop = loop_of(row, number(gross["loop"][row]), known)
     for column, (figure, exact) in shown.items():
         is_known = exact is not None and loop is not None
         yield column, figure, exact - loop if is_known else None, is_known and is_rounded(figure, exact - loop)
