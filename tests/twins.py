@@ -5,10 +5,11 @@ papaya_call_alone that has to refuse it, or what a state of the machine may be.
     python3 tests/twins.py [TWIN..]
 
 A twin has the lines of an edit in must-fail/, with files below crates/, and two before them: `law:`, the law
-that refuses it, and `fn:`, the machine's function, or several. A twin of a call on one table goes with one of
-a copy, whose laws are others: those of calls say nothing of copiers and those of copiers
-nothing of calls. A copy whose twins an earlier run on this machine saw refused, over all that it reads, is not
-tried again.
+that refuses it, and `fn:`, the machine's function, or several. Twins share a copy of the crates where none changes
+what the law of another says: one of a call on one table goes with one of a copier, or with one of a scan. The laws
+of copiers and of scans say nothing of such calls, nor the laws of such calls of them. One of a copier and one of a
+scan stay apart, since a scan ends copies. A copy whose twins an earlier run on this machine saw refused, over all
+that it reads, is not tried again.
 """
 
 import os
@@ -28,8 +29,8 @@ def is_refused(said, law):
 
 
 def crates_of(twins):
-    """The crate of these twins' laws, and those below it that are changed or stand on a changed one."""
-    top = twins[0].words["law"].split("::")[0]
+    """The highest crate of these twins' laws, and those below it that are changed or stand on a changed one."""
+    top = max((it.words["law"].split("::")[0] for it in twins), key=lambda it: len(below(it)))
     changed = {file.split("/")[0] for it in twins for file, _, _ in it.pairs}
     return top, [it for it in below(top) if changed & {it, *below(it)}]
 
@@ -68,9 +69,10 @@ def copies_of(twins):
     calls = [it for it in twins if re.match(r"papaya_call_law::(relies|alone)::", it.words["law"])]
     # (copies have searches too)
     calls = [it for it in calls if not any(re.search("[Ss]earch", file) for file, _, _ in it.pairs)]
-    copiers = [it for it in twins if it.words["law"].startswith("papaya_call_law::copies::")]
-    pairs = [[it for it in pair if it] for pair in zip_longest(calls, copiers)]
-    return pairs + [[it] for it in twins if it not in calls and it not in copiers]
+    others = [it for it in twins if re.match(r"papaya_call_law::(copies|scanners)::", it.words["law"])]
+    others.sort(key=lambda it: it.words["law"])
+    pairs = [[it for it in pair if it] for pair in zip_longest(calls, others)]
+    return pairs + [[it] for it in twins if it not in calls and it not in others]
 
 
 def main(names):
