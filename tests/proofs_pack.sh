@@ -15,7 +15,7 @@ for crate in papaya papaya_low papaya_more; do
     echo "// $crate" >"$from/crates/$crate/src/lib.rt"
 done
 echo '// a program' >"$from/crates/papaya_run/src/main.rt"
-cp -a "$top/HANDLES" "$top/VERSION" "$top/tools" "$from"
+cp -a "$top/HANDLES" "$top/LICENSE" "$top/VERSION" "$top/tools" "$from"
 git -C "$from" init -q
 cp -a "$from" "$room/to"
 to="$room/to"
@@ -128,6 +128,10 @@ same 'the repository lacks none' 0 "$(proofs_there lacks papaya_run)"
 same 'none is named' '' "$(cat "$room/output")"
 same 'tools/prove takes them' 0 "$(cd "$to" && PATH="$room/kit/bin:$PATH" called tools/prove --kept "$room/kept" papaya)"
 same 'as kept' $'papaya_low is kept\npapaya is kept' "$(cat "$room/output")"
+git -C "$room" init -q user
+same 'tools/take brings them to a user' 'take: they are proved on this machine or by whoever made file, whom you trust, so a first rt check there proves your own crates alone' \
+    "$(PATH="$room/kit/bin:$PATH" called "$to/tools/take" "$room/user" >&2; tail -1 "$room/output")"
+same 'as they are' "$(built "$to")" "$(built "$room/user")"
 before="$(built "$to")"
 same 'a second time there is nothing to do' 0 "$(proofs_there use "$room/file")"
 same 'it says so' ': 0 libraries were taken, and 2 were here' "$(sed 's/.*papaya [^ ]*\(:.*\)/\1/' "$room/output")"
