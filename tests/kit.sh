@@ -8,8 +8,9 @@ trap 'rm -rf "$room"' EXIT
 source "$top/tests/same.sh"
 
 # A repository of four crates, and a kit with one library.
-mkdir -p "$room"/from/{tools,crates/{papaya_low,papaya,papaya_more,papaya_run}/src} "$room"/first/{bin,rlibs/std.rlib,rattle/std,c}
+mkdir -p "$room"/from/{tools,tests,crates/{papaya_low,papaya,papaya_more,papaya_run}/src} "$room"/first/{bin,rlibs/std.rlib,rattle/std,c}
 cp "$top"/tools/{kit,need-rt,prove} "$room/from/tools"
+echo 'import os; os.execvp("rt", ["rt", "ci"])' >"$room/from/tests/proofs.py"
 cp "$top/HANDLES" "$room/from"
 printf '# crates\npapaya_low:\npapaya: papaya_low std\npapaya_more: papaya\npapaya_run: papaya\n' >"$room/from/crates.txt"
 touch "$room"/from/crates/{papaya_low,papaya,papaya_more}/src/lib.rt "$room/from/crates/papaya_run/src/main.rt"

@@ -11,10 +11,11 @@ source "$top/tests/same.sh"
 # A repository of three crates, one that none needs and an example. Its programs print their arguments, or say that a line
 # or the input is bad.
 made="$folder/top"
-mkdir -p "$made"/crates/{papaya_{low,mid,run,other},count_words}/src "$made"/{tools,examples} "$folder/bin"
+mkdir -p "$made"/crates/{papaya_{low,mid,run,other},count_words}/src "$made"/{tools,tests,examples} "$folder/bin"
 cp "$top/papaya-run" "$top/HANDLES" "$made"
 cp "$top"/tools/{need-rt,program,programs.sh,example.sh,prove} "$made/tools"
 cp "$top/examples/count-words" "$made/examples"
+echo 'import os; os.execvp("rt", ["rt", "ci"])' >"$made/tests/proofs.py"
 cat >"$made/crates.txt" <<'END'
 # crates
 papaya_low:
@@ -48,6 +49,7 @@ PROGRAM
 }
 if [[ "$1" == run ]]; then
     echo over >>"$BEGUN"
+    mkdir -p out
     program out/papaya_run
     exit
 fi
@@ -172,6 +174,7 @@ same 'a stopped build leaves no program' 'none' \
 same 'a first build ends as the program' 0 "$(run core block id)"
 same 'standard output is the program'\''s' 'ran core block id' "$(cat "$folder/output")"
 same 'a first build names each crate, as it begins and as it ends' 'papaya-run: first run: proving and building 3 crates, half an hour to two, once
+papaya-run: in a few minutes where you have a file of their proofs: tools/proofs use FILE
 papaya-run: for a first look without the proof: papaya-run --unproved core block id
 papaya-run: proving papaya_low
 papaya-run: papaya_low proved in N s, 1 of 3
@@ -237,6 +240,23 @@ touch -d '+2 minutes' "$made/crates/papaya_low/src/lib.rt"
 same 'over kept work it is built too' 0 "$(run core block id)"
 same 'by rt run' over "$(cat "$BEGUN")"
 rm -r "$made/crates/papaya_run/out"
+
+# Where the libraries are built here, by a stand-in for tools/proofs that lacks none, the program alone is.
+: >"$BEGUN"
+echo '[[ "$1 $2" == "lacks papaya_run" ]]' >"$made/tools/proofs"
+chmod +x "$made/tools/proofs"
+mkdir -p "$made/crates/papaya_low/out/rlib"
+echo 'a file' >"$made/crates/papaya_low/out/rlib/brought"
+same 'over libraries that are built here it is built' 0 "$(run core block id)"
+same 'it says so, and which file is trusted' \
+    'papaya-run: first run: proving and building the program over libraries that are built here, in a few minutes, once
+papaya-run: libraries of a file are not proved here: you trust who made it' "$(cat "$folder/errors")"
+same 'standard output is the program'\''s alone' 'ran core block id' "$(cat "$folder/output")"
+same 'by rt run, once' over "$(cat "$BEGUN")"
+same 'an example that lacks one proves all' 0 "$(count_words)"
+same 'which it says' 'count-words: proving and building 2 crates; without the proof: examples/count-words --unproved' \
+    "$(head -1 "$folder/errors")"
+rm -r "$made"/crates/{papaya_run,papaya_low,count_words}/out "$made/tools/proofs"
 
 # What an earlier run has passed is told apart, and of crates that are there only those that are needed are proved.
 status=0

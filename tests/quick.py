@@ -96,7 +96,7 @@ def crates_alone(room, names):
 def side_by_side(room):
     """The parts that go on beside each other."""
     parts = [("tests/crates", run_unproved, room), *crates_alone(room, NAMED)]
-    for name in ("papaya_run.sh", "readme_code.sh", "first.sh", "take.sh", "kit.sh"):
+    for name in ("papaya_run.sh", "readme_code.sh", "first.sh", "take.sh", "kit.sh", "proofs_pack.sh"):
         parts.append((name, ran, "bash", f"{TOP}/tests/{name}"))
     parts.append(("checks.py", ran, "python3", "-B", f"{TOP}/tests/checks.py"))
     return [*parts, ("tools/chart", ran, f"{TOP}/tools/chart", "--check")]

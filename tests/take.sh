@@ -54,7 +54,8 @@ for time in first second; do
         "$(cut -d: -f1 "$room/to/crates.txt" | grep -v '^shop$' | sort)"
 done
 same 'it is said that a first check is long' 'take: 0 of them are proved on this machine, and a first rt check there proves the others, one by one: far over an hour for all;
-take: better run tools/prove --here papaya in '"$from"', half an hour to two hours for all on four processors, and then take again' "$(tail -n +2 "$room/output")"
+take: better run tools/proofs use FILE in '"$from"', where you have a file of their proofs, or else
+take: tools/prove --here papaya, half an hour to two hours for all on four processors, and then take again' "$(tail -n +2 "$room/output")"
 silent 'no test, program or caller is taken' find "$room/to/crates" -mindepth 1 -maxdepth 1 -regextype egrep \
     -regex '.*_(tests|run|bench|uses)'
 same 'the handles go along' "$(cat "$top/HANDLES")" "$(cat "$room/to/HANDLES")"

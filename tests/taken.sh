@@ -27,7 +27,8 @@ END
     echo "$2: ${3-}" >>"$1/crates.txt"
 }
 from="$room/from"
-mkdir -p "$from"
+mkdir -p "$from/tests"
+cp "$top/tests/proofs.py" "$from/tests"
 cp -a "$top/HANDLES" "$top/LICENSE" "$top/VERSION" "$top/tools" "$from"
 crate "$from" papaya_low
 crate "$from" papaya papaya_low

@@ -46,7 +46,11 @@ run_example() {
     list_crates "$crate"
     if ! is_fresh; then
         "$top/tools/need-rt" "$name"
-        say "proving and building ${#crates[@]} crates; without the proof: examples/$name --unproved"
+        if is_near; then
+            say "proving and building the program over libraries that are built here; without the proof: examples/$name --unproved"
+        else
+            say "proving and building ${#crates[@]} crates; without the proof: examples/$name --unproved"
+        fi
         "$top/tools/program" "$crate" "$name" </dev/null
         touch "$program"
     fi

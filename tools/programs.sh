@@ -33,6 +33,20 @@ is_fresh() {
     [[ -z "$(find "${folders[@]}" -type f -newer "$program" -print -quit)" ]]
 }
 
+# Is all that the program stands on built here?
+is_near() {
+    local lacking
+    lacking="$("$top/tools/proofs" lacks "$crate" 2>/dev/null)" && [[ -z "$lacking" ]]
+}
+
+# The files that libraries of these crates came from.
+files_brought() {
+    local one
+    for one in "${crates[@]}"; do
+        cat "$top/crates/$one/out/rlib/brought" 2>/dev/null || true
+    done | sort -u
+}
+
 # Where standard input is a file, the byte of it at which the program begins to read. The script can look there
 # again. What comes by a pipe or a terminal goes to the program alone.
 from=""
