@@ -1,6 +1,6 @@
 //! Twelve small callers of `papaya`, proved and run, to copy from.
 //! It uses `papaya` alone, as a caller does.
-//! `count_words` builds on it.
+//! Only its tests build on it.
 //!
 //! For one owner: a word count, and a cache with a limit. By sessions: settings and hits that
 //! threads share, a table of who is signed in, and registries of counters and of metrics. Also
