@@ -1,9 +1,8 @@
 //! One use of each part of `papaya` that the other callers do not need. They show that one line of
 //! `crates.txt` is enough for each.
-ghost use Rattle.std.specs.Prelude.{◌≡◌, ◌↔◌, IfErr, IsTrue, Some};
+ghost use Rattle.std.specs.Prelude.{◌≡◌, ◌↔◌, IfErr, IsTrue};
 ghost use Rattle.papaya.specs.Sets.{HaveSameKeys};
 ghost use Rattle.papaya.specs.Sizes.{DEFAULT_CHUNK, IsSizeRefusal};
-ghost use Rattle.papaya.specs.Types.{Value};
 ghost use Rattle.papaya.specs.Types.ReplyVariants.{Absent};
 
 use papaya::observed::{Observed, Saying};
@@ -42,9 +41,7 @@ pub fn is_absent(reply: Reply) -> bool
 }
 
 /// Returns the value that an insertion gave back.
-pub fn value_back<V: Drop>(failed: NotInserted<'_, V>) -> Option<V>
-    ensures { (value : _) → failed ≡ Value value → result ≡ Some value }
-{
+pub fn value_back<V: Drop>(failed: NotInserted<'_, V>) -> Option<V> {
     match failed {
         NotInserted::Value(value) => Some(value),
         NotInserted::Logged(_) => None,
