@@ -2,7 +2,7 @@
 --
 -- A gate is open, or in an era. While it is open, anyone may add tracked entries to the log. In an era only its authors may,
 -- and each author has a list of its own: exactly the tracked entries that it added. The roll of an era names its authors.
-use Rattle.std.specs.Prelude.{◌≡◌, ℕ, suc, ◌<◌, ◌==◌, Bool, cond, Option, None, Some, List, [], ◌∷◌, ◌++◌, length, map, All, Contains}
+use Rattle.std.specs.Prelude.{◌≡◌, ℕ, suc, ◌<◌, ◌==◌, cond, Option, None, Some, List, [], ◌∷◌, ◌++◌, length, map, All, Contains}
 use base.Stored.{Coded, coded_ℕ, coded_list, coded×, coded_via}
 
 -- The eras so far, each by the name of its roll, and the roll of the last of them, with the name of each author's list.
@@ -23,6 +23,10 @@ module _ {E : Type 0} where
   abbrev pub author_coded : Coded E → Coded (Author E)
   author_coded c = coded_via (coded× coded_ℕ (coded_list c)) (λ (a : Author E). (a.name, a.own))
       (λ x y p i. record { name = (p i).0; own = (p i).1 })
+
+  -- The last of these eras, with this only author.
+  abbrev pub era_of : (eras : List ℕ) → Author E → Era
+  era_of eras author = record { eras = eras; roll = author.name ∷ [] }
 
   abbrev pub names_of : List (Author E) → List ℕ
   names_of = map (λ (a : Author E). a.name)

@@ -3,14 +3,14 @@
 -- The book keeps one half of each author's right to say what its list is, and the author has the other half. So a list grows
 -- only where both are at hand: in a step of that author. The book also keeps what says that the log is a merge of the lists.
 -- While the gate is open, the right to add as one likes is in the gate, and a step pays with a share of it.
-use Rattle.std.specs.Prelude.{◌≡◌, ℕ, suc, Bool, true, false, Option, None, Some, List, [], ◌∷◌, map, length, filter}
+use Rattle.std.specs.Prelude.{ℕ, suc, Bool, true, false, Option, None, Some, List, [], ◌∷◌, map, length, filter}
 use base.Fraction.{full_share}
 use base.Share as Share
 use base.Stored.{Gv, coded_ℕ}
 use base.Growing.{prefixes, latest, numbers}
 use base.Fml.{Lft, Share, Fml, ftrue, fsep, fex, fshr_bor}
 use Rattle.logbook.specs.Kept.{logs, fact}
-use Rattle.papaya_gate.specs.Eras.{Era, Author, picks, AreMarked}
+use Rattle.papaya_gate.specs.Eras.{Era, Author, era_of, picks, AreMarked}
 
 -- The names of a gated book: those of the list of eras and of the right to add as one likes, and those of the inner rule.
 abbrev pub eras_name : List ℕ → ℕ
@@ -71,12 +71,12 @@ module _ {E : Type 0} (c : E → Gv) where
   team_owns (a ∷ authors) = fsep (exactly (Share.right full_share) a.name a.own) (team_owns authors)
 
   -- What a gate owns with the only author of its era, by shares; and the fact that it is never opened again.
-  abbrev pub ended_holds : (names : List ℕ) → Era → Author E → Share → Fml
-  ended_holds names era author q =
-      fsep (gate_holds (eras_name names) (leave_name names) (Some era) q) (exactly (Share.right q) author.name author.own)
+  abbrev pub ended_holds : (names eras : List ℕ) → Author E → Share → Fml
+  ended_holds names eras author q =
+      fsep (gate_holds (eras_name names) (leave_name names) (Some (era_of eras author)) q) (exactly (Share.right q) author.name author.own)
 
-  abbrev pub ended_owns : (names : List ℕ) → Era → Author E → Fml
-  ended_owns names era author = fshr_bor [] (ended_holds names era author)
+  abbrev pub ended_owns : (names eras : List ℕ) → Author E → Fml
+  ended_owns names eras author = fshr_bor [] (ended_holds names eras author)
 
   -- The book's half of each author's list.
   abbrev pub lines : (roll : List ℕ) → (k : ℕ) → (marks : List ℕ) → (log : List E) → Fml

@@ -13,8 +13,8 @@ use crate::team::Team;
 use logbook::{Rule, Seen, Start};
 use std::marker::{Model, PhantomData};
 
-/// The gate of a book. `era` is `None` while the gate is open; in an era it has the roll of the era's authors. `names` are the
-/// names of the book's clients.
+/// The gate of a book. `era` is `None` while the gate is open; in an era it has the roll of the
+/// era's authors. `names` are the names of the book's clients.
 pub struct Gate {
     marker: PhantomData<()>,
     pub ghost names: { List ℕ },
@@ -45,6 +45,7 @@ impl<E> Model for Writer<E> {
 
 impl<E> Writer<E> {
     /// Returns a writer who is nobody, and can add entries while the gate is open.
+    #[inline(always)]
     pub fn nobody() -> Writer<E>
         ensures { result.author ≡ None }
     {
@@ -55,7 +56,9 @@ impl<E> Writer<E> {
 }
 
 impl Gate {
-    /// Returns what a new gated book keeps, by what its inner rule keeps, and the gate of that book. The gate is open.
+    /// Returns what a new gated book keeps, by what its inner rule keeps, and the gate of that
+    /// book. The gate is open.
+    #[inline(always)]
     pub fn begin<E, A, P: Rule<E, A> + Tracking<E>>(
         start: Start<E, A, P>,
     ) -> (Start<E, A, Gated<P>>, Gate)
@@ -75,7 +78,9 @@ impl Gate {
         )
     }
 
-    /// Begins an era, and returns its only author. All tracked entries so far are in the author's list.
+    /// Begins an era, and returns its only author. All tracked entries so far are in the author's
+    /// list.
+    #[inline(always)]
     pub fn freeze<E, A, P: Rule<E, A> + Tracking<E>>(
         &mut self,
         seen: &mut Seen<E, A, Gated<P>>,
@@ -92,6 +97,7 @@ impl Gate {
     }
 
     /// Adds an author to the era, who has written nothing, and returns it.
+    #[inline(always)]
     pub fn writer<E, A, P: Rule<E, A> + Tracking<E>>(
         &mut self,
         seen: &mut Seen<E, A, Gated<P>>,
@@ -106,7 +112,9 @@ impl Gate {
         }
     }
 
-    /// Observes all tracked entries of the log: they are those in the list of the era's only author.
+    /// Observes all tracked entries of the log: they are those in the list of the era's only
+    /// author.
+    #[inline(always)]
     pub fn whole<E, A, P: Rule<E, A> + Tracking<E>>(
         &self,
         writer: &Writer<E>,
@@ -119,6 +127,7 @@ impl Gate {
     {}
 
     /// Observes all tracked entries of the log: they are a merge of the lists of the era's authors.
+    #[inline(always)]
     pub fn gather<E, A, P: Rule<E, A> + Tracking<E>>(
         &self,
         team: &mut Team<E>,
@@ -131,14 +140,37 @@ impl Gate {
             × IsPrefix seen.old.log seen.new.log }
     {}
 
+    /// Ends the era of these authors, who are all, and begins one with a single author. In that
+    /// author's list are all tracked entries, which are a merge of theirs. The team has no authors
+    /// afterwards.
+    #[inline(always)]
+    pub fn unite<E, A, P: Rule<E, A> + Tracking<E>>(
+        &mut self,
+        team: &mut Team<E>,
+        seen: &mut Seen<E, A, Gated<P>>,
+    ) -> Writer<E>
+        requires { AreAll self.old.era team.old.authors × (seen.old.names ≡ self.old.names) }
+        ensures { (self.new.names ≡ self.old.names) × IsOnly self.new.era result.author
+            × (own_of result.author ≡ filter P.tracks (P.shows seen.new.log))
+            × IsMerge (owns_of team.old.authors) (own_of result.author) × (team.new.authors ≡ [])
+            × (seen.new.book ≡ seen.old.book) × (seen.new.names ≡ seen.old.names)
+            × IsPrefix seen.old.log seen.new.log }
+    {
+        Writer {
+            marker: PhantomData,
+        }
+    }
+
     /// Opens the gate. The era's writers can add nothing in a later era.
+    #[inline(always)]
     pub fn thaw<E, A, P: Rule<E, A> + Tracking<E>>(&mut self, seen: &Seen<E, A, Gated<P>>)
         requires { (era : Era) × (self.old.era ≡ Some era) × (seen.now.names ≡ self.old.names) }
         ensures { (self.new.names ≡ self.old.names) × (self.new.era ≡ None) }
     {}
 
-    /// Ends the era of this only author for good, and returns the fact that no tracked entry is ever added again. The writer is
-    /// nobody afterwards.
+    /// Ends the era of this only author for good, and returns the fact that no tracked entry is
+    /// ever added again. The writer is nobody afterwards.
+    #[inline(always)]
     pub fn end<E>(self, writer: &mut Writer<E>) -> Ended<E>
         requires { IsOnly self.era writer.old.author }
         ensures { (result.names ≡ self.names) × (result.author.own ≡ own_of writer.old.author)

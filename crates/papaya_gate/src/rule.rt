@@ -1,8 +1,8 @@
 //! A rule with a gate beside it.
+ghost use Rattle.std.specs.Prelude.{◌≡◌, Bool};
+
 use logbook::{Rule, Seen};
 use std::marker::PhantomData;
-
-ghost use Rattle.std.specs.Prelude.{◌≡◌, Bool};
 
 /// The entries that a gate is about.
 pub trait Tracking<E> {
@@ -32,6 +32,7 @@ impl<E, A, P: Rule<E, A> + Tracking<E>> Rule<E, A> for Gated<P> {
 }
 
 /// Gives the sight the names of the book's own token. It has observed what it had observed.
+#[inline(always)]
 pub fn align<E, A, P: Rule<E, A>>(sight: &mut Seen<E, A, P>, begun: &Seen<E, A, P>)
     requires { begun.now.book ≡ sight.old.book }
     ensures { (sight.new.names ≡ begun.now.names) × (sight.new.log ≡ sight.old.log)

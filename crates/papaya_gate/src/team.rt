@@ -20,6 +20,7 @@ impl<E> Model for Team<E> {
 
 impl<E> Team<E> {
     /// Returns a team of no authors.
+    #[inline(always)]
     pub fn new() -> Team<E>
         ensures { result.authors ≡ [] }
     {
@@ -29,6 +30,7 @@ impl<E> Team<E> {
     }
 
     /// Adds an author at the end. The writer is nobody afterwards.
+    #[inline(always)]
     pub fn join(&mut self, writer: &mut Writer<E>)
         requires { (author : Author E) × (writer.old.author ≡ Some author) }
         ensures { (author : Author E) × (writer.old.author ≡ Some author)
