@@ -165,7 +165,8 @@ module _ {M : Type 1} {𝓤 : Ura M} (𝓛 : Logic 𝓤) where
 
       both_cut : (q : Share) → ⟦ both q ⟧ ⊢ ⟦ both (Share.left q) ⟧ ∗ ⟦ both (Share.right q) ⟧
       both_cut q = qed 𝓛 (‵ (both q) ∷ []) ∵ fsplit ! $
-          use1 𝓛 (‵ (held γ₀ τ₀ (Some final) (Share.left q)) ⊛ ‵ (held γ₀ τ₀ (Some final) (Share.right q))) (gate_cut γ₀ τ₀ (Some final) q) $ split ! $ move ! (2 ∷ []) $
+          use1 𝓛 (‵ (held γ₀ τ₀ (Some final) (Share.left q)) ⊛ ‵ (held γ₀ τ₀ (Some final) (Share.right q))) (gate_cut γ₀ τ₀ (Some final) q) $
+          split ! $ move ! (2 ∷ []) $
           use1 𝓛 (‵ (hand (Some a) (Share.left q)) ⊛ ‵ (hand (Some a) (Share.right q))) (hand_cut (Some a) q) $ split ! $
           move ! (2 ∷ 0 ∷ []) $ fjoin ! $ move ! (2 ∷ 1 ∷ []) $ fjoin ! $ move ! (1 ∷ 0 ∷ []) $ done !
 

@@ -191,7 +191,8 @@ module _ {M : Type 1} {𝓤 : Ura M} (𝓛 : Logic 𝓤) {E : Type 0} (cv : Code
       move ! (2 ∷ []) $ fsplit ! $ move ! (2 ∷ 0 ∷ []) $
       use2 𝓛 (given (picked ≡ a.own) (‵ (at left a.name picked) ⊛ ‵ (at right a.name a.own))) (agree left right a.name picked a.own) $
       learn ! (λ one. split ! $ move ! (3 ∷ 2 ∷ []) $
-      use2 𝓛 (given (ArePicked (suc k) marks log (owns_of authors)) (‵ (page roll (suc k) marks log) ⊛ ‵ (team authors))) (lines_tell authors (suc k) marks log) $
+      use2 𝓛 (given (ArePicked (suc k) marks log (owns_of authors)) (‵ (page roll (suc k) marks log) ⊛ ‵ (team authors)))
+      (lines_tell authors (suc k) marks log) $
       learn ! (λ more. split ! $ check ! (one, more) $ move ! (2 ∷ 0 ∷ []) $ fjoin ! $ move ! (2 ∷ 1 ∷ []) $ fjoin ! $ move ! (1 ∷ 0 ∷ []) $ done !))
 
   -- Whoever has the lists of all authors knows that the log is their merge.

@@ -1,21 +1,26 @@
-//! A gate round any rule of a book: who adds the entries that are tracked, and when all of them are
-//! known. It uses the kit's `logbook`, and no crate of this repository.
+//! A gate round the rule of a book. It says who may add certain entries, the tracked ones, and it lets
+//! their authors know all of them. It uses the kit's `logbook`, and no crate of this repository.
 //!
-//! A book of `logbook` is never closed: what a thread has observed of the log is a prefix of it,
-//! and others may have added more. [`rule::Gated`] is any rule with a gate beside it.
-//! [`rule::Tracking`] says which entries the gate is about. While the [`gate::Gate`] is open,
-//! anyone may add those; each step that does pays with a `&` to the gate ([`steps::paid`]). An
-//! owner of the gate can begin an era with [`gate::Gate::freeze`]. In an era, only its authors add
-//! tracked entries, and each has a [`gate::Writer`] that knows them all. So an only author knows
-//! the tracked entries of the whole log ([`gate::Gate::whole`]), and several know that it is a
-//! merge of their lists ([`gate::Gate::gather`]).
+//! A book of `logbook` is never closed: a thread has observed a prefix of the log, and other threads
+//! may have added more entries. [`rule::Gated`] is any rule with a gate beside it, and
+//! [`rule::Tracking`] says which entries are tracked.
 //!
-//! Steps that add no tracked entry need no gate ([`steps::unpaid`], [`steps::load`]). Nothing here
-//! has bytes at run time, but for the words of the book.
+//! While the [`gate::Gate`] is open, anyone may add tracked entries. A step that adds them pays with
+//! a `&` to the gate: [`paid::compare_exchange`]. [`gate::Gate::freeze`] begins an era with one
+//! author, a [`gate::Writer`]. During an era only its authors add tracked entries, and each author's
+//! list has exactly those that it added. The list of an only author has all tracked entries of the
+//! log ([`gate::Gate::whole`]). With several authors, the tracked entries are a merge of their lists
+//! ([`gate::Gate::gather`]). [`gate::Gate::unite`] puts one author in the place of several.
+//!
+//! A step that adds no tracked entry needs no gate: [`unpaid::compare_exchange`], [`unpaid::load`].
+//!
+//! No type of this crate has bytes. A compare-exchange or a load is one atomic instruction, as in
+//! `logbook`, and the other functions run no code.
 #![tactic(auto)]
 
 pub mod ended;
 pub mod gate;
+pub mod paid;
 pub mod rule;
-pub mod steps;
 pub mod team;
+pub mod unpaid;

@@ -41,7 +41,8 @@ align_spec 𝓤 𝓛 𝓜 𝓡 wired E A P _ _ _ g d _ =
     let E' : RattleType = param 0 E in let A' : RattleType = param 1 A in let P' : RattleType = param 2 P in let En = ended E A P g d in
     let inst = bounded (a_type ∷ a_type ∷ a_type ∷ []) (E, (A, (P, tt))) (dcons d dnil) in let fn = inst_fn inst code.function in
     let c = clauses E A P g d 𝓛 𝓜.mem 𝓡.returns in let cv = E'.coded in let any = rules g.holds g.shows g.keeps in
-    let S : RattleType = Seen.the_row E' A' P' g in let All : RattleType = Tuple (E' ∷ A' ∷ P' ∷ []) in let other = RefOf (1 ∷ []) tt (plain (λ _. S)) (λ _. tt) in
+    let S : RattleType = Seen.the_row E' A' P' g in let All : RattleType = Tuple (E' ∷ A' ∷ P' ∷ []) in
+    let other = RefOf (1 ∷ []) tt (plain (λ _. S)) (λ _. tt) in
     let hs : Stays En.signature.params En.kept = (stay_ref (0 ∷ []) tt (plain (λ _. S)), (stay_dropped other yes, tt)) in
     proved 𝓛 En hs c 𝓜 𝓡 (Goes-ref 𝓛 5 0 tt (plain (λ _. S)), (Goes-dropped 𝓛 5 other yes (λ κs x f. refl), tt)) (#self inst) fn
     (code.unfolded 𝓤 H 𝓜 𝓡 wired (E, (A, (P, tt))) d)
@@ -49,14 +50,16 @@ align_spec 𝓤 𝓛 𝓜 𝓡 wired E A P _ _ _ g d _ =
     let mine = a.0.now in let begun = a.1.0.now in
     let b : ℕ = a.0.ref_ptr.0 in let o : ℕ = a.0.ref_ptr.1 in let p : Val = vptr a.1.0.ref_ptr.0 a.1.0.ref_ptr.1 in
     let y : (walk_of 𝓛 En hs c).Ghost = ((κs, qs, bounds, a, (vptr b o ∷ [], (p ∷ [], tt))), gh) in let Post : Val → SProp 𝓤 = (walk_of 𝓛 En hs c).post y in
-    let toks : Fml = fsep (flft κs.0 qs.0) (fsep (flft κs.1.0 qs.1.0) (fsep (flft κs.1.1.0 qs.1.1.0) (fsep (flft κs.1.1.1.0 qs.1.1.1.0) (fsep (flft κs.1.1.1.1.0 qs.1.1.1.1.0) ftrue)))) in
+    let toks : Fml = fsep (flft κs.0 qs.0) (fsep (flft κs.1.0 qs.1.0)
+    (fsep (flft κs.1.1.0 qs.1.1.0) (fsep (flft κs.1.1.1.0 qs.1.1.1.0) (fsep (flft κs.1.1.1.1.0 qs.1.1.1.1.0) ftrue)))) in
     qed 𝓛 ((‵ toks ⊛ ‵ (owns (types_at En.signature.params κs) a y.0.4)) ∷ raw (fact 𝓤 _) ∷ raw (fact 𝓤 _) ∷ raw (fact 𝓤 _) ∷ given _ (‵ ftrue) ∷ []) ∵
     keep ! (4 ∷ 0 ∷ []) $ learn ! (λ asked. drop ! $ split ! $
     fsplit ! $ move ! (1 ∷ []) $ fsplit ! $ move ! (3 ∷ []) $ fsplit ! $ fsplit3 ! $ move ! (3 ∷ []) $ fsplit ! $ fsplit ! $
     keep ! (1 ∷ 4 ∷ 5 ∷ 6 ∷ 7 ∷ 8 ∷ []) $
     -- [the book's token, shared; the sight's reference; the tokens]
     enter ! 𝓣.C 𝓣.Λ fn (vptr b o ∷ p ∷ []) Post $ alloc_all ! (λ l. pass_all ! refl ((tt, tt), ((tt, tt), tt)) $
-    use1 𝓛 (‵ (hidden_shr (Token All) κs.1.0 (record {}, tt) a.1.0.ref_ptr.0 a.1.0.ref_ptr.1) ⊛ ‵ (fhide (seen_owns cv.code any begun.book begun.names begun.log)))
+    use1 𝓛 (‵ (hidden_shr (Token All) κs.1.0 (record {}, tt) a.1.0.ref_ptr.0 a.1.0.ref_ptr.1)
+    ⊛ ‵ (fhide (seen_owns cv.code any begun.book begun.names begun.log)))
     (lent_out 𝓛 (Seen.struct E' A' P' g) (Seen.the_codes E.Denot A.Denot P.Denot E'.coded A'.coded P'.coded (marker.the_row All).coded)
     (Seen.the_heap E' A' P' g) (Seen.the_lent E' A' P' g) κs.1.0 begun a.1.0.ref_ptr.0 a.1.0.ref_ptr.1) $
     split ! $ drop ! $ unhide ! $ rewrite ! 0 (λ (z : Book). ‵ (seen_owns cv.code any z begun.names begun.log)) asked refl $

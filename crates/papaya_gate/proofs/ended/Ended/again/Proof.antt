@@ -37,7 +37,8 @@ pub again_spec : {M : Type 1} → statement M
 again_spec 𝓤 𝓛 𝓜 𝓡 wired E _ =
     let H = 𝓛.H in let 𝓣 = tables 𝓤 H 𝓜 𝓡 𝓡.env in
     let E' : RattleType = param 0 E in let En = ended E in let inst = layouts (a_type ∷ []) (E, tt) in let fn = inst_fn inst code.function in
-    let c = clauses E 𝓛 𝓜.mem 𝓡.returns in let cv = E'.coded in let R : RattleType = Ended.the_row E' in let self = RefOf (0 ∷ []) tt (plain (λ _. R)) (λ _. tt) in
+    let c = clauses E 𝓛 𝓜.mem 𝓡.returns in let cv = E'.coded in let R : RattleType = Ended.the_row E' in
+    let self = RefOf (0 ∷ []) tt (plain (λ _. R)) (λ _. tt) in
     let hs : Stays En.signature.params En.kept = (stay_dropped self yes, tt) in
     proved 𝓛 En hs c 𝓜 𝓡 (Goes-dropped 𝓛 2 self yes (λ κs x f. refl), tt) (#self inst) fn (code.unfolded 𝓤 H 𝓜 𝓡 wired (E, tt))
     (λ κs. (shr_vals, tt)) (λ κs. (shr_Tells (named 0) κs.0 R, tt)) (λ κs qs bounds a gh are.

@@ -55,12 +55,14 @@ look_spec 𝓤 𝓛 𝓜 𝓡 wired E A P _ _ _ g d h d' _ _ =
     let S : RattleType = Seen.the_row E' A' Q' gr in
     let R : RattleType = Ended.the_row E' in let self = RefOf (0 ∷ []) tt (plain (λ _. R)) (λ _. tt) in
     let hs : Stays En.signature.params En.kept = (stay_dropped self yes, (stay_ref (1 ∷ []) tt (plain (λ _. S)), tt)) in
-    proved 𝓛 En hs c 𝓜 𝓡 (Goes-dropped 𝓛 5 self yes (λ κs x f. refl), (Goes-ref 𝓛 5 1 tt (plain (λ _. S)), tt)) (#self inst) fn (code.unfolded 𝓤 H 𝓜 𝓡 wired (E, (A, (P, tt))) d d')
+    proved 𝓛 En hs c 𝓜 𝓡 (Goes-dropped 𝓛 5 self yes (λ κs x f. refl), (Goes-ref 𝓛 5 1 tt (plain (λ _. S)), tt)) (#self inst) fn
+    (code.unfolded 𝓤 H 𝓜 𝓡 wired (E, (A, (P, tt))) d d')
     (λ κs. (shr_vals, (mut_vals, tt))) (λ κs. (shr_Tells (named 0) κs.0 R, (mut_Tells (named 1) κs.1.0 S, tt))) (λ κs qs bounds a gh are.
     let e = a.0.now in let seen = a.1.0.now in
     let p : Val = vptr a.0.ref_ptr.0 a.0.ref_ptr.1 in let b : ℕ = a.1.0.ref_ptr.0 in let o : ℕ = a.1.0.ref_ptr.1 in
     let y : (walk_of 𝓛 En hs c).Ghost = ((κs, qs, bounds, a, (p ∷ [], (vptr b o ∷ [], tt))), gh) in let Post : Val → SProp 𝓤 = (walk_of 𝓛 En hs c).post y in
-    let toks : Fml = fsep (flft κs.0 qs.0) (fsep (flft κs.1.0 qs.1.0) (fsep (flft κs.1.1.0 qs.1.1.0) (fsep (flft κs.1.1.1.0 qs.1.1.1.0) (fsep (flft κs.1.1.1.1.0 qs.1.1.1.1.0) ftrue)))) in
+    let toks : Fml = fsep (flft κs.0 qs.0) (fsep (flft κs.1.0 qs.1.0)
+    (fsep (flft κs.1.1.0 qs.1.1.0) (fsep (flft κs.1.1.1.0 qs.1.1.1.0) (fsep (flft κs.1.1.1.1.0 qs.1.1.1.1.0) ftrue)))) in
     let names : List ℕ = e.names in let γ : ℕ = eras_name names in let τ : ℕ = leave_name names in
     let one : Author E.Denot = e.author in let era : Era = record { eras = e.eras; roll = one.name ∷ [] } in
     qed 𝓛 ((‵ toks ⊛ ‵ (owns (types_at En.signature.params κs) a y.0.4)) ∷ raw (fact 𝓤 _) ∷ raw (fact 𝓤 _) ∷ raw (fact 𝓤 _) ∷ given _ (‵ ftrue) ∷ []) ∵
@@ -75,8 +77,10 @@ look_spec 𝓤 𝓛 𝓜 𝓡 wired E A P _ _ _ g d h d' _ _ =
     use0 𝓛 (‵ (flft [] full_share)) (𝓛.lfts.lft-nil full_share) $ move ! (1 ∷ 0 ∷ []) $
     shr_bor-open ! tt (gates.ended_halves 𝓛 cv names e.eras one) (λ q.
     move ! (2 ∷ 3 ∷ 4 ∷ []) $ opens ! tt S b o (λ vs. move ! (1 ∷ []) $ fsplit ! $ move ! (1 ∷ []) $
-    rewrite ! 0 (λ (z : List ℕ). ‵ (seen_owns cv.code (reaching.rule 𝓛 cv g.holds g.shows g.keeps h.tracks seen.book names) seen.book z seen.log)) asked refl $ move ! (7 ∷ []) $ fsplit ! $ group ! 2 $ move ! (1 ∷ 0 ∷ []) $
-    use2 𝓛 (later (some (λ (xs : List E.Denot). given (IsPrefix seen.log xs) (‵ (seen_owns cv.code (reaching.rule 𝓛 cv g.holds g.shows g.keeps h.tracks seen.book names) seen.book names xs) ⊛
+    rewrite ! 0 (λ (z : List ℕ). ‵ (seen_owns cv.code (reaching.rule 𝓛 cv g.holds g.shows g.keeps h.tracks seen.book names) seen.book z seen.log))
+    asked refl $ move ! (7 ∷ []) $ fsplit ! $ group ! 2 $ move ! (1 ∷ 0 ∷ []) $
+    use2 𝓛 (later (some (λ (xs : List E.Denot). given (IsPrefix seen.log xs)
+    (‵ (seen_owns cv.code (reaching.rule 𝓛 cv g.holds g.shows g.keeps h.tracks seen.book names) seen.book names xs) ⊛
     given (filter h.tracks (g.shows xs) ≡ one.own) (‵ (gate_holds γ τ (Some era) q) ⊛ ‵ (exactly cv.code (Share.right q) one.name one.own))))))
     (reaching.knowing 𝓛 cv g.holds g.shows g.keeps h.tracks seen.book names seen.log q (Share.right q) era one refl) $ await ! tt $
     pick ! (λ xs. learn ! (λ more. split ! $ move ! (1 ∷ []) $ learn ! (λ all. split ! $ fjoin ! $

@@ -13,5 +13,6 @@ use Rattle.papaya_gate.proofs.gate.Gate.TheLaw.Statement.{statement}
 pub shares : statement
 shares =
     of_Lends C.struct (C.the_codes (marker.the_row unit).coded) C.the_heap C.the_lent
-    (λ d p. one_shr_laws (gate_holds (eras_name d.names) (leave_name d.names) d.era)) (copy_shared (marker.the_field unit) (field_copy (marker.the_type unit) tt), tt)
+    (λ d p. one_shr_laws (gate_holds (eras_name d.names) (leave_name d.names) d.era))
+    (copy_shared (marker.the_field unit) (field_copy (marker.the_type unit) tt), tt)
     (λ M 𝓤 𝓛 d p. gate_lends 𝓛 (eras_name d.names) (leave_name d.names) d.era (C.the_row).lives)

@@ -76,7 +76,8 @@ begin_spec 𝓤 𝓛 𝓜 𝓡 wired E A P _ _ _ g d h d' _ _ =
     let s : O.Denot = record { marker = record {}; names = names; shown = start.shown } in
     let r : G.Denot = record { marker = record {}; names = names; era = None } in
     feq_i ! (List Val) (v ∷ []) (v ∷ []) refl $ fjoin ! $
-    fpack ! (Valss Rs) (λ vss. fsep (feq (List Val) (v ∷ []) (vstruct (of_list (vss.0 ++ (vss.1.0 ++ []))) ∷ [])) (owns Rs (s, (r, tt)) vss)) (token ∷ [], (token ∷ [], tt)) $
+    fpack ! (Valss Rs) (λ vss. fsep (feq (List Val) (v ∷ []) (vstruct (of_list (vss.0 ++ (vss.1.0 ++ []))) ∷ [])) (owns Rs (s, (r, tt)) vss))
+    (token ∷ [], (token ∷ [], tt)) $
     nothing ! $ nothing ! $ fjoin ! $
     returns ! (look_at ! 0 refl) $ free_all ! refl $ keep ! (2 ∷ 0 ∷ 1 ∷ []) $
     by ! (ends 𝓛 En hs c y v (s, r) (tt, tt) (tt, tt)

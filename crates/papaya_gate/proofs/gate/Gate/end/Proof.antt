@@ -46,7 +46,8 @@ end_spec 𝓤 𝓛 𝓜 𝓡 wired E _ =
     (λ κs. ((λ x vs is. token_told unit vs is.0), (mut_Tells (named 0) κs.0 R, tt))) (λ κs qs bounds a gh are.
     let r = a.0 in let w = a.1.0.now in let names : List ℕ = r.names in
     let b : ℕ = a.1.0.ref_ptr.0 in let o : ℕ = a.1.0.ref_ptr.1 in
-    let y : (walk_of 𝓛 En hs c).Ghost = ((κs, qs, bounds, a, (token ∷ [], (vptr b o ∷ [], tt))), gh) in let Post : Val → SProp 𝓤 = (walk_of 𝓛 En hs c).post y in
+    let y : (walk_of 𝓛 En hs c).Ghost = ((κs, qs, bounds, a, (token ∷ [], (vptr b o ∷ [], tt))), gh) in
+    let Post : Val → SProp 𝓤 = (walk_of 𝓛 En hs c).post y in
     let toks : Fml = fsep (flft κs.0 qs.0) (fsep (flft κs.1.0 qs.1.0) ftrue) in
     qed 𝓛 ((‵ toks ⊛ ‵ (owns (types_at En.signature.params κs) a y.0.4)) ∷ raw (fact 𝓤 _) ∷ given _ (‵ ftrue) ∷ []) ∵
     keep ! (2 ∷ 0 ∷ []) $ learn ! (λ asked. drop ! $ split ! $ let s = only_of r.era w.author asked in

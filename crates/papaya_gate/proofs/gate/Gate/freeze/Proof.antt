@@ -47,12 +47,15 @@ freeze_spec 𝓤 𝓛 𝓜 𝓡 wired E A P _ _ _ g d h d' _ _ =
     let Q' : RattleType = Gated.the_row P' in let gr = GatedRule.ghosts E' A' P' g GatedRule.no_dict h GatedRule.no_dict in
     let S : RattleType = Seen.the_row E' A' Q' gr in let G : RattleType = Gate.the_row in
     let hs : Stays En.signature.params En.kept = (stay_ref (0 ∷ []) tt (plain (λ _. G)), (stay_ref (1 ∷ []) tt (plain (λ _. S)), tt)) in
-    proved 𝓛 En hs c 𝓜 𝓡 (Goes-ref 𝓛 5 0 tt (plain (λ _. G)), (Goes-ref 𝓛 5 1 tt (plain (λ _. S)), tt)) (#self inst) fn (code.unfolded 𝓤 H 𝓜 𝓡 wired (E, (A, (P, tt))) d d')
+    proved 𝓛 En hs c 𝓜 𝓡 (Goes-ref 𝓛 5 0 tt (plain (λ _. G)), (Goes-ref 𝓛 5 1 tt (plain (λ _. S)), tt)) (#self inst) fn
+    (code.unfolded 𝓤 H 𝓜 𝓡 wired (E, (A, (P, tt))) d d')
     (λ κs. (mut_vals, (mut_vals, tt))) (λ κs. (mut_Tells (named 0) κs.0 G, (mut_Tells (named 1) κs.1.0 S, tt))) (λ κs qs bounds a gh are.
     let r = a.0.now in let seen = a.1.0.now in
     let b₀ : ℕ = a.0.ref_ptr.0 in let o₀ : ℕ = a.0.ref_ptr.1 in let b : ℕ = a.1.0.ref_ptr.0 in let o : ℕ = a.1.0.ref_ptr.1 in
-    let y : (walk_of 𝓛 En hs c).Ghost = ((κs, qs, bounds, a, (vptr b₀ o₀ ∷ [], (vptr b o ∷ [], tt))), gh) in let Post : Val → SProp 𝓤 = (walk_of 𝓛 En hs c).post y in
-    let toks : Fml = fsep (flft κs.0 qs.0) (fsep (flft κs.1.0 qs.1.0) (fsep (flft κs.1.1.0 qs.1.1.0) (fsep (flft κs.1.1.1.0 qs.1.1.1.0) (fsep (flft κs.1.1.1.1.0 qs.1.1.1.1.0) ftrue)))) in
+    let y : (walk_of 𝓛 En hs c).Ghost = ((κs, qs, bounds, a, (vptr b₀ o₀ ∷ [], (vptr b o ∷ [], tt))), gh) in
+    let Post : Val → SProp 𝓤 = (walk_of 𝓛 En hs c).post y in
+    let toks : Fml = fsep (flft κs.0 qs.0) (fsep (flft κs.1.0 qs.1.0)
+    (fsep (flft κs.1.1.0 qs.1.1.0) (fsep (flft κs.1.1.1.0 qs.1.1.1.0) (fsep (flft κs.1.1.1.1.0 qs.1.1.1.1.0) ftrue)))) in
     let names : List ℕ = r.names in let γ : ℕ = eras_name names in let τ : ℕ = leave_name names in
     qed 𝓛 ((‵ toks ⊛ ‵ (owns (types_at En.signature.params κs) a y.0.4)) ∷ raw (fact 𝓤 _) ∷ raw (fact 𝓤 _) ∷ raw (fact 𝓤 _) ∷ given _ (‵ ftrue) ∷ []) ∵
     keep ! (4 ∷ 0 ∷ []) $ learn ! (λ asked. drop ! $ split ! $
@@ -62,9 +65,13 @@ freeze_spec 𝓤 𝓛 𝓜 𝓡 wired E A P _ _ _ g d h d' _ _ =
     move ! (2 ∷ 3 ∷ 6 ∷ []) $ opens ! tt G b₀ o₀ (λ ts. move ! (1 ∷ []) $ fsplit ! $ move ! (1 ∷ []) $
     rewrite ! 0 (λ (s : Option Era). ‵ (gate_owns names s)) asked.0 refl $
     move ! (6 ∷ 7 ∷ 8 ∷ []) $ opens ! tt S b o (λ vs. move ! (1 ∷ []) $ fsplit ! $ move ! (1 ∷ []) $
-    rewrite ! 0 (λ (z : List ℕ). ‵ (seen_owns cv.code (reaching.rule 𝓛 cv g.holds g.shows g.keeps h.tracks seen.book names) seen.book z seen.log)) asked.1 refl $ move ! (0 ∷ 6 ∷ []) $
-    use2 𝓛 (later (some (λ (xs : List E.Denot). given (IsPrefix seen.log xs) (‵ (seen_owns cv.code (reaching.rule 𝓛 cv g.holds g.shows g.keeps h.tracks seen.book names) seen.book names xs) ⊛ ‵ (fex (List ℕ × ℕ) (gates.new_era 𝓛 cv γ τ (filter h.tracks (g.shows xs))))))))
-    (reaching.freezing 𝓛 cv g.holds g.shows g.keeps h.tracks seen.book names seen.log) $ await ! tt $ pick ! (λ xs. learn ! (λ more. split ! $ move ! (1 ∷ []) $ fpick ! (λ n. fsplit ! $
+    rewrite ! 0 (λ (z : List ℕ). ‵ (seen_owns cv.code (reaching.rule 𝓛 cv g.holds g.shows g.keeps h.tracks seen.book names) seen.book z seen.log))
+    asked.1 refl $ move ! (0 ∷ 6 ∷ []) $
+    use2 𝓛 (later (some (λ (xs : List E.Denot). given (IsPrefix seen.log xs)
+    (‵ (seen_owns cv.code (reaching.rule 𝓛 cv g.holds g.shows g.keeps h.tracks seen.book names) seen.book names xs)
+    ⊛ ‵ (fex (List ℕ × ℕ) (gates.new_era 𝓛 cv γ τ (filter h.tracks (g.shows xs))))))))
+    (reaching.freezing 𝓛 cv g.holds g.shows g.keeps h.tracks seen.book names seen.log) $ await ! tt $
+    pick ! (λ xs. learn ! (λ more. split ! $ move ! (1 ∷ []) $ fpick ! (λ n. fsplit ! $
     let seen' : S.Denot = record { marker = record {}; book = seen.book; names = names; log = xs } in
     let r' : G.Denot = record { marker = record {}; names = names; era = Some (record { eras = n.0; roll = n.1 ∷ [] }) } in
     move ! (3 ∷ 2 ∷ []) $ fjoin ! $ move ! (3 ∷ 0 ∷ 4 ∷ 5 ∷ 6 ∷ []) $ closes ! tt S seen' vs b o $
@@ -75,5 +82,6 @@ freeze_spec 𝓤 𝓛 𝓜 𝓡 wired E A P _ _ _ g d h d' _ _ =
     nothing ! $ feq_i ! (List Val) (vptr b o ∷ []) (vptr b o ∷ []) refl $ move ! (0 ∷ 6 ∷ 7 ∷ []) $ fjoin3 ! $ fjoin ! $
     feq_i ! (List Val) (vptr b₀ o₀ ∷ []) (vptr b₀ o₀ ∷ []) refl $ move ! (0 ∷ 4 ∷ 5 ∷ []) $ fjoin3 ! $ fjoin ! $
     returns ! (look_at ! 0 refl) $ free_all ! refl $ keep ! (1 ∷ 0 ∷ 2 ∷ []) $
-    by ! (ends 𝓛 En hs c y token (record { marker = record {}; author = Some (record { name = n.1; own = filter h.tracks (g.shows xs) }) }) (r', (seen', tt)) (tt, (tt, tt))
+    by ! (ends 𝓛 En hs c y token (record { marker = record {}; author = Some (record { name = n.1; own = filter h.tracks (g.shows xs) }) })
+    (r', (seen', tt)) (tt, (tt, tt))
     (fact_i 𝓤 _ (emp 𝓤) (refl, refl, refl, refl, sym asked.1, more)))))))))))

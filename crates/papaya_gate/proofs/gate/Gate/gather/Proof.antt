@@ -55,7 +55,10 @@ gather_spec 𝓤 𝓛 𝓜 𝓡 wired E A P _ _ _ g d h d' _ _ =
     let Q' : RattleType = Gated.the_row P' in let gr = GatedRule.ghosts E' A' P' g GatedRule.no_dict h GatedRule.no_dict in
     let S : RattleType = Seen.the_row E' A' Q' gr in let G : RattleType = Gate.the_row in
     let R : RattleType = Team.the_row E' in let self = RefOf (0 ∷ []) tt (plain (λ _. G)) (λ _. tt) in
-    let hs : Stays En.signature.params En.kept = (stay_dropped self yes, (stay_ref (1 ∷ []) tt (plain (λ _. R)), (stay_ref (2 ∷ []) tt (plain (λ _. S)), tt))) in
+    let hs : Stays En.signature.params En.kept = (
+      stay_dropped self yes,
+      (stay_ref (1 ∷ []) tt (plain (λ _. R)), (stay_ref (2 ∷ []) tt (plain (λ _. S)), tt)),
+    ) in
     proved 𝓛 En hs c 𝓜 𝓡
     (Goes-dropped 𝓛 6 self yes (λ κs x f. refl), (Goes-ref 𝓛 6 1 tt (plain (λ _. R)), (Goes-ref 𝓛 6 2 tt (plain (λ _. S)), tt))) (#self inst) fn
     (code.unfolded 𝓤 H 𝓜 𝓡 wired (E, (A, (P, tt))) d d') (λ κs. (shr_vals, (mut_vals, (mut_vals, tt))))
@@ -63,8 +66,11 @@ gather_spec 𝓤 𝓛 𝓜 𝓡 wired E A P _ _ _ g d h d' _ _ =
     let r = a.0.now in let team = a.1.0.now in let seen = a.1.1.0.now in
     let p : Val = vptr a.0.ref_ptr.0 a.0.ref_ptr.1 in let b₀ : ℕ = a.1.0.ref_ptr.0 in let o₀ : ℕ = a.1.0.ref_ptr.1 in
     let b : ℕ = a.1.1.0.ref_ptr.0 in let o : ℕ = a.1.1.0.ref_ptr.1 in
-    let y : (walk_of 𝓛 En hs c).Ghost = ((κs, qs, bounds, a, (p ∷ [], (vptr b₀ o₀ ∷ [], (vptr b o ∷ [], tt)))), gh) in let Post : Val → SProp 𝓤 = (walk_of 𝓛 En hs c).post y in
-    let toks : Fml = fsep (flft κs.0 qs.0) (fsep (flft κs.1.0 qs.1.0) (fsep (flft κs.1.1.0 qs.1.1.0) (fsep (flft κs.1.1.1.0 qs.1.1.1.0) (fsep (flft κs.1.1.1.1.0 qs.1.1.1.1.0) (fsep (flft κs.1.1.1.1.1.0 qs.1.1.1.1.1.0) ftrue))))) in
+    let y : (walk_of 𝓛 En hs c).Ghost = ((κs, qs, bounds, a, (p ∷ [], (vptr b₀ o₀ ∷ [], (vptr b o ∷ [], tt)))), gh) in
+    let Post : Val → SProp 𝓤 = (walk_of 𝓛 En hs c).post y in
+    let toks : Fml = fsep (flft κs.0 qs.0) (fsep (flft κs.1.0 qs.1.0)
+    (fsep (flft κs.1.1.0 qs.1.1.0) (fsep (flft κs.1.1.1.0 qs.1.1.1.0)
+    (fsep (flft κs.1.1.1.1.0 qs.1.1.1.1.0) (fsep (flft κs.1.1.1.1.1.0 qs.1.1.1.1.1.0) ftrue))))) in
     let names : List ℕ = r.names in let γ : ℕ = eras_name names in let τ : ℕ = leave_name names in
     qed 𝓛 ((‵ toks ⊛ ‵ (owns (types_at En.signature.params κs) a y.0.4)) ∷ raw (fact 𝓤 _) ∷ raw (fact 𝓤 _) ∷ raw (fact 𝓤 _) ∷ given _ (‵ ftrue) ∷ []) ∵
     keep ! (4 ∷ 0 ∷ []) $ learn ! (λ asked. drop ! $ split ! $ let s = all_of r.era team.authors asked.0 in let era : Era = s.0 in
@@ -73,12 +79,16 @@ gather_spec 𝓤 𝓛 𝓜 𝓡 wired E A P _ _ _ g d h d' _ _ =
     -- [the sight's reference; the team's reference; the gate, shared; the tokens]
     enter ! 𝓣.C 𝓣.Λ fn (p ∷ vptr b₀ o₀ ∷ vptr b o ∷ []) Post $ alloc_all ! (λ l. pass_all ! refl ((tt, tt), ((tt, tt), ((tt, tt), tt))) $ move ! (4 ∷ []) $
     use1 𝓛 (‵ (hidden_shr (Token unit) κs.0 (record {}, tt) a.0.ref_ptr.0 a.0.ref_ptr.1) ⊛ ‵ (fhide (gate_shares names r.era κs.0)))
-    (lent_out 𝓛 Gate.struct (Gate.the_codes (marker.the_row unit).coded) Gate.the_heap Gate.the_lent κs.0 r a.0.ref_ptr.0 a.0.ref_ptr.1) $ split ! $ drop ! $ unhide ! $
-    rewrite ! 0 (λ (x : Option Era). ‵ (gate_shares names x κs.0)) s.1 refl $ move ! (0 ∷ 8 ∷ []) $ shr_bor-open ! tt (gates.gate_halves 𝓛 γ τ (Some era)) (λ q.
+    (lent_out 𝓛 Gate.struct (Gate.the_codes (marker.the_row unit).coded) Gate.the_heap Gate.the_lent κs.0 r a.0.ref_ptr.0 a.0.ref_ptr.1) $
+    split ! $ drop ! $ unhide ! $
+    rewrite ! 0 (λ (x : Option Era). ‵ (gate_shares names x κs.0)) s.1 refl $ move ! (0 ∷ 8 ∷ []) $
+    shr_bor-open ! tt (gates.gate_halves 𝓛 γ τ (Some era)) (λ q.
     move ! (4 ∷ 5 ∷ 8 ∷ []) $ opens ! tt R b₀ o₀ (λ ts. move ! (1 ∷ []) $ fsplit ! $ move ! (1 ∷ []) $
     move ! (8 ∷ 9 ∷ 10 ∷ []) $ opens ! tt S b o (λ vs. move ! (1 ∷ []) $ fsplit ! $ move ! (1 ∷ []) $
-    rewrite ! 0 (λ (z : List ℕ). ‵ (seen_owns cv.code (reaching.rule 𝓛 cv g.holds g.shows g.keeps h.tracks seen.book names) seen.book z seen.log)) asked.1 refl $ move ! (13 ∷ 6 ∷ []) $ group ! 2 $ move ! (1 ∷ 0 ∷ []) $
-    use2 𝓛 (later (some (λ (xs : List E.Denot). given (IsPrefix seen.log xs) (‵ (seen_owns cv.code (reaching.rule 𝓛 cv g.holds g.shows g.keeps h.tracks seen.book names) seen.book names xs) ⊛
+    rewrite ! 0 (λ (z : List ℕ). ‵ (seen_owns cv.code (reaching.rule 𝓛 cv g.holds g.shows g.keeps h.tracks seen.book names) seen.book z seen.log))
+    asked.1 refl $ move ! (13 ∷ 6 ∷ []) $ group ! 2 $ move ! (1 ∷ 0 ∷ []) $
+    use2 𝓛 (later (some (λ (xs : List E.Denot). given (IsPrefix seen.log xs)
+    (‵ (seen_owns cv.code (reaching.rule 𝓛 cv g.holds g.shows g.keeps h.tracks seen.book names) seen.book names xs) ⊛
     given (IsMerge (owns_of team.authors) (filter h.tracks (g.shows xs))) (‵ (gate_holds γ τ (Some era) q) ⊛ ‵ (team_owns cv.code team.authors))))))
     (reaching.gathering 𝓛 cv g.holds g.shows g.keeps h.tracks seen.book names seen.log q era team.authors s.2) $ await ! tt $
     pick ! (λ xs. learn ! (λ more. split ! $ move ! (1 ∷ []) $ learn ! (λ all. split ! $

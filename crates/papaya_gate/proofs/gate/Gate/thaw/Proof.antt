@@ -53,12 +53,14 @@ thaw_spec 𝓤 𝓛 𝓜 𝓡 wired E A P _ _ _ g d h d' _ _ =
     let S : RattleType = Seen.the_row E' A' Q' gr in let G : RattleType = Gate.the_row in
     let All : RattleType = Tuple (E' ∷ A' ∷ Q' ∷ []) in let other = RefOf (1 ∷ []) tt (plain (λ _. S)) (λ _. tt) in
     let hs : Stays En.signature.params En.kept = (stay_ref (0 ∷ []) tt (plain (λ _. G)), (stay_dropped other yes, tt)) in
-    proved 𝓛 En hs c 𝓜 𝓡 (Goes-ref 𝓛 5 0 tt (plain (λ _. G)), (Goes-dropped 𝓛 5 other yes (λ κs x f. refl), tt)) (#self inst) fn (code.unfolded 𝓤 H 𝓜 𝓡 wired (E, (A, (P, tt))) d d')
+    proved 𝓛 En hs c 𝓜 𝓡 (Goes-ref 𝓛 5 0 tt (plain (λ _. G)), (Goes-dropped 𝓛 5 other yes (λ κs x f. refl), tt)) (#self inst) fn
+    (code.unfolded 𝓤 H 𝓜 𝓡 wired (E, (A, (P, tt))) d d')
     (λ κs. (mut_vals, (shr_vals, tt))) (λ κs. (mut_Tells (named 0) κs.0 G, (shr_Tells (named 1) κs.1.0 S, tt))) (λ κs qs bounds a gh are.
     let r = a.0.now in let seen = a.1.0.now in
     let b : ℕ = a.0.ref_ptr.0 in let o : ℕ = a.0.ref_ptr.1 in let p : Val = vptr a.1.0.ref_ptr.0 a.1.0.ref_ptr.1 in
     let y : (walk_of 𝓛 En hs c).Ghost = ((κs, qs, bounds, a, (vptr b o ∷ [], (p ∷ [], tt))), gh) in let Post : Val → SProp 𝓤 = (walk_of 𝓛 En hs c).post y in
-    let toks : Fml = fsep (flft κs.0 qs.0) (fsep (flft κs.1.0 qs.1.0) (fsep (flft κs.1.1.0 qs.1.1.0) (fsep (flft κs.1.1.1.0 qs.1.1.1.0) (fsep (flft κs.1.1.1.1.0 qs.1.1.1.1.0) ftrue)))) in
+    let toks : Fml = fsep (flft κs.0 qs.0) (fsep (flft κs.1.0 qs.1.0)
+    (fsep (flft κs.1.1.0 qs.1.1.0) (fsep (flft κs.1.1.1.0 qs.1.1.1.0) (fsep (flft κs.1.1.1.1.0 qs.1.1.1.1.0) ftrue)))) in
     let names : List ℕ = r.names in let γ : ℕ = eras_name names in let τ : ℕ = leave_name names in
     qed 𝓛 ((‵ toks ⊛ ‵ (owns (types_at En.signature.params κs) a y.0.4)) ∷ raw (fact 𝓤 _) ∷ raw (fact 𝓤 _) ∷ raw (fact 𝓤 _) ∷ given _ (‵ ftrue) ∷ []) ∵
     keep ! (4 ∷ 0 ∷ []) $ learn ! (λ asked. drop ! $ split ! $
@@ -66,13 +68,16 @@ thaw_spec 𝓤 𝓛 𝓜 𝓡 wired E A P _ _ _ g d h d' _ _ =
     keep ! (1 ∷ 4 ∷ 5 ∷ 6 ∷ 7 ∷ 8 ∷ []) $
     -- [the sight, shared; the gate's reference; the tokens]
     enter ! 𝓣.C 𝓣.Λ fn (vptr b o ∷ p ∷ []) Post $ alloc_all ! (λ l. pass_all ! refl ((tt, tt), ((tt, tt), tt)) $
-    use1 𝓛 (‵ (hidden_shr (Token All) κs.1.0 (record {}, tt) a.1.0.ref_ptr.0 a.1.0.ref_ptr.1) ⊛ ‵ (fhide (seen_owns cv.code (reaching.rule 𝓛 cv g.holds g.shows g.keeps h.tracks seen.book names) seen.book seen.names seen.log)))
+    use1 𝓛 (‵ (hidden_shr (Token All) κs.1.0 (record {}, tt) a.1.0.ref_ptr.0 a.1.0.ref_ptr.1)
+    ⊛ ‵ (fhide (seen_owns cv.code (reaching.rule 𝓛 cv g.holds g.shows g.keeps h.tracks seen.book names) seen.book seen.names seen.log)))
     (lent_out 𝓛 (Seen.struct E' A' Q' gr) (Seen.the_codes E.Denot A.Denot Q'.Denot E'.coded A'.coded Q'.coded (marker.the_row All).coded)
     (Seen.the_heap E' A' Q' gr) (Seen.the_lent E' A' Q' gr) κs.1.0 seen a.1.0.ref_ptr.0 a.1.0.ref_ptr.1) $
-    split ! $ drop ! $ unhide ! $ rewrite ! 0 (λ (z : List ℕ). ‵ (seen_owns cv.code (reaching.rule 𝓛 cv g.holds g.shows g.keeps h.tracks seen.book names) seen.book z seen.log)) asked.2 refl $
+    split ! $ drop ! $ unhide ! $ rewrite ! 0 (λ (z : List ℕ). ‵
+    (seen_owns cv.code (reaching.rule 𝓛 cv g.holds g.shows g.keeps h.tracks seen.book names) seen.book z seen.log)) asked.2 refl $
     move ! (1 ∷ 2 ∷ 5 ∷ []) $ opens ! tt G b o (λ ts. move ! (1 ∷ []) $ fsplit ! $ move ! (1 ∷ []) $
     rewrite ! 0 (λ (x : Option Era). ‵ (gate_owns names x)) asked.1 refl $ move ! (6 ∷ 0 ∷ []) $
-    use2 𝓛 (later (some (λ (xs : List E.Denot). given (IsPrefix seen.log xs) (‵ (seen_owns cv.code (reaching.rule 𝓛 cv g.holds g.shows g.keeps h.tracks seen.book names) seen.book names xs) ⊛ ‵ (leave τ full_share)))))
+    use2 𝓛 (later (some (λ (xs : List E.Denot). given (IsPrefix seen.log xs)
+    (‵ (seen_owns cv.code (reaching.rule 𝓛 cv g.holds g.shows g.keeps h.tracks seen.book names) seen.book names xs) ⊛ ‵ (leave τ full_share)))))
     (reaching.thawing 𝓛 cv g.holds g.shows g.keeps h.tracks seen.book names seen.log asked.0) $ await ! tt $ pick ! (λ xs. learn ! (λ more. split ! $ drop ! $
     let r' : G.Denot = record { marker = record {}; names = names; era = None } in
     move ! (1 ∷ 0 ∷ []) $ fjoin ! $ move ! (1 ∷ 0 ∷ 2 ∷ 3 ∷ 4 ∷ []) $ closes ! tt G r' ts b o $

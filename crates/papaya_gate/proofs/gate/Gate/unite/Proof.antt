@@ -58,8 +58,11 @@ unite_spec 𝓤 𝓛 𝓜 𝓡 wired E A P _ _ _ g d h d' _ _ =
     let r = a.0.now in let team = a.1.0.now in let seen = a.1.1.0.now in
     let b₀ : ℕ = a.0.ref_ptr.0 in let o₀ : ℕ = a.0.ref_ptr.1 in let b₁ : ℕ = a.1.0.ref_ptr.0 in let o₁ : ℕ = a.1.0.ref_ptr.1 in
     let b : ℕ = a.1.1.0.ref_ptr.0 in let o : ℕ = a.1.1.0.ref_ptr.1 in
-    let y : (walk_of 𝓛 En hs c).Ghost = ((κs, qs, bounds, a, (vptr b₀ o₀ ∷ [], (vptr b₁ o₁ ∷ [], (vptr b o ∷ [], tt)))), gh) in let Post : Val → SProp 𝓤 = (walk_of 𝓛 En hs c).post y in
-    let toks : Fml = fsep (flft κs.0 qs.0) (fsep (flft κs.1.0 qs.1.0) (fsep (flft κs.1.1.0 qs.1.1.0) (fsep (flft κs.1.1.1.0 qs.1.1.1.0) (fsep (flft κs.1.1.1.1.0 qs.1.1.1.1.0) (fsep (flft κs.1.1.1.1.1.0 qs.1.1.1.1.1.0) ftrue))))) in
+    let y : (walk_of 𝓛 En hs c).Ghost = ((κs, qs, bounds, a, (vptr b₀ o₀ ∷ [], (vptr b₁ o₁ ∷ [], (vptr b o ∷ [], tt)))), gh) in
+    let Post : Val → SProp 𝓤 = (walk_of 𝓛 En hs c).post y in
+    let toks : Fml = fsep (flft κs.0 qs.0) (fsep (flft κs.1.0 qs.1.0)
+    (fsep (flft κs.1.1.0 qs.1.1.0) (fsep (flft κs.1.1.1.0 qs.1.1.1.0)
+    (fsep (flft κs.1.1.1.1.0 qs.1.1.1.1.0) (fsep (flft κs.1.1.1.1.1.0 qs.1.1.1.1.1.0) ftrue))))) in
     let names : List ℕ = r.names in let γ : ℕ = eras_name names in let τ : ℕ = leave_name names in
     qed 𝓛 ((‵ toks ⊛ ‵ (owns (types_at En.signature.params κs) a y.0.4)) ∷ raw (fact 𝓤 _) ∷ raw (fact 𝓤 _) ∷ raw (fact 𝓤 _) ∷ given _ (‵ ftrue) ∷ []) ∵
     keep ! (4 ∷ 0 ∷ []) $ learn ! (λ asked. drop ! $ split ! $ let s = all_of r.era team.authors asked.0 in let era : Era = s.0 in
@@ -71,8 +74,10 @@ unite_spec 𝓤 𝓛 𝓜 𝓡 wired E A P _ _ _ g d h d' _ _ =
     rewrite ! 0 (λ (x : Option Era). ‵ (gate_owns names x)) s.1 refl $
     move ! (8 ∷ 9 ∷ 12 ∷ []) $ opens ! tt R b₁ o₁ (λ us. move ! (1 ∷ []) $ fsplit ! $ move ! (1 ∷ []) $
     move ! (12 ∷ 13 ∷ 14 ∷ []) $ opens ! tt S b o (λ vs. move ! (1 ∷ []) $ fsplit ! $ move ! (1 ∷ []) $
-    rewrite ! 0 (λ (z : List ℕ). ‵ (seen_owns cv.code (reaching.rule 𝓛 cv g.holds g.shows g.keeps h.tracks seen.book names) seen.book z seen.log)) asked.1 refl $ move ! (12 ∷ 6 ∷ []) $ group ! 2 $ move ! (1 ∷ 0 ∷ []) $
-    use2 𝓛 (later (some (λ (xs : List E.Denot). given (IsPrefix seen.log xs) (‵ (seen_owns cv.code (reaching.rule 𝓛 cv g.holds g.shows g.keeps h.tracks seen.book names) seen.book names xs) ⊛
+    rewrite ! 0 (λ (z : List ℕ). ‵ (seen_owns cv.code (reaching.rule 𝓛 cv g.holds g.shows g.keeps h.tracks seen.book names) seen.book z seen.log))
+    asked.1 refl $ move ! (12 ∷ 6 ∷ []) $ group ! 2 $ move ! (1 ∷ 0 ∷ []) $
+    use2 𝓛 (later (some (λ (xs : List E.Denot). given (IsPrefix seen.log xs)
+    (‵ (seen_owns cv.code (reaching.rule 𝓛 cv g.holds g.shows g.keeps h.tracks seen.book names) seen.book names xs) ⊛
     given (IsMerge (owns_of team.authors) (filter h.tracks (g.shows xs))) (‵ (fex (List ℕ × ℕ) (gates.new_era 𝓛 cv γ τ (filter h.tracks (g.shows xs)))))))))
     (reaching.uniting 𝓛 cv g.holds g.shows g.keeps h.tracks seen.book names seen.log era team.authors s.2) $ await ! tt $
     pick ! (λ xs. learn ! (λ more. split ! $ move ! (1 ∷ []) $ learn ! (λ merge. fpick ! (λ n. fsplit ! $

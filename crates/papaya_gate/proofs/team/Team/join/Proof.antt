@@ -42,7 +42,8 @@ join_spec 𝓤 𝓛 𝓜 𝓡 wired E _ =
     (λ κs. (mut_vals, (mut_vals, tt))) (λ κs. (mut_Tells (named 0) κs.0 T, (mut_Tells (named 1) κs.1.0 R, tt))) (λ κs qs bounds a gh are.
     let team = a.0.now in let mine = a.1.0.now in
     let b₀ : ℕ = a.0.ref_ptr.0 in let o₀ : ℕ = a.0.ref_ptr.1 in let b : ℕ = a.1.0.ref_ptr.0 in let o : ℕ = a.1.0.ref_ptr.1 in
-    let y : (walk_of 𝓛 En hs c).Ghost = ((κs, qs, bounds, a, (vptr b₀ o₀ ∷ [], (vptr b o ∷ [], tt))), gh) in let Post : Val → SProp 𝓤 = (walk_of 𝓛 En hs c).post y in
+    let y : (walk_of 𝓛 En hs c).Ghost = ((κs, qs, bounds, a, (vptr b₀ o₀ ∷ [], (vptr b o ∷ [], tt))), gh) in
+    let Post : Val → SProp 𝓤 = (walk_of 𝓛 En hs c).post y in
     let toks : Fml = fsep (flft κs.0 qs.0) (fsep (flft κs.1.0 qs.1.0) (fsep (flft κs.1.1.0 qs.1.1.0) ftrue)) in
     qed 𝓛 ((‵ toks ⊛ ‵ (owns (types_at En.signature.params κs) a y.0.4)) ∷ raw (fact 𝓤 _) ∷ given _ (‵ ftrue) ∷ []) ∵
     keep ! (2 ∷ 0 ∷ []) $ learn ! (λ asked. drop ! $ split ! $ let author : Author E.Denot = asked.0 in
@@ -54,11 +55,13 @@ join_spec 𝓤 𝓛 𝓜 𝓡 wired E _ =
     move ! (6 ∷ 7 ∷ 8 ∷ []) $ opens ! tt R b o (λ vs. move ! (1 ∷ []) $ fsplit ! $ move ! (1 ∷ []) $
     rewrite ! 0 (λ (w : Option (Author E.Denot)). ‵ (writer_owns cv.code w)) asked.1 refl $ move ! (6 ∷ 0 ∷ []) $
     use2 𝓛 (‵ (team_owns cv.code (team.authors ++ author ∷ []))) (rolls.team_joins 𝓛 cv team.authors author) $
-    let team' : T.Denot = record { marker = record {}; authors = team.authors ++ author ∷ [] } in let mine' : R.Denot = record { marker = record {}; author = None } in
+    let team' : T.Denot = record { marker = record {}; authors = team.authors ++ author ∷ [] } in
+    let mine' : R.Denot = record { marker = record {}; author = None } in
     -- [the team; the writer's field; its cell; three entries; the team's field; its cell; three entries]
     nothing ! $ move ! (2 ∷ 0 ∷ []) $ fjoin ! $ move ! (2 ∷ 0 ∷ 3 ∷ 4 ∷ 5 ∷ []) $ closes ! tt R mine' vs b o $
     move ! (4 ∷ 3 ∷ []) $ fjoin ! $ move ! (4 ∷ 0 ∷ 5 ∷ 6 ∷ 7 ∷ []) $ closes ! tt T team' ts b₀ o₀ $
-    sets ! (of_opd ! (unit_lit !)) refl (tt, tt) $ feq_i ! (List Val) (vunit ∷ []) (vunit ∷ []) refl $ move ! (6 ∷ 7 ∷ []) $ fjoin ! $ move ! (4 ∷ 0 ∷ []) $ fjoin ! $
+    sets ! (of_opd ! (unit_lit !)) refl (tt, tt) $ feq_i ! (List Val) (vunit ∷ []) (vunit ∷ []) refl $ move ! (6 ∷ 7 ∷ []) $ fjoin ! $
+    move ! (4 ∷ 0 ∷ []) $ fjoin ! $
     nothing ! $ feq_i ! (List Val) (vptr b o ∷ []) (vptr b o ∷ []) refl $ move ! (0 ∷ 6 ∷ 7 ∷ []) $ fjoin3 ! $ fjoin ! $
     feq_i ! (List Val) (vptr b₀ o₀ ∷ []) (vptr b₀ o₀ ∷ []) refl $ move ! (0 ∷ 4 ∷ 5 ∷ []) $ fjoin3 ! $ fjoin ! $
     returns ! (look_at ! 0 refl) $ free_all ! refl $ keep ! (1 ∷ 0 ∷ 2 ∷ []) $

@@ -48,13 +48,13 @@ use Rattle.papaya_gate.specs.contracts.gate.Gate as Gate
 use Rattle.papaya_gate.specs.contracts.gate.Writer as Writer
 use Rattle.papaya_gate.proofs.Gates as gates
 use Rattle.papaya_gate.proofs.Offers as offers
-use Rattle.papaya_gate.specs.contracts.steps.paid.{ended, clauses}
-use Rattle.papaya_gate.specs.contracts.steps.paid.Key.{name as #self}
-use Rattle.papaya_gate.proofs.steps.paid.Statement.{statement}
-use Rattle.papaya_gate.proofs.steps.paid.Code as code
+use Rattle.papaya_gate.specs.contracts.paid.compare_exchange.{ended, clauses}
+use Rattle.papaya_gate.specs.contracts.paid.compare_exchange.Key.{name as #self}
+use Rattle.papaya_gate.proofs.paid.compare_exchange.Statement.{statement}
+use Rattle.papaya_gate.proofs.paid.compare_exchange.Code as code
 
-pub paid_spec : {M : Type 1} → statement M
-paid_spec 𝓤 𝓛 𝓜 𝓡 wired E A P N G _ _ _ _ _ g d h d' gn dn gg dg _ _ _ _ =
+pub compare_exchange_spec : {M : Type 1} → statement M
+compare_exchange_spec 𝓤 𝓛 𝓜 𝓡 wired E A P N G _ _ _ _ _ g d h d' gn dn gg dg _ _ _ _ =
     let H = 𝓛.H in let 𝓣 = tables 𝓤 H 𝓜 𝓡 𝓡.env in
     let E' : RattleType = param 0 E in let A' : RattleType = param 1 A in let P' : RattleType = param 2 P in let N' : RattleType = param 3 N in
     let G' : RattleType = param 4 G in let En = ended E A P N G g d h d' gn dn gg dg in
@@ -71,7 +71,13 @@ paid_spec 𝓤 𝓛 𝓜 𝓡 wired E A P N G _ _ _ _ _ g d h d' gn dn gg dg _ _
         stay_ref (1 ∷ []) tt (plain (λ _. R)),
         (
           stay_dropped p2 yes,
-          (stay_ref (3 ∷ []) tt (plain (λ _. S)), (stay_ref (4 ∷ []) tt (plain (λ _. O)), (stay_dropped (plain (λ _. u64)) yes, (stay_dropped (plain (λ _. u64)) yes, tt)))),
+          (
+            stay_ref (3 ∷ []) tt (plain (λ _. S)),
+            (
+              stay_ref (4 ∷ []) tt (plain (λ _. O)),
+              (stay_dropped (plain (λ _. u64)) yes, (stay_dropped (plain (λ _. u64)) yes, tt)),
+            ),
+          ),
         ),
       ),
     ) in
@@ -118,9 +124,24 @@ paid_spec 𝓤 𝓛 𝓜 𝓡 wired E A P N G _ _ _ _ _ g d h d' gn dn gg dg _ _
     let f : ℕ → ℕ = λ n. either (lib.Dec.eqb n old) new n in
     let said : ℕ → List E.Denot → List E.Denot → Option A.Denot → Type 0 = gn.then (step me.key old new up.ask) seen.log up.state in
     let then : ℕ → View E.Denot B → Type 0 = offers.PaidThen g.holds g.shows h.tracks (g.moves up.ask) me.key up.state f said in
-    let y : (walk_of 𝓛 En hs c).Ghost = ((κs, qs, bounds, a, (q0 ∷ [], (vptr b₁ o₁ ∷ [], (vptr b₂ o₂ ∷ [], (vptr b₃ o₃ ∷ [], (vptr b₄ o₄ ∷ [], (vint w64 old ∷ [], (vint w64 new ∷ [], tt)))))))), gh) in let Post : Val → SProp 𝓤 = (walk_of 𝓛 En hs c).post y in
-    let toks : Fml = fsep (flft κs.0 qs.0) (fsep (flft κs.1.0 qs.1.0) (fsep (flft κs.1.1.0 qs.1.1.0) (fsep (flft κs.1.1.1.0 qs.1.1.1.0) (fsep (flft κs.1.1.1.1.0 qs.1.1.1.1.0) (fsep (flft κs.1.1.1.1.1.0 qs.1.1.1.1.1.0) (fsep (flft κs.1.1.1.1.1.1.0 qs.1.1.1.1.1.1.0) (fsep (flft κs.1.1.1.1.1.1.1.0 qs.1.1.1.1.1.1.1.0) (fsep (flft κs.1.1.1.1.1.1.1.1.0 qs.1.1.1.1.1.1.1.1.0) (fsep (flft κs.1.1.1.1.1.1.1.1.1.0 qs.1.1.1.1.1.1.1.1.1.0) ftrue))))))))) in
-    qed 𝓛 ((‵ toks ⊛ ‵ (owns (types_at En.signature.params κs) a y.0.4)) ∷ raw (fact 𝓤 _) ∷ raw (fact 𝓤 _) ∷ raw (fact 𝓤 _) ∷ raw (fact 𝓤 _) ∷ raw (fact 𝓤 _) ∷ given _ (‵ ftrue) ∷ []) ∵
+    let y : (walk_of 𝓛 En hs c).Ghost = (
+      (
+        κs,
+        qs,
+        bounds,
+        a,
+        (q0 ∷ [], (vptr b₁ o₁ ∷ [], (vptr b₂ o₂ ∷ [], (vptr b₃ o₃ ∷ [], (vptr b₄ o₄ ∷ [], (vint w64 old ∷ [], (vint w64 new ∷ [], tt))))))),
+      ),
+      gh,
+    ) in
+    let Post : Val → SProp 𝓤 = (walk_of 𝓛 En hs c).post y in
+    let toks : Fml = fsep (flft κs.0 qs.0) (fsep (flft κs.1.0 qs.1.0)
+    (fsep (flft κs.1.1.0 qs.1.1.0) (fsep (flft κs.1.1.1.0 qs.1.1.1.0)
+    (fsep (flft κs.1.1.1.1.0 qs.1.1.1.1.0) (fsep (flft κs.1.1.1.1.1.0 qs.1.1.1.1.1.0)
+    (fsep (flft κs.1.1.1.1.1.1.0 qs.1.1.1.1.1.1.0) (fsep (flft κs.1.1.1.1.1.1.1.0 qs.1.1.1.1.1.1.1.0)
+    (fsep (flft κs.1.1.1.1.1.1.1.1.0 qs.1.1.1.1.1.1.1.1.0) (fsep (flft κs.1.1.1.1.1.1.1.1.1.0 qs.1.1.1.1.1.1.1.1.1.0) ftrue))))))))) in
+    qed 𝓛 ((‵ toks ⊛ ‵ (owns (types_at En.signature.params κs) a y.0.4)) ∷ raw (fact 𝓤 _) ∷ raw (fact 𝓤 _) ∷ raw (fact 𝓤 _) ∷ raw (fact 𝓤 _)
+    ∷ raw (fact 𝓤 _) ∷ given _ (‵ ftrue) ∷ []) ∵
     keep ! (6 ∷ 0 ∷ []) $ learn ! (λ asked. drop ! $ split ! $
     fsplit ! $ move ! (1 ∷ []) $ fsplit ! $ move ! (1 ∷ []) $ fsplit ! $ move ! (1 ∷ []) $ fsplit ! $ move ! (1 ∷ []) $ fsplit ! $ move ! (6 ∷ []) $
     fsplit ! $ fsplit ! $ move ! (2 ∷ []) $ fsplit ! $ fsplit3 ! $ move ! (3 ∷ []) $ fsplit ! $ fsplit ! $ move ! (2 ∷ []) $
@@ -147,10 +168,12 @@ paid_spec 𝓤 𝓛 𝓜 𝓡 wired E A P N G _ _ _ _ _ g d h d' gn dn gg dg _ _
     ) $ let Ev = env fn.locals l in
     move ! (7 ∷ []) $
     use1 𝓛 (‵ (hidden_shr (Token unit) κs.0 (record {}, tt) a.0.ref_ptr.0 a.0.ref_ptr.1) ⊛ ‵ (fhide (gate_shares names r.era κs.0)))
-    (lent_out 𝓛 Gate.struct (Gate.the_codes (marker.the_row unit).coded) Gate.the_heap Gate.the_lent κs.0 r a.0.ref_ptr.0 a.0.ref_ptr.1) $ split ! $ drop ! $ unhide ! $
+    (lent_out 𝓛 Gate.struct (Gate.the_codes (marker.the_row unit).coded) Gate.the_heap Gate.the_lent κs.0 r a.0.ref_ptr.0 a.0.ref_ptr.1) $
+    split ! $ drop ! $ unhide ! $
     move ! (0 ∷ 13 ∷ []) $ shr_bor-open ! tt (gates.gate_halves 𝓛 γ τ r.era) (λ q.
     move ! (6 ∷ []) $ unhide ! $ fpick ! (λ t. fsplit3 ! $ move ! (1 ∷ []) $ fpick ! (λ past. drop ! $ move ! (0 ∷ 13 ∷ []) $
-    use2 𝓛 (later (some (λ (s : Share). ‵ (flft t.0 s) ⊛ raw (wand 𝓤 (𝓛.A.lft t.0 s) (H.⇛ (𝓛.A.lft κs.1.1.0 qs.1.1.0)))))) (Lends-one 𝓛 𝓜 𝓡 κs.1.1.0 t.0 qs.1.1.0) $ await ! tt $
+    use2 𝓛 (later (some (λ (s : Share). ‵ (flft t.0 s) ⊛ raw (wand 𝓤 (𝓛.A.lft t.0 s) (H.⇛ (𝓛.A.lft κs.1.1.0 qs.1.1.0))))))
+    (Lends-one 𝓛 𝓜 𝓡 κs.1.1.0 t.0 qs.1.1.0) $ await ! tt $
     pick ! (λ s. split ! $
     -- [the word's token and the way back; its name; the gate's loan and share; the offer's reference; the sight's; the writer's; the tokens]
     move ! (7 ∷ 8 ∷ 13 ∷ []) $ opens ! tt S b₃ o₃ (λ vs3. move ! (1 ∷ []) $ fsplit ! $ move ! (1 ∷ []) $
@@ -188,7 +211,8 @@ paid_spec 𝓤 𝓛 𝓜 𝓡 wired E A P N G _ _ _ _ _ g d h d' gn dn gg dg _ _
     move ! (9 ∷ 7 ∷ []) $ fjoin ! $ move ! (9 ∷ 0 ∷ 10 ∷ 11 ∷ 12 ∷ []) $ closes ! tt R w' vs1 b₁ o₁ $
     flt_i ! n (2 ^ 64) fits $ feq_i ! (List Val) (vint w64 n ∷ []) (vint w64 n ∷ []) refl $ fjoin ! $
     -- [the result; the writer's reference and token; the sight's; the offer's; the tokens of the gate, of the word and of the rest]
-    move ! (9 ∷ 12 ∷ []) $ fjoin ! $ move ! (7 ∷ 0 ∷ []) $ fjoin ! $ move ! (10 ∷ 0 ∷ []) $ fjoin ! $ move ! (4 ∷ 0 ∷ []) $ fjoin ! $ move ! (8 ∷ 0 ∷ []) $ fjoin ! $
+    move ! (9 ∷ 12 ∷ []) $ fjoin ! $ move ! (7 ∷ 0 ∷ []) $ fjoin ! $ move ! (10 ∷ 0 ∷ []) $ fjoin ! $ move ! (4 ∷ 0 ∷ []) $ fjoin ! $
+    move ! (8 ∷ 0 ∷ []) $ fjoin ! $
     nothing ! $ nothing ! $ fjoin ! $ nothing ! $ fjoin ! $
     feq_i ! (List Val) (vptr b₄ o₄ ∷ []) (vptr b₄ o₄ ∷ []) refl $ move ! (0 ∷ 8 ∷ 9 ∷ []) $ fjoin3 ! $ fjoin ! $
     feq_i ! (List Val) (vptr b₃ o₃ ∷ []) (vptr b₃ o₃ ∷ []) refl $ move ! (0 ∷ 6 ∷ 7 ∷ []) $ fjoin3 ! $ fjoin ! $ nothing ! $ fjoin ! $

@@ -29,17 +29,18 @@ use Rattle.logbook.proofs.Fields.{token, Token, token_made, ends}
 use Rattle.papaya_gate.specs.Kept.{inner_names}
 use Rattle.papaya_gate.specs.contracts.rule.Gated as Gated
 use Rattle.papaya_gate.specs.contracts.rule.GatedRule.TheImpl as GatedRule
-use Rattle.papaya_gate.specs.contracts.steps.plain.{ended, clauses}
-use Rattle.papaya_gate.specs.contracts.steps.plain.Key.{name as #self}
-use Rattle.papaya_gate.proofs.steps.plain.Statement.{statement}
-use Rattle.papaya_gate.proofs.steps.plain.Code as code
+use Rattle.papaya_gate.specs.contracts.rule.plain.{ended, clauses}
+use Rattle.papaya_gate.specs.contracts.rule.plain.Key.{name as #self}
+use Rattle.papaya_gate.proofs.rule.plain.Statement.{statement}
+use Rattle.papaya_gate.proofs.rule.plain.Code as code
 
 pub plain_spec : {M : Type 1} → statement M
 plain_spec 𝓤 𝓛 𝓜 𝓡 wired E A P G X N _ _ _ _ _ _ g d h d' gg dg gn dn _ _ _ _ =
     let H = 𝓛.H in let 𝓣 = tables 𝓤 H 𝓜 𝓡 𝓡.env in
     let E' : RattleType = param 0 E in let A' : RattleType = param 1 A in let P' : RattleType = param 2 P in let G' : RattleType = param 3 G in
     let X' : RattleType = param 4 X in let N' : RattleType = param 5 N in let En = ended E A P G X N g d h d' gg dg gn dn in
-    let inst = bounded (a_type ∷ a_type ∷ a_type ∷ a_type ∷ a_type ∷ a_type ∷ []) (E, (A, (P, (G, (X, (N, tt)))))) (dcons d (dcons d' (dcons dg (dcons dn dnil)))) in
+    let inst = bounded (a_type ∷ a_type ∷ a_type ∷ a_type ∷ a_type ∷ a_type ∷ []) (E, (A, (P, (G, (X, (N, tt))))))
+    (dcons d (dcons d' (dcons dg (dcons dn dnil)))) in
     let fn = inst_fn inst code.function in let c = clauses E A P G X N g d h d' gg dg gn dn 𝓛 𝓜.mem 𝓡.returns in
     let Q' : RattleType = Gated.the_row P' in let gr = GatedRule.ghosts E' A' P' g GatedRule.no_dict h GatedRule.no_dict in
     let S : RattleType = Seen.the_row E' A' Q' gr in let All : RattleType = Tuple (E' ∷ A' ∷ P' ∷ G' ∷ []) in
@@ -51,7 +52,10 @@ plain_spec 𝓤 𝓛 𝓜 𝓡 wired E A P G X N _ _ _ _ _ _ g d h d' gg dg gn d
     let me = a.0.now in let x = a.1.0.now in let inner : List ℕ = inner_names me.names in
     let p : Val = vptr a.0.ref_ptr.0 a.0.ref_ptr.1 in let p' : Val = vptr a.1.0.ref_ptr.0 a.1.0.ref_ptr.1 in
     let y : (walk_of 𝓛 En hs c).Ghost = ((κs, qs, bounds, a, (p ∷ [], (p' ∷ [], tt))), gh) in let Post : Val → SProp 𝓤 = (walk_of 𝓛 En hs c).post y in
-    let toks : Fml = fsep (flft κs.0 qs.0) (fsep (flft κs.1.0 qs.1.0) (fsep (flft κs.1.1.0 qs.1.1.0) (fsep (flft κs.1.1.1.0 qs.1.1.1.0) (fsep (flft κs.1.1.1.1.0 qs.1.1.1.1.0) (fsep (flft κs.1.1.1.1.1.0 qs.1.1.1.1.1.0) (fsep (flft κs.1.1.1.1.1.1.0 qs.1.1.1.1.1.1.0) (fsep (flft κs.1.1.1.1.1.1.1.0 qs.1.1.1.1.1.1.1.0) ftrue))))))) in
+    let toks : Fml = fsep (flft κs.0 qs.0) (fsep (flft κs.1.0 qs.1.0)
+    (fsep (flft κs.1.1.0 qs.1.1.0) (fsep (flft κs.1.1.1.0 qs.1.1.1.0)
+    (fsep (flft κs.1.1.1.1.0 qs.1.1.1.1.0) (fsep (flft κs.1.1.1.1.1.0 qs.1.1.1.1.1.0)
+    (fsep (flft κs.1.1.1.1.1.1.0 qs.1.1.1.1.1.1.0) (fsep (flft κs.1.1.1.1.1.1.1.0 qs.1.1.1.1.1.1.1.0) ftrue))))))) in
     qed 𝓛 ((‵ toks ⊛ ‵ (owns (types_at En.signature.params κs) a y.0.4)) ∷ raw (fact 𝓤 _) ∷ raw (fact 𝓤 _) ∷ raw (fact 𝓤 _)
     ∷ raw (fact 𝓤 _) ∷ raw (fact 𝓤 _) ∷ raw (fact 𝓤 _) ∷ given _ (‵ ftrue) ∷ []) ∵
     keep ! (7 ∷ 0 ∷ []) $ learn ! (λ asked. drop ! $ split ! $

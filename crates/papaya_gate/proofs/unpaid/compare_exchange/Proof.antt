@@ -41,13 +41,13 @@ use Rattle.papaya_gate.specs.Kept.{eras_name, leave_name, inner_names, gated}
 use Rattle.papaya_gate.specs.contracts.rule.Gated as Gated
 use Rattle.papaya_gate.specs.contracts.rule.GatedRule.TheImpl as GatedRule
 use Rattle.papaya_gate.proofs.Offers as offers
-use Rattle.papaya_gate.specs.contracts.steps.unpaid.{ended, clauses}
-use Rattle.papaya_gate.specs.contracts.steps.unpaid.Key.{name as #self}
-use Rattle.papaya_gate.proofs.steps.unpaid.Statement.{statement}
-use Rattle.papaya_gate.proofs.steps.unpaid.Code as code
+use Rattle.papaya_gate.specs.contracts.unpaid.compare_exchange.{ended, clauses}
+use Rattle.papaya_gate.specs.contracts.unpaid.compare_exchange.Key.{name as #self}
+use Rattle.papaya_gate.proofs.unpaid.compare_exchange.Statement.{statement}
+use Rattle.papaya_gate.proofs.unpaid.compare_exchange.Code as code
 
-pub unpaid_spec : {M : Type 1} → statement M
-unpaid_spec 𝓤 𝓛 𝓜 𝓡 wired E A P N G _ _ _ _ _ g d h d' gn dn gg dg _ _ _ _ =
+pub compare_exchange_spec : {M : Type 1} → statement M
+compare_exchange_spec 𝓤 𝓛 𝓜 𝓡 wired E A P N G _ _ _ _ _ g d h d' gn dn gg dg _ _ _ _ =
     let H = 𝓛.H in let 𝓣 = tables 𝓤 H 𝓜 𝓡 𝓡.env in
     let E' : RattleType = param 0 E in let A' : RattleType = param 1 A in let P' : RattleType = param 2 P in let N' : RattleType = param 3 N in
     let G' : RattleType = param 4 G in let En = ended E A P N G g d h d' gn dn gg dg in
@@ -107,18 +107,40 @@ unpaid_spec 𝓤 𝓛 𝓜 𝓡 wired E A P N G _ _ _ _ _ g d h d' gn dn gg dg _
     let B : Type 0 = Option A.Denot in let v : View E.Denot B = (seen.log, (pen.nib, None)) in let f : ℕ → ℕ = λ n. either (lib.Dec.eqb n old) new n in
     let said : ℕ → View E.Denot A.Denot → Type 0 = gn.then (step me.key old new up.ask) (seen.log, (pen.nib, up.state)) in
     let then : ℕ → View E.Denot B → Type 0 = offers.LeftThen g.holds g.shows h.tracks (g.moves up.ask) me.key up.state f said in
-    let y : (walk_of 𝓛 En hs c).Ghost = ((κs, qs, bounds, a, (vptr b₀ o₀ ∷ [], (vint w64 old ∷ [], (vint w64 new ∷ [], (vptr b₁ o₁ ∷ [], (vptr b₂ o₂ ∷ [], (vptr b₃ o₃ ∷ [], tt))))))), gh) in let Post : Val → SProp 𝓤 = (walk_of 𝓛 En hs c).post y in
-    let toks : Fml = fsep (flft κs.0 qs.0) (fsep (flft κs.1.0 qs.1.0) (fsep (flft κs.1.1.0 qs.1.1.0) (fsep (flft κs.1.1.1.0 qs.1.1.1.0) (fsep (flft κs.1.1.1.1.0 qs.1.1.1.1.0) (fsep (flft κs.1.1.1.1.1.0 qs.1.1.1.1.1.0) (fsep (flft κs.1.1.1.1.1.1.0 qs.1.1.1.1.1.1.0) (fsep (flft κs.1.1.1.1.1.1.1.0 qs.1.1.1.1.1.1.1.0) (fsep (flft κs.1.1.1.1.1.1.1.1.0 qs.1.1.1.1.1.1.1.1.0) ftrue)))))))) in
-    qed 𝓛 ((‵ toks ⊛ ‵ (owns (types_at En.signature.params κs) a y.0.4)) ∷ raw (fact 𝓤 _) ∷ raw (fact 𝓤 _) ∷ raw (fact 𝓤 _) ∷ raw (fact 𝓤 _) ∷ raw (fact 𝓤 _) ∷ given _ (‵ ftrue) ∷ []) ∵
+    let y : (walk_of 𝓛 En hs c).Ghost = (
+      (
+        κs,
+        qs,
+        bounds,
+        a,
+        (vptr b₀ o₀ ∷ [], (vint w64 old ∷ [], (vint w64 new ∷ [], (vptr b₁ o₁ ∷ [], (vptr b₂ o₂ ∷ [], (vptr b₃ o₃ ∷ [], tt)))))),
+      ),
+      gh,
+    ) in
+    let Post : Val → SProp 𝓤 = (walk_of 𝓛 En hs c).post y in
+    let toks : Fml = fsep (flft κs.0 qs.0) (fsep (flft κs.1.0 qs.1.0)
+    (fsep (flft κs.1.1.0 qs.1.1.0) (fsep (flft κs.1.1.1.0 qs.1.1.1.0)
+    (fsep (flft κs.1.1.1.1.0 qs.1.1.1.1.0) (fsep (flft κs.1.1.1.1.1.0 qs.1.1.1.1.1.0)
+    (fsep (flft κs.1.1.1.1.1.1.0 qs.1.1.1.1.1.1.0) (fsep (flft κs.1.1.1.1.1.1.1.0 qs.1.1.1.1.1.1.1.0)
+    (fsep (flft κs.1.1.1.1.1.1.1.1.0 qs.1.1.1.1.1.1.1.1.0) ftrue)))))))) in
+    qed 𝓛 ((‵ toks ⊛ ‵ (owns (types_at En.signature.params κs) a y.0.4)) ∷ raw (fact 𝓤 _) ∷ raw (fact 𝓤 _) ∷ raw (fact 𝓤 _) ∷ raw (fact 𝓤 _)
+    ∷ raw (fact 𝓤 _) ∷ given _ (‵ ftrue) ∷ []) ∵
     keep ! (6 ∷ 0 ∷ []) $ learn ! (λ asked. drop ! $ split ! $
     fsplit ! $ move ! (1 ∷ []) $ fsplit ! $ move ! (1 ∷ []) $ fsplit ! $ move ! (1 ∷ []) $ fsplit ! $ move ! (5 ∷ []) $
     fsplit ! $ fsplit ! $ move ! (2 ∷ []) $ fsplit ! $ move ! (1 ∷ []) $ fsplit ! $ move ! (1 ∷ []) $ fsplit ! $ fsplit3 ! $ move ! (3 ∷ []) $
     fsplit ! $ fsplit3 ! $ move ! (3 ∷ []) $ fsplit ! $ fsplit3 ! $ keep ! (1 ∷ 2 ∷ 5 ∷ 6 ∷ 8 ∷ 9 ∷ 13 ∷ 14 ∷ 15 ∷ 16 ∷ 17 ∷ 18 ∷ []) $
     enter ! 𝓣.C 𝓣.Λ fn (vptr b₀ o₀ ∷ vint w64 old ∷ vint w64 new ∷ vptr b₁ o₁ ∷ vptr b₂ o₂ ∷ vptr b₃ o₃ ∷ []) Post $
-    alloc_all ! (λ l. pass_all ! refl ((tt, tt), ((tt, record { fits = are.1.0.1 }), ((tt, record { fits = are.1.1.0.1 }), ((tt, tt), ((tt, tt), ((tt, tt), tt)))))) $
+    alloc_all ! (λ l. pass_all ! refl (
+      (tt, tt),
+      (
+        (tt, record { fits = are.1.0.1 }),
+        ((tt, record { fits = are.1.1.0.1 }), ((tt, tt), ((tt, tt), ((tt, tt), tt)))),
+      ),
+    ) $
     let Ev = env fn.locals l in
     move ! (6 ∷ []) $ unhide ! $ fpick ! (λ t. fsplit3 ! $ move ! (1 ∷ []) $ fpick ! (λ past. drop ! $ move ! (0 ∷ 12 ∷ []) $
-    use2 𝓛 (later (some (λ (s : Share). ‵ (flft t.0 s) ⊛ raw (wand 𝓤 (𝓛.A.lft t.0 s) (H.⇛ (𝓛.A.lft κs.0 qs.0)))))) (Lends-one 𝓛 𝓜 𝓡 κs.0 t.0 qs.0) $ await ! tt $
+    use2 𝓛 (later (some (λ (s : Share). ‵ (flft t.0 s) ⊛ raw (wand 𝓤 (𝓛.A.lft t.0 s) (H.⇛ (𝓛.A.lft κs.0 qs.0))))))
+    (Lends-one 𝓛 𝓜 𝓡 κs.0 t.0 qs.0) $ await ! tt $
     pick ! (λ s. split ! $
     move ! (7 ∷ 8 ∷ 12 ∷ []) $ opens ! tt S b₁ o₁ (λ vs1. move ! (1 ∷ []) $ fsplit ! $ move ! (1 ∷ []) $
     rewrite ! 0 (λ (z : Book). ‵ (seen_owns cv.code rule z names seen.log)) asked.1 refl $

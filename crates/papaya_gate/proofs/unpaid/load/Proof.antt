@@ -39,10 +39,10 @@ use Rattle.papaya_gate.specs.Kept.{eras_name, leave_name, inner_names, gated}
 use Rattle.papaya_gate.specs.contracts.rule.Gated as Gated
 use Rattle.papaya_gate.specs.contracts.rule.GatedRule.TheImpl as GatedRule
 use Rattle.papaya_gate.proofs.Offers as offers
-use Rattle.papaya_gate.specs.contracts.steps.load.{ended, clauses}
-use Rattle.papaya_gate.specs.contracts.steps.load.Key.{name as #self}
-use Rattle.papaya_gate.proofs.steps.load.Statement.{statement}
-use Rattle.papaya_gate.proofs.steps.load.Code as code
+use Rattle.papaya_gate.specs.contracts.unpaid.load.{ended, clauses}
+use Rattle.papaya_gate.specs.contracts.unpaid.load.Key.{name as #self}
+use Rattle.papaya_gate.proofs.unpaid.load.Statement.{statement}
+use Rattle.papaya_gate.proofs.unpaid.load.Code as code
 
 pub load_spec : {M : Type 1} → statement M
 load_spec 𝓤 𝓛 𝓜 𝓡 wired E A P N G _ _ _ _ _ g d h d' gn dn gg dg _ _ _ _ =
@@ -56,7 +56,8 @@ load_spec 𝓤 𝓛 𝓜 𝓡 wired E A P N G _ _ _ _ _ g d h d' gn dn gg dg _ _
     let rule = rules g.holds g.shows (gated cv.code g.keeps h.tracks) in
     let p0 = RefOf (0 ∷ []) tt (plain (λ _. W)) (λ _. tt) in
     let hs : Stays En.signature.params En.kept = (stay_dropped p0 yes, (stay_ref (1 ∷ []) tt (plain (λ _. S)), (stay_ref (2 ∷ []) tt (plain (λ _. O)), tt))) in
-    proved 𝓛 En hs c 𝓜 𝓡 (Goes-dropped 𝓛 8 p0 yes (λ κs x f. refl), (Goes-ref 𝓛 8 1 tt (plain (λ _. S)), (Goes-ref 𝓛 8 2 tt (plain (λ _. O)), tt))) (#self inst) fn
+    proved 𝓛 En hs c 𝓜 𝓡 (Goes-dropped 𝓛 8 p0 yes (λ κs x f. refl), (Goes-ref 𝓛 8 1 tt (plain (λ _. S)), (Goes-ref 𝓛 8 2 tt (plain (λ _. O)), tt)))
+    (#self inst) fn
     (code.unfolded 𝓤 H 𝓜 𝓡 wired (E, (A, (P, (N, (G, tt))))) d d' dn dg) (λ κs. (shr_vals, (mut_vals, (mut_vals, tt))))
     (λ κs. (shr_Tells (named 0) κs.0 W, (mut_Tells (named 1) κs.1.0 S, (mut_Tells (named 2) κs.1.1.0 O, tt)))) (λ κs qs bounds a gh are.
     let me = a.0.now in let seen = a.1.0.now in let up = a.1.1.0.now in
@@ -66,16 +67,22 @@ load_spec 𝓤 𝓛 𝓜 𝓡 wired E A P N G _ _ _ _ _ g d h d' gn dn gg dg _ _
     let B : Type 0 = Option A.Denot in let v : View E.Denot B = (seen.log, (no_nib, None)) in let f : ℕ → ℕ = λ n. n in
     let said : ℕ → View E.Denot A.Denot → Type 0 = gn.then (step me.key 0 0 up.ask) (seen.log, (no_nib, up.state)) in
     let then : ℕ → View E.Denot B → Type 0 = offers.LeftThen g.holds g.shows h.tracks (g.moves up.ask) me.key up.state f said in
-    let y : (walk_of 𝓛 En hs c).Ghost = ((κs, qs, bounds, a, (vptr b₀ o₀ ∷ [], (vptr b₁ o₁ ∷ [], (vptr b₂ o₂ ∷ [], tt)))), gh) in let Post : Val → SProp 𝓤 = (walk_of 𝓛 En hs c).post y in
-    let toks : Fml = fsep (flft κs.0 qs.0) (fsep (flft κs.1.0 qs.1.0) (fsep (flft κs.1.1.0 qs.1.1.0) (fsep (flft κs.1.1.1.0 qs.1.1.1.0) (fsep (flft κs.1.1.1.1.0 qs.1.1.1.1.0) (fsep (flft κs.1.1.1.1.1.0 qs.1.1.1.1.1.0) (fsep (flft κs.1.1.1.1.1.1.0 qs.1.1.1.1.1.1.0) (fsep (flft κs.1.1.1.1.1.1.1.0 qs.1.1.1.1.1.1.1.0) ftrue))))))) in
-    qed 𝓛 ((‵ toks ⊛ ‵ (owns (types_at En.signature.params κs) a y.0.4)) ∷ raw (fact 𝓤 _) ∷ raw (fact 𝓤 _) ∷ raw (fact 𝓤 _) ∷ raw (fact 𝓤 _) ∷ raw (fact 𝓤 _) ∷ given _ (‵ ftrue) ∷ []) ∵
+    let y : (walk_of 𝓛 En hs c).Ghost = ((κs, qs, bounds, a, (vptr b₀ o₀ ∷ [], (vptr b₁ o₁ ∷ [], (vptr b₂ o₂ ∷ [], tt)))), gh) in
+    let Post : Val → SProp 𝓤 = (walk_of 𝓛 En hs c).post y in
+    let toks : Fml = fsep (flft κs.0 qs.0) (fsep (flft κs.1.0 qs.1.0)
+    (fsep (flft κs.1.1.0 qs.1.1.0) (fsep (flft κs.1.1.1.0 qs.1.1.1.0)
+    (fsep (flft κs.1.1.1.1.0 qs.1.1.1.1.0) (fsep (flft κs.1.1.1.1.1.0 qs.1.1.1.1.1.0)
+    (fsep (flft κs.1.1.1.1.1.1.0 qs.1.1.1.1.1.1.0) (fsep (flft κs.1.1.1.1.1.1.1.0 qs.1.1.1.1.1.1.1.0) ftrue))))))) in
+    qed 𝓛 ((‵ toks ⊛ ‵ (owns (types_at En.signature.params κs) a y.0.4)) ∷ raw (fact 𝓤 _) ∷ raw (fact 𝓤 _) ∷ raw (fact 𝓤 _) ∷ raw (fact 𝓤 _)
+    ∷ raw (fact 𝓤 _) ∷ given _ (‵ ftrue) ∷ []) ∵
     keep ! (6 ∷ 0 ∷ []) $ learn ! (λ asked. drop ! $ split ! $
     fsplit ! $ move ! (1 ∷ []) $ fsplit ! $ move ! (1 ∷ []) $ fsplit ! $ move ! (4 ∷ []) $ fsplit ! $ fsplit ! $ move ! (2 ∷ []) $ fsplit ! $ fsplit3 ! $
     move ! (3 ∷ []) $ fsplit ! $ fsplit3 ! $ keep ! (1 ∷ 2 ∷ 5 ∷ 6 ∷ 8 ∷ 9 ∷ 10 ∷ 11 ∷ 12 ∷ []) $
     enter ! 𝓣.C 𝓣.Λ fn (vptr b₀ o₀ ∷ vptr b₁ o₁ ∷ vptr b₂ o₂ ∷ []) Post $
     alloc_all ! (λ l. pass_all ! refl ((tt, tt), ((tt, tt), ((tt, tt), tt))) $ let Ev = env fn.locals l in
     move ! (4 ∷ []) $ unhide ! $ fpick ! (λ t. fsplit3 ! $ move ! (1 ∷ []) $ fpick ! (λ past. drop ! $ move ! (0 ∷ 9 ∷ []) $
-    use2 𝓛 (later (some (λ (s : Share). ‵ (flft t.0 s) ⊛ raw (wand 𝓤 (𝓛.A.lft t.0 s) (H.⇛ (𝓛.A.lft κs.0 qs.0)))))) (Lends-one 𝓛 𝓜 𝓡 κs.0 t.0 qs.0) $ await ! tt $
+    use2 𝓛 (later (some (λ (s : Share). ‵ (flft t.0 s) ⊛ raw (wand 𝓤 (𝓛.A.lft t.0 s) (H.⇛ (𝓛.A.lft κs.0 qs.0))))))
+    (Lends-one 𝓛 𝓜 𝓡 κs.0 t.0 qs.0) $ await ! tt $
     pick ! (λ s. split ! $
     move ! (5 ∷ 6 ∷ 9 ∷ []) $ opens ! tt S b₁ o₁ (λ vs1. move ! (1 ∷ []) $ fsplit ! $ move ! (1 ∷ []) $
     rewrite ! 0 (λ (z : Book). ‵ (seen_owns cv.code rule z names seen.log)) asked.1 refl $
