@@ -1,9 +1,7 @@
 //! A rule with a gate beside it.
-ghost use Rattle.std.specs.Prelude.{◌≡◌, Bool, []};
-ghost use Rattle.logbook.specs.Pages.{Free};
-ghost use Rattle.papaya_gate.specs.Kept.{inner_names};
+ghost use Rattle.std.specs.Prelude.{◌≡◌, Bool};
 
-use logbook::{Gain, Offer, Plain, Rule, Seen};
+use logbook::{Rule, Seen};
 use std::marker::PhantomData;
 
 /// The entries that a gate is about.
@@ -40,19 +38,3 @@ pub fn align<E, A, P: Rule<E, A>>(sight: &mut Seen<E, A, P>, begun: &Seen<E, A, 
     ensures { (sight.new.names ≡ begun.now.names) × (sight.new.log ≡ sight.old.log)
         × (sight.new.book ≡ sight.old.book) }
 {}
-
-/// Returns an offer over the inner rule, for a client that keeps nothing.
-#[inline(always)]
-pub fn plain<E, A, P: Rule<E, A> + Tracking<E>, G: Gain<E, A>, X, M: Plain<X, E, A>>(
-    seen: &Seen<E, A, Gated<P>>,
-    about: &X,
-) -> Offer<E, A, P, G>
-    requires { Free (P.keeps (inner_names seen.now.names))
-        (G.after (inner_names seen.now.names) []) (M.state about.now) }
-    ensures { (result.names ≡ inner_names seen.now.names) × (result.ask ≡ M.ask about.now)
-        × (result.about ≡ []) × (result.state ≡ M.state about.now) }
-{
-    Offer {
-        marker: PhantomData,
-    }
-}

@@ -17,7 +17,7 @@ use std::sync::atomic::raw;
 /// Exchanges the word if it has the number `old`, and returns the number that it found. The step
 /// adds no tracked entry.
 #[inline(always)]
-pub fn compare_exchange<E, A, P: Rule<E, A> + Tracking<E>, N: Play<E, A>, G: Gain<E, A>>(
+pub fn unpaid<E, A, P: Rule<E, A> + Tracking<E>, N: Play<E, A>, G: Gain<E, A>>(
     word: &Word<E, A, Gated<P>>,
     old: u64,
     new: u64,

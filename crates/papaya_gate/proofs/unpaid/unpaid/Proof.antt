@@ -41,13 +41,13 @@ use Rattle.papaya_gate.specs.Kept.{eras_name, leave_name, inner_names, gated}
 use Rattle.papaya_gate.specs.contracts.rule.Gated as Gated
 use Rattle.papaya_gate.specs.contracts.rule.GatedRule.TheImpl as GatedRule
 use Rattle.papaya_gate.proofs.Offers as offers
-use Rattle.papaya_gate.specs.contracts.unpaid.compare_exchange.{ended, clauses}
-use Rattle.papaya_gate.specs.contracts.unpaid.compare_exchange.Key.{name as #self}
-use Rattle.papaya_gate.proofs.unpaid.compare_exchange.Statement.{statement}
-use Rattle.papaya_gate.proofs.unpaid.compare_exchange.Code as code
+use Rattle.papaya_gate.specs.contracts.unpaid.unpaid.{ended, clauses}
+use Rattle.papaya_gate.specs.contracts.unpaid.unpaid.Key.{name as #self}
+use Rattle.papaya_gate.proofs.unpaid.unpaid.Statement.{statement}
+use Rattle.papaya_gate.proofs.unpaid.unpaid.Code as code
 
-pub compare_exchange_spec : {M : Type 1} → statement M
-compare_exchange_spec 𝓤 𝓛 𝓜 𝓡 wired E A P N G _ _ _ _ _ g d h d' gn dn gg dg _ _ _ _ =
+pub unpaid_spec : {M : Type 1} → statement M
+unpaid_spec 𝓤 𝓛 𝓜 𝓡 wired E A P N G _ _ _ _ _ g d h d' gn dn gg dg _ _ _ _ =
     let H = 𝓛.H in let 𝓣 = tables 𝓤 H 𝓜 𝓡 𝓡.env in
     let E' : RattleType = param 0 E in let A' : RattleType = param 1 A in let P' : RattleType = param 2 P in let N' : RattleType = param 3 N in
     let G' : RattleType = param 4 G in let En = ended E A P N G g d h d' gn dn gg dg in

@@ -1,18 +1,19 @@
-//! The step that may add tracked entries: one atomic compare-exchange, which pays with the gate. It
-//! takes an offer over the inner rule.
-ghost use Rattle.std.specs.Prelude.{◌≡◌, ℕ, ◌==◌, true, Option, List};
+//! The steps on words of a gated book, each one atomic load or compare-exchange. They take offers
+//! over the inner rule.
+ghost use Rattle.std.specs.Prelude.{◌≡◌, ℕ, ◌==◌, true, Option, List, []};
 ghost use mathlib.Core.List.{IsPrefix};
 ghost use prog.Atomic.{either};
-ghost use Rattle.logbook.specs.Pages.{Step, step};
+ghost use Rattle.logbook.specs.Pages.{Free, Step, step};
 ghost use Rattle.papaya_gate.specs.Eras.{MayAdd, wrote};
 ghost use Rattle.papaya_gate.specs.Kept.{inner_names};
 ghost use Rattle.papaya_gate.specs.Paid.{MovesPaid};
 
 use crate::gate::{Gate, Writer};
 use crate::rule::{Gated, Tracking};
+pub use crate::unpaid::{load, unpaid};
 use atomic_table::exchange;
-use logbook::{Gain, Offer, Rule, Seen, Word};
-use std::marker::Brand;
+use logbook::{Gain, Offer, Plain, Rule, Seen, Word};
+use std::marker::{Brand, PhantomData};
 
 /// What a paid step tells its caller.
 pub trait PaidPlay<E, A> {
@@ -21,10 +22,26 @@ pub trait PaidPlay<E, A> {
     ghost then: { Step E → List E → Option A → ℕ → List E → List E → Option A → Type 0 };
 }
 
+/// Returns an offer over the inner rule, for a client that keeps nothing.
+#[inline(always)]
+pub fn plain<E, A, P: Rule<E, A> + Tracking<E>, G: Gain<E, A>, X, M: Plain<X, E, A>>(
+    seen: &Seen<E, A, Gated<P>>,
+    about: &X,
+) -> Offer<E, A, P, G>
+    requires { Free (P.keeps (inner_names seen.now.names))
+        (G.after (inner_names seen.now.names) []) (M.state about.now) }
+    ensures { (result.names ≡ inner_names seen.now.names) × (result.ask ≡ M.ask about.now)
+        × (result.about ≡ []) × (result.state ≡ M.state about.now) }
+{
+    Offer {
+        marker: PhantomData,
+    }
+}
+
 /// Exchanges the word if it has the number `old`, and returns the number that it found. The step
 /// pays with the gate, so it may add tracked entries. These are added to the list of the writer.
 #[inline(always)]
-pub fn compare_exchange<E, A, P: Rule<E, A> + Tracking<E>, N: PaidPlay<E, A>, G: Gain<E, A>>(
+pub fn paid<E, A, P: Rule<E, A> + Tracking<E>, N: PaidPlay<E, A>, G: Gain<E, A>>(
     gate: &Gate,
     writer: &mut Writer<E>,
     word: &Word<E, A, Gated<P>>,

@@ -29,10 +29,10 @@ use Rattle.logbook.proofs.Fields.{token, Token, token_made, ends}
 use Rattle.papaya_gate.specs.Kept.{inner_names}
 use Rattle.papaya_gate.specs.contracts.rule.Gated as Gated
 use Rattle.papaya_gate.specs.contracts.rule.GatedRule.TheImpl as GatedRule
-use Rattle.papaya_gate.specs.contracts.rule.plain.{ended, clauses}
-use Rattle.papaya_gate.specs.contracts.rule.plain.Key.{name as #self}
-use Rattle.papaya_gate.proofs.rule.plain.Statement.{statement}
-use Rattle.papaya_gate.proofs.rule.plain.Code as code
+use Rattle.papaya_gate.specs.contracts.steps.plain.{ended, clauses}
+use Rattle.papaya_gate.specs.contracts.steps.plain.Key.{name as #self}
+use Rattle.papaya_gate.proofs.steps.plain.Statement.{statement}
+use Rattle.papaya_gate.proofs.steps.plain.Code as code
 
 pub plain_spec : {M : Type 1} → statement M
 plain_spec 𝓤 𝓛 𝓜 𝓡 wired E A P G X N _ _ _ _ _ _ g d h d' gg dg gn dn _ _ _ _ =
