@@ -56,8 +56,8 @@ impl<E> Writer<E> {
 }
 
 impl Gate {
-    /// Returns what a new gated book keeps, by what its inner rule keeps, and the gate of that
-    /// book. The gate is open.
+    /// Returns the start of a gated book, made of the start of a book of the inner rule, and its
+    /// gate, which is open.
     #[inline(always)]
     pub fn begin<E, A, P: Rule<E, A> + Tracking<E>>(
         start: Start<E, A, P>,
@@ -112,7 +112,7 @@ impl Gate {
         }
     }
 
-    /// Observes all tracked entries of the log: they are those in the list of the era's only
+    /// Observes all tracked entries of the log, which are those in the list of the era's only
     /// author.
     #[inline(always)]
     pub fn whole<E, A, P: Rule<E, A> + Tracking<E>>(
@@ -126,7 +126,8 @@ impl Gate {
             × IsPrefix seen.old.log seen.new.log }
     {}
 
-    /// Observes all tracked entries of the log: they are a merge of the lists of the era's authors.
+    /// Observes all tracked entries of the log, which are a merge of the lists of the era's
+    /// authors.
     #[inline(always)]
     pub fn gather<E, A, P: Rule<E, A> + Tracking<E>>(
         &self,
@@ -140,9 +141,9 @@ impl Gate {
             × IsPrefix seen.old.log seen.new.log }
     {}
 
-    /// Ends the era of these authors, who are all, and begins one with a single author. In that
-    /// author's list are all tracked entries, which are a merge of theirs. The team has no authors
-    /// afterwards.
+    /// Ends the era, whose authors are those of the team, and begins one with a single author. That
+    /// author's list has all tracked entries, which are a merge of the lists of the team. The team
+    /// has no authors afterwards.
     #[inline(always)]
     pub fn unite<E, A, P: Rule<E, A> + Tracking<E>>(
         &mut self,
@@ -168,7 +169,7 @@ impl Gate {
         ensures { (self.new.names ≡ self.old.names) × (self.new.era ≡ None) }
     {}
 
-    /// Ends the era of this only author for good, and returns the fact that no tracked entry is
+    /// Keeps the era for good, with this only author, and returns the fact that no tracked entry is
     /// ever added again. The writer is nobody afterwards.
     #[inline(always)]
     pub fn end<E>(self, writer: &mut Writer<E>) -> Ended<E>

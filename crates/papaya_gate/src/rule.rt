@@ -31,7 +31,8 @@ impl<E, A, P: Rule<E, A> + Tracking<E>> Rule<E, A> for Gated<P> {
     ghost moves = { λ ask before after answer. P.moves ask before after answer };
 }
 
-/// Gives the sight the names of the book's own token. It has observed what it had observed.
+/// Gives the sight the names of another token of the same book. What it has observed stays the
+/// same.
 #[inline(always)]
 pub fn align<E, A, P: Rule<E, A>>(sight: &mut Seen<E, A, P>, begun: &Seen<E, A, P>)
     requires { begun.now.book ≡ sight.old.book }
