@@ -1,6 +1,6 @@
 -- The object of some entries, after one more entry.
 use Rattle.std.proofs.Common.{◌≡◌, suc, ◌+◌, ◌<◌, ◌≤◌, ◌||◌, not, cond, Bool, true, false, List, []}
-use Rattle.std.proofs.Common.{◌∷◌, ◌++◌, length, map, Option, Some, Result, Ok, Err, String, Global, string_bytes}
+use Rattle.std.proofs.Common.{◌∷◌, ◌++◌, length, map, Option, None, Some, Result, Ok, Err, String, Global, string_bytes}
 use Rattle.std.specs.Prelude.{IfOk}
 use Rattle.std.proofs.Common.{string_cmp, refl, sym, ap, ◌∙◌, subst, arith}
 use Rattle.std.proofs.lemmas.List.{length_push}
@@ -12,6 +12,9 @@ use Rattle.serde_json.specs.Data.{Members, no_members, put}
 use Rattle.serde_json.specs.View.{view, members_view}
 use Rattle.serde_json.specs.declared.value.Value.{Value}
 use Rattle.serde_json.proofs.Views.{members_view-insert_entry}
+use denote.Bor.{Bor}
+use Rattle.papaya_map_scan.specs.Walked.{Gives, Walked}
+use Rattle.papaya_map.proofs.Yielded.{HasYielded, all_yielded, one_yielded}
 use Rattle.papaya_set.specs.Sets.{entry_of_key}
 use Rattle.papaya_json.specs.Objects.{IsMember, Member, object_of}
 
@@ -50,6 +53,12 @@ pub all_keys : {K : Type 0} (P : K × Unit {0} → Type 0) (es : List (K × Unit
 all_keys P [] all = All-nil (λ k. P (entry_of_key k))
 all_keys P ((k, u) ∷ es) all = All-cons (λ k. P (entry_of_key k)) k (map (λ e. e.0) es) (All-head P (k, u) es all)
     (all_keys P es (All-tail P (k, u) es all))
+
+-- what an iteration has yielded, after one more step, whatever it returned
+pub still_yielded : {K V : Type 0} (eq : K → K → Bool) (first before after : Walked K V) → HasYielded eq first before → (found : Option (Bor K × Bor V))
+    → Gives eq before found after → HasYielded eq first after
+still_yielded eq first before after so_far None gives = all_yielded eq first before after so_far gives
+still_yielded eq first before after so_far (Some entry) gives = one_yielded eq first before after so_far entry gives
 
 -- one more of each list
 pub zip_more : {A B : Type 0} (R : A → B → Type 0) (xs : List A) (ys : List B) (x : A) (y : B) → AllZip R xs ys → R x y → AllZip R (xs ++ x ∷ []) (ys ++ y ∷ [])

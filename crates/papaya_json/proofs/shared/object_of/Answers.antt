@@ -3,7 +3,7 @@ use Rattle.std.specs.Fn.{FnReturnsAt}
 use Rattle.serde_json.specs.Data.{object}
 use Rattle.serde_json.specs.Events.{members_len}
 use Rattle.serde_json.proofs.Views.{members_len-members_view, view-Object}
-use Rattle.papaya_map.proofs.Yielded.{all_yielded, are_yielded, none_yielded, one_yielded}
+use Rattle.papaya_map.proofs.Yielded.{all_yielded, all_yielded, are_yielded, none_yielded, one_yielded}
 use Rattle.std.specs.List.{Any}
 use Rattle.serde_json.specs.declared.value.Value.{Object}
 use Rattle.papaya_json.specs.Objects.{HasClash, HasNoMember, IsObject}
@@ -13,7 +13,7 @@ use Rattle.papaya_json.proofs.shared.object_of.Goals as goal
 pub loop-k-init : goal.loop-k-init
 loop-k-init g c = (
   none_yielded g.K.PartialEq.eq c.args.pairs.now c.requires.new,
-  subst (λ items. IsBuilt (FnReturnsAt g.T.Fn c.args.key) (FnReturnsAt g.W.Fn c.args.value) items c.new-members.members.entries false) (sym c.requires.new)
+  subst (λ items. IsBuilt (FnReturnsAt g.T.Fn c.args.key) (FnReturnsAt g.W.Fn c.args.value) items c.new-members.result.entries false) (sym c.requires.new)
       (subst (λ es. IsBuilt (FnReturnsAt g.T.Fn c.args.key) (FnReturnsAt g.W.Fn c.args.value) [] es false) (sym c.new-members.ensures.empty) (built_none _ _)),
 )
 
@@ -46,14 +46,14 @@ loop-k-preserved g c =
     )
 
 -- the entry that came last has no member
-pub returns-in_default-clause-err : goal.returns-in_default-clause-err
-returns-in_default-clause-err g c =
+pub returns-in_default-key-clause-err : goal.returns-in_default-key-clause-err
+returns-in_default-key-clause-err g c =
     let none = HasNoMember (FnReturnsAt g.T.Fn c.args.key) (FnReturnsAt g.W.Fn c.args.value) in
     inr (inr (
       refl,
       subst (Any none) (sym c.in-Some.ensures.steps.3)
           (any_middle none c.loop-k.pairs.given (c.in-Some.k.now, c.in-Some.v.now) []
-          (inl (record { shown = c.in-Some.k; shows = refl; says = record { met = c.in_default.ensures } }))),
+          (inl (record { shown = c.in-Some.k; shows = refl; says = record { met = c.in_default-key.ensures } }))),
     ))
 
 pub returns-in_default-value-clause-err : goal.returns-in_default-value-clause-err
@@ -71,7 +71,7 @@ returns-then-clash-2-clause-err g c =
     let built = c.loop-k.invariant.1 in
     inr (inl (
       refl,
-      subst (HasClash (FnReturnsAt g.T.Fn c.args.key) (FnReturnsAt g.W.Fn c.args.value)) (sym c.in-None.ensures.steps.1) (record {
+      subst (HasClash (FnReturnsAt g.T.Fn c.args.key) (FnReturnsAt g.W.Fn c.args.value)) (sym c.in_default.ensures.steps.1) (record {
         members = built.members;
         each = built.each;
         fewer = subst (λ n. n < length c.loop-k.pairs.given)
@@ -82,7 +82,7 @@ returns-then-clash-2-clause-err g c =
 pub returns-clause-ok : goal.returns-clause-ok
 returns-clause-ok g c =
     let built = c.loop-k.invariant.1 in
-    subst (λ items. IsObject (FnReturnsAt g.T.Fn c.args.key) (FnReturnsAt g.W.Fn c.args.value) items (Object c.loop-k.members)) (sym c.in-None.ensures.steps.1)
+    subst (λ items. IsObject (FnReturnsAt g.T.Fn c.args.key) (FnReturnsAt g.W.Fn c.args.value) items (Object c.loop-k.members)) (sym c.in_default.ensures.steps.1)
     (record {
       members = built.members;
       each = built.each;
@@ -91,4 +91,25 @@ returns-clause-ok g c =
     })
 
 pub returns-clause-yielded : goal.returns-clause-yielded
-returns-clause-yielded g c = are_yielded g.K.PartialEq.eq c.args.pairs.now c.loop-k.pairs c.next.new.self c.loop-k.invariant.0 c.in-None.ensures.steps
+returns-clause-yielded g c = are_yielded g.K.PartialEq.eq c.args.pairs.now c.loop-k.pairs c.next.new.self c.loop-k.invariant.0 c.in_default.ensures.steps
+
+
+pub returns-in_default-key-clause-had : goal.returns-in_default-key-clause-had
+returns-in_default-key-clause-had g c =
+    (one_yielded g.K.PartialEq.eq c.args.pairs.now c.loop-k.pairs c.next.new.self c.loop-k.invariant.0 (c.in-Some.k, c.in-Some.v) c.in-Some.ensures.steps).had
+
+pub returns-in_default-value-clause-had : goal.returns-in_default-value-clause-had
+returns-in_default-value-clause-had g c =
+    (one_yielded g.K.PartialEq.eq c.args.pairs.now c.loop-k.pairs c.next.new.self c.loop-k.invariant.0 (c.in-Some.k, c.in-Some.v) c.in-Some.ensures.steps).had
+
+pub returns-in-Err-clause-had : goal.returns-in-Err-clause-had
+returns-in-Err-clause-had g c =
+    (one_yielded g.K.PartialEq.eq c.args.pairs.now c.loop-k.pairs c.next.new.self c.loop-k.invariant.0 (c.in-Some.k, c.in-Some.v) c.in-Some.ensures.steps).had
+
+pub returns-then-clash-2-clause-had : goal.returns-then-clash-2-clause-had
+returns-then-clash-2-clause-had g c =
+    (all_yielded g.K.PartialEq.eq c.args.pairs.now c.loop-k.pairs c.next.new.self c.loop-k.invariant.0 c.in_default.ensures.steps).had
+
+pub returns-clause-had : goal.returns-clause-had
+returns-clause-had g c =
+    (all_yielded g.K.PartialEq.eq c.args.pairs.now c.loop-k.pairs c.next.new.self c.loop-k.invariant.0 c.in_default.ensures.steps).had
