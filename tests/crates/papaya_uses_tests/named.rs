@@ -353,7 +353,7 @@ fn results_are_named(rt: HostRuntime) -> Result<(), Fail> {
     is(&rt, value_back(NotInserted::Logged(&5)), None);
     is(&rt, is_absent(Reply::Absent), true);
     is(&rt, is_absent(Reply::Done), false);
-    is(&rt, dozen(rt.alloc())?.slots(), 32);
+    is(&rt, dozen(rt.alloc())?.slots(), 16);
     let set: seq::HashSet<u64> = seq::HashSet::new(rt.alloc())?;
     is(&rt, same_keys(&set, &set), true);
     let map: HashMap<u64, u64> = HashMap::new(&rt, rt.alloc())?;
