@@ -5,7 +5,6 @@ ghost use Rattle.papaya.specs.Sets.{HaveSameKeys};
 ghost use Rattle.papaya.specs.Sizes.{DEFAULT_CHUNK, IsSizeRefusal};
 ghost use Rattle.papaya.specs.Types.ReplyVariants.{Absent};
 
-use papaya::observed::{Observed, Saying};
 use papaya::schedule::Reply;
 use papaya::{NotInserted, Refused, ResizeMode, seq};
 use std::alloc::Global;
@@ -46,12 +45,4 @@ pub fn value_back<V: Drop>(failed: NotInserted<'_, V>) -> Option<V> {
         NotInserted::Value(value) => Some(value),
         NotInserted::Logged(_) => None,
     }
-}
-
-/// Returns a result without its evidence.
-pub fn answer_of<B, K: Hash + Eq, V, S: BuildHasher>(saying: Saying<B, K, V, S>) -> B
-    ensures { result ≡ saying.answer }
-{
-    let Observed { answer, marker: _ } = saying;
-    answer
 }
