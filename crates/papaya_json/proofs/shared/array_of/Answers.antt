@@ -62,4 +62,4 @@ pub returns-clause-ok : goal.returns-clause-ok
 returns-clause-ok g c =
     let key_of : g.row.K.Denot × Unit {0} → g.row.K.Denot = λ e. e.0 in
     subst (λ (ks : List g.row.K.Denot). IsArray (FnReturnsAt g.T.Fn c.args.key) ks (Array c.loop-k.items))
-        (sym (ap (map key_of) c.in_default.ensures.steps.1)) (c.loop-k.items, refl, c.loop-k.invariant.1)
+    (sym (ap (map key_of) c.in_default.ensures.steps.1)) (c.loop-k.items, refl, c.loop-k.invariant.1)

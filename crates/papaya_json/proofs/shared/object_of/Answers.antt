@@ -93,7 +93,6 @@ returns-clause-ok g c =
 pub returns-clause-yielded : goal.returns-clause-yielded
 returns-clause-yielded g c = are_yielded g.K.PartialEq.eq c.args.pairs.now c.loop-k.pairs c.next.new.self c.loop-k.invariant.0 c.in_default.ensures.steps
 
-
 pub returns-in_default-key-clause-had : goal.returns-in_default-key-clause-had
 returns-in_default-key-clause-had g c =
     (one_yielded g.K.PartialEq.eq c.args.pairs.now c.loop-k.pairs c.next.new.self c.loop-k.invariant.0 (c.in-Some.k, c.in-Some.v) c.in-Some.ensures.steps).had
