@@ -1,0 +1,198 @@
+-- The exchange is one step, with the book, the gate, the writer and the update.
+use Rattle.std.proofs.Common.{ℕ, ◌^◌, List, [], ◌∷◌, sym, refl, ap, ◌∙◌, w64}
+use mir.Syntax.{a_type, dcons, dnil, named}
+use mir.Val.{Val, vint, vptr}
+use mir.MapTy.{inst_fn}
+use base.Logic.{SProp, wand, emp, via, apply∗}
+use base.Fml.{Share, Fml, ftrue, fsep, flft, fhide}
+use prog.Atomic.{either}
+use types.Kit.{‵, raw, ◌⊛◌, some, given, later, mean, at_ret, ◌$◌, ◌∵◌, !, qed, by, move, keep, drop, split, group}
+use types.Kit.{fsplit, fsplit3, fjoin, fjoin3, fpick, pick, learn, use0, use1, use2, use3, await, rewrite, feq_i, flt_i}
+use types.Run.{stop, addr, of_opd, no_more, and_then, first, blocks, exec, Calls-last, returns, enter}
+use types.ByLocal.{alloc_all, pass_all, free_all, look_at, get, through, sets, lands_last, env}
+use types.Tokens.{shr_bor-open, obor_close}
+use contract.Monad.{fact, fact_i}
+use contract.Running.{tables}
+use contract.Shared.{Lends-one}
+use denote.Exit.{yes}
+use denote.RattleType.{RattleType, owns}
+use denote.Signature.{types_at, plain}
+use denote.Builtin.{RefOf, u64, unit}
+use denote.Ref.{mut_vals, mut_Tells, shr_vals, shr_Tells}
+use denote.Plain.{uint_vals, uint_Tells}
+use denote.Memory.{hidden_shr}
+use denote.RawPtr.{block_ptr}
+use denote.Opens.{unhide}
+use denote.Steps.{nothing, opens, closes}
+use denote.Param.{param, bounded}
+use denote.Struct.Lending.{lent_out}
+use denote.Triple.Walked.{Stays, stay_dropped, stay_ref, walk_of, Goes-dropped, Goes-ref}
+use Rattle.std.specs.contracts.marker.PhantomData as marker
+use Rattle.std.specs.declared.option.Option.{Option}
+use Rattle.std.specs.declared.option.Option.TheVariants.{None}
+use Rattle.core.proofs.atomic.Steps.{tail}
+use Rattle.atomic_table.proofs.Walks.{proved}
+use Rattle.atomic_table.proofs.Calls.{fm, found, finds, exchanges}
+use Rattle.logbook.specs.Pages.{Book, View, no_nib, step}
+use Rattle.logbook.specs.Kept.{rules, seen_owns, pen_owns, offer_owns, offer}
+use Rattle.logbook.specs.contracts.tokens.Seen as Seen
+use Rattle.logbook.specs.contracts.tokens.Offer as Offer
+use Rattle.logbook.specs.contracts.word.Word as Word
+use Rattle.logbook.proofs.Steps as steps
+use Rattle.logbook.proofs.Fields.{Token, ends}
+use Rattle.papaya_gate.specs.Eras.{wrote}
+use Rattle.papaya_gate.specs.Kept.{eras_name, leave_name, inner_names, gated, gate_shares}
+use Rattle.papaya_gate.specs.contracts.rule.Gated as Gated
+use Rattle.papaya_gate.specs.contracts.rule.GatedRule.TheImpl as GatedRule
+use Rattle.papaya_gate.specs.contracts.gate.Gate as Gate
+use Rattle.papaya_gate.specs.contracts.gate.Writer as Writer
+use Rattle.papaya_gate.proofs.Gates as gates
+use Rattle.papaya_gate.proofs.Offers as offers
+use Rattle.papaya_gate.specs.contracts.steps.paid.{ended, clauses}
+use Rattle.papaya_gate.specs.contracts.steps.paid.Key.{name as #self}
+use Rattle.papaya_gate.proofs.steps.paid.Statement.{statement}
+use Rattle.papaya_gate.proofs.steps.paid.Code as code
+
+pub paid_spec : {M : Type 1} → statement M
+paid_spec 𝓤 𝓛 𝓜 𝓡 wired E A P N G _ _ _ _ _ g d h d' gn dn gg dg _ _ _ _ =
+    let H = 𝓛.H in let 𝓣 = tables 𝓤 H 𝓜 𝓡 𝓡.env in
+    let E' : RattleType = param 0 E in let A' : RattleType = param 1 A in let P' : RattleType = param 2 P in let N' : RattleType = param 3 N in
+    let G' : RattleType = param 4 G in let En = ended E A P N G g d h d' gn dn gg dg in
+    let inst = bounded (a_type ∷ a_type ∷ a_type ∷ a_type ∷ a_type ∷ []) (E, (A, (P, (N, (G, tt))))) (dcons d (dcons d' (dcons dn (dcons dg dnil)))) in
+    let fn = inst_fn inst code.function in let c = clauses E A P N G g d h d' gn dn gg dg 𝓛 𝓜.mem 𝓡.returns in let cv = E'.coded in
+    let Q' : RattleType = Gated.the_row P' in let gr = GatedRule.ghosts E' A' P' g GatedRule.no_dict h GatedRule.no_dict in
+    let W : RattleType = Word.the_row E' A' Q' gr in let S : RattleType = Seen.the_row E' A' Q' gr in let O : RattleType = Offer.the_row E' A' P' G' g gg in
+    let rule = rules g.holds g.shows (gated cv.code g.keeps h.tracks) in
+    let G₀ : RattleType = Gate.the_row in let R : RattleType = Writer.the_row E' in
+    let p0 = RefOf (0 ∷ []) tt (plain (λ _. G₀)) (λ _. tt) in let p2 = RefOf (2 ∷ []) tt (plain (λ _. W)) (λ _. tt) in
+    let hs : Stays En.signature.params En.kept = (
+      stay_dropped p0 yes,
+      (
+        stay_ref (1 ∷ []) tt (plain (λ _. R)),
+        (
+          stay_dropped p2 yes,
+          (stay_ref (3 ∷ []) tt (plain (λ _. S)), (stay_ref (4 ∷ []) tt (plain (λ _. O)), (stay_dropped (plain (λ _. u64)) yes, (stay_dropped (plain (λ _. u64)) yes, tt)))),
+        ),
+      ),
+    ) in
+    proved 𝓛 En hs c 𝓜 𝓡 (
+      Goes-dropped 𝓛 10 p0 yes (λ κs x f. refl),
+      (
+        Goes-ref 𝓛 10 1 tt (plain (λ _. R)),
+        (
+          Goes-dropped 𝓛 10 p2 yes (λ κs x f. refl),
+          (
+            Goes-ref 𝓛 10 3 tt (plain (λ _. S)),
+            (
+              Goes-ref 𝓛 10 4 tt (plain (λ _. O)),
+              (
+                Goes-dropped 𝓛 10 (plain (λ _. u64)) yes (λ κs x f. refl),
+                (Goes-dropped 𝓛 10 (plain (λ _. u64)) yes (λ κs x f. refl), tt),
+              ),
+            ),
+          ),
+        ),
+      ),
+    ) (#self inst) fn (code.unfolded 𝓤 H 𝓜 𝓡 wired (E, (A, (P, (N, (G, tt))))) d d' dn dg)
+    (λ κs. (shr_vals, (mut_vals, (shr_vals, (mut_vals, (mut_vals, (uint_vals w64, (uint_vals w64, tt))))))))
+    (λ κs. (
+      shr_Tells (named 0) κs.0 G₀,
+      (
+        mut_Tells (named 1) κs.1.0 R,
+        (
+          shr_Tells (named 2) κs.1.1.0 W,
+          (
+            mut_Tells (named 3) κs.1.1.1.0 S,
+            (mut_Tells (named 4) κs.1.1.1.1.0 O, (uint_Tells w64, (uint_Tells w64, tt))),
+          ),
+        ),
+      ),
+    )) (λ κs qs bounds a gh are.
+    let r = a.0.now in let w = a.1.0.now in let me = a.1.1.0.now in let seen = a.1.1.1.0.now in let up = a.1.1.1.1.0.now in
+    let old : ℕ = a.1.1.1.1.1.0 in let new : ℕ = a.1.1.1.1.1.1.0 in
+    let names : List ℕ = r.names in let γ : ℕ = eras_name names in let τ : ℕ = leave_name names in let inner : List ℕ = inner_names names in
+    let q0 : Val = vptr a.0.ref_ptr.0 a.0.ref_ptr.1 in let b₁ : ℕ = a.1.0.ref_ptr.0 in let o₁ : ℕ = a.1.0.ref_ptr.1 in
+    let b₂ : ℕ = a.1.1.0.ref_ptr.0 in let o₂ : ℕ = a.1.1.0.ref_ptr.1 in let b₃ : ℕ = a.1.1.1.0.ref_ptr.0 in let o₃ : ℕ = a.1.1.1.0.ref_ptr.1 in
+    let b₄ : ℕ = a.1.1.1.1.0.ref_ptr.0 in let o₄ : ℕ = a.1.1.1.1.0.ref_ptr.1 in
+    let B : Type 0 = Option A.Denot × List E.Denot in let v : View E.Denot B = (seen.log, (no_nib, None)) in
+    let f : ℕ → ℕ = λ n. either (lib.Dec.eqb n old) new n in
+    let said : ℕ → List E.Denot → List E.Denot → Option A.Denot → Type 0 = gn.then (step me.key old new up.ask) seen.log up.state in
+    let then : ℕ → View E.Denot B → Type 0 = offers.PaidThen g.holds g.shows h.tracks (g.moves up.ask) me.key up.state f said in
+    let y : (walk_of 𝓛 En hs c).Ghost = ((κs, qs, bounds, a, (q0 ∷ [], (vptr b₁ o₁ ∷ [], (vptr b₂ o₂ ∷ [], (vptr b₃ o₃ ∷ [], (vptr b₄ o₄ ∷ [], (vint w64 old ∷ [], (vint w64 new ∷ [], tt)))))))), gh) in let Post : Val → SProp 𝓤 = (walk_of 𝓛 En hs c).post y in
+    let toks : Fml = fsep (flft κs.0 qs.0) (fsep (flft κs.1.0 qs.1.0) (fsep (flft κs.1.1.0 qs.1.1.0) (fsep (flft κs.1.1.1.0 qs.1.1.1.0) (fsep (flft κs.1.1.1.1.0 qs.1.1.1.1.0) (fsep (flft κs.1.1.1.1.1.0 qs.1.1.1.1.1.0) (fsep (flft κs.1.1.1.1.1.1.0 qs.1.1.1.1.1.1.0) (fsep (flft κs.1.1.1.1.1.1.1.0 qs.1.1.1.1.1.1.1.0) (fsep (flft κs.1.1.1.1.1.1.1.1.0 qs.1.1.1.1.1.1.1.1.0) (fsep (flft κs.1.1.1.1.1.1.1.1.1.0 qs.1.1.1.1.1.1.1.1.1.0) ftrue))))))))) in
+    qed 𝓛 ((‵ toks ⊛ ‵ (owns (types_at En.signature.params κs) a y.0.4)) ∷ raw (fact 𝓤 _) ∷ raw (fact 𝓤 _) ∷ raw (fact 𝓤 _) ∷ raw (fact 𝓤 _) ∷ raw (fact 𝓤 _) ∷ given _ (‵ ftrue) ∷ []) ∵
+    keep ! (6 ∷ 0 ∷ []) $ learn ! (λ asked. drop ! $ split ! $
+    fsplit ! $ move ! (1 ∷ []) $ fsplit ! $ move ! (1 ∷ []) $ fsplit ! $ move ! (1 ∷ []) $ fsplit ! $ move ! (1 ∷ []) $ fsplit ! $ move ! (6 ∷ []) $
+    fsplit ! $ fsplit ! $ move ! (2 ∷ []) $ fsplit ! $ fsplit3 ! $ move ! (3 ∷ []) $ fsplit ! $ fsplit ! $ move ! (2 ∷ []) $
+    fsplit ! $ fsplit3 ! $ move ! (3 ∷ []) $ fsplit ! $ fsplit3 ! $
+    keep ! (1 ∷ 2 ∷ 5 ∷ 6 ∷ 8 ∷ 10 ∷ 11 ∷ 13 ∷ 14 ∷ 15 ∷ 16 ∷ 17 ∷ 18 ∷ 19 ∷ []) $
+    -- [the offer's reference; the sight's; the word, shared; the writer's reference; the gate, shared; the tokens of the offer, of the rest,
+    -- of the sight, of the word, of the writer and of the gate]
+    enter ! 𝓣.C 𝓣.Λ fn (q0 ∷ vptr b₁ o₁ ∷ vptr b₂ o₂ ∷ vptr b₃ o₃ ∷ vptr b₄ o₄ ∷ vint w64 old ∷ vint w64 new ∷ []) Post $
+    alloc_all ! (λ l. pass_all ! refl (
+      (tt, tt),
+      (
+        (tt, tt),
+        (
+          (tt, tt),
+          (
+            (tt, tt),
+            (
+              (tt, tt),
+              ((tt, record { fits = are.1.1.1.1.1.0.1 }), ((tt, record { fits = are.1.1.1.1.1.1.0.1 }), tt)),
+            ),
+          ),
+        ),
+      ),
+    ) $ let Ev = env fn.locals l in
+    move ! (7 ∷ []) $
+    use1 𝓛 (‵ (hidden_shr (Token unit) κs.0 (record {}, tt) a.0.ref_ptr.0 a.0.ref_ptr.1) ⊛ ‵ (fhide (gate_shares names r.era κs.0)))
+    (lent_out 𝓛 Gate.struct (Gate.the_codes (marker.the_row unit).coded) Gate.the_heap Gate.the_lent κs.0 r a.0.ref_ptr.0 a.0.ref_ptr.1) $ split ! $ drop ! $ unhide ! $
+    move ! (0 ∷ 13 ∷ []) $ shr_bor-open ! tt (gates.gate_halves 𝓛 γ τ r.era) (λ q.
+    move ! (6 ∷ []) $ unhide ! $ fpick ! (λ t. fsplit3 ! $ move ! (1 ∷ []) $ fpick ! (λ past. drop ! $ move ! (0 ∷ 13 ∷ []) $
+    use2 𝓛 (later (some (λ (s : Share). ‵ (flft t.0 s) ⊛ raw (wand 𝓤 (𝓛.A.lft t.0 s) (H.⇛ (𝓛.A.lft κs.1.1.0 qs.1.1.0)))))) (Lends-one 𝓛 𝓜 𝓡 κs.1.1.0 t.0 qs.1.1.0) $ await ! tt $
+    pick ! (λ s. split ! $
+    -- [the word's token and the way back; its name; the gate's loan and share; the offer's reference; the sight's; the writer's; the tokens]
+    move ! (7 ∷ 8 ∷ 13 ∷ []) $ opens ! tt S b₃ o₃ (λ vs3. move ! (1 ∷ []) $ fsplit ! $ move ! (1 ∷ []) $
+    rewrite ! 0 (λ (z : Book × List ℕ). ‵ (seen_owns cv.code rule z.0 z.1 seen.log)) (λ i. (asked.3 i, asked.1 i)) refl $
+    move ! (11 ∷ 12 ∷ 15 ∷ []) $ opens ! tt O b₄ o₄ (λ vs4. move ! (1 ∷ []) $ fsplit ! $ move ! (1 ∷ []) $
+    rewrite ! 0 (λ (z : List ℕ). ‵ (offer_owns (g.keeps z) (g.moves up.ask) (gg.after z up.about) up.state)) (asked.4 ∙ ap inner_names asked.1) refl $
+    move ! (17 ∷ 18 ∷ 20 ∷ []) $ opens ! tt R b₁ o₁ (λ vs1. move ! (1 ∷ []) $ fsplit ! $ move ! (1 ∷ []) $
+    let moves = offers.Paying h.tracks (g.moves up.ask) up.state in
+    let gain : B → Fml = offers.paid_gain 𝓛 cv (g.keeps inner) h.tracks (g.moves up.ask) (gg.after inner up.about) γ τ up.state r.era w.author q in
+    let V : Option B → Fml = offer_owns (rule.keeps names) moves gain in
+    move ! (6 ∷ 22 ∷ 0 ∷ []) $ use3 𝓛 (‵ (offer (rule.keeps names) moves gain))
+    (offers.pays 𝓛 cv (g.keeps inner) h.tracks (g.moves up.ask) (gg.after inner up.about) γ τ up.state r.era w.author q asked.0) $
+    use0 𝓛 (‵ (pen_owns me.book no_nib)) (steps.no_right_held 𝓛 me.book) $
+    let law = offers.paid_moves g.holds g.shows h.tracks (g.moves up.ask) me.key up.state f seen.log said asked.5 in
+    let out : ℕ → Fml = λ n. fsep (flft t.0 s) (steps.after 𝓛 cv rule me.book names gr.hinted me.tracked me.key b₂ o₂ t.0 s t.1 moves gain v f then n) in
+    first ! $ blocks ! $ sets ! (addr ! (through ! refl (stop !))) refl (tt, tt) $ sets ! (of_opd ! (get ! refl)) refl (tt, tt) $
+    move ! (12 ∷ 0 ∷ 1 ∷ []) $ group ! 3 $ move ! (18 ∷ 16 ∷ 0 ∷ []) $
+    use3 𝓛 (raw (𝓣.C _ (vptr b₂ o₂ ∷ vint w64 old ∷ vint w64 new ∷ []) (λ u. mean 𝓛 (found out u))))
+    (via 𝓤 _ (steps.steps 𝓛 cv rule me.book names gr.hinted me.tracked me.key b₂ o₂ t.0 s t.1 moves gain v f then asked.2 past law)
+    (exchanges 𝓛 𝓜 𝓡 (code.calls-atomic_table::exchange 𝓡.env wired) (block_ptr b₂ o₂) old new are.1.1.1.1.1.0.1 are.1.1.1.1.1.1.0.1 out)) $
+    Calls-last ! (fm 𝓛 𝓜 𝓡) (found out) (and_then ! (get ! refl) (and_then ! (get ! refl) (and_then ! (get ! refl) (no_more !)))) (λ u.
+    finds ! out (λ n fits. lands_last ! refl (tt, record { fits = fits }) $ exec ! 𝓣.C 𝓣.Λ Ev (tail fn.body) (at_ret Ev Post) $
+    sets ! (of_opd ! (get ! refl)) refl (tt, record { fits = fits }) $
+    fsplit ! $ move ! (0 ∷ 17 ∷ []) $ use2 𝓛 (later (‵ (flft κs.1.1.0 qs.1.1.0))) (apply∗ 𝓤 (𝓛.A.lft t.0 s) (H.⇛ (𝓛.A.lft κs.1.1.0 qs.1.1.0))) $ await ! tt $
+    move ! (1 ∷ []) $ fpick ! (λ u'. fsplit ! $ fpick ! (λ so. drop ! $ fsplit3 ! $
+    move ! (1 ∷ []) $ drop ! $ move ! (1 ∷ []) $ rewrite ! 0 (λ (x : Option B). ‵ (V x)) so.1.1 refl $ fsplit3 ! $
+    -- [the update; the gate's share; the writer; the sight; the word's token; the writer's field, its cell and three entries; the offer's;
+    -- the sight's; the gate's loan; the other tokens]
+    move ! (20 ∷ 1 ∷ []) $ obor_close ! tt $ drop ! $
+    let seen' : S.Denot = record { marker = record {}; book = me.book; names = names; log = u'.0 } in
+    let up' : O.Denot = record { marker = record {}; names = inner; ask = up.ask; about = up.about; state = so.1.0.0 } in
+    let w' : R.Denot = record { marker = record {}; author = wrote r.era w.author so.1.0.1 } in
+    move ! (10 ∷ 1 ∷ []) $ fjoin ! $ move ! (10 ∷ 0 ∷ 11 ∷ 12 ∷ 13 ∷ []) $ closes ! tt O up' vs4 b₄ o₄ $
+    move ! (12 ∷ 5 ∷ []) $ fjoin ! $ move ! (12 ∷ 0 ∷ 13 ∷ 14 ∷ 15 ∷ []) $ closes ! tt S seen' vs3 b₃ o₃ $
+    move ! (9 ∷ 7 ∷ []) $ fjoin ! $ move ! (9 ∷ 0 ∷ 10 ∷ 11 ∷ 12 ∷ []) $ closes ! tt R w' vs1 b₁ o₁ $
+    flt_i ! n (2 ^ 64) fits $ feq_i ! (List Val) (vint w64 n ∷ []) (vint w64 n ∷ []) refl $ fjoin ! $
+    -- [the result; the writer's reference and token; the sight's; the offer's; the tokens of the gate, of the word and of the rest]
+    move ! (9 ∷ 12 ∷ []) $ fjoin ! $ move ! (7 ∷ 0 ∷ []) $ fjoin ! $ move ! (10 ∷ 0 ∷ []) $ fjoin ! $ move ! (4 ∷ 0 ∷ []) $ fjoin ! $ move ! (8 ∷ 0 ∷ []) $ fjoin ! $
+    nothing ! $ nothing ! $ fjoin ! $ nothing ! $ fjoin ! $
+    feq_i ! (List Val) (vptr b₄ o₄ ∷ []) (vptr b₄ o₄ ∷ []) refl $ move ! (0 ∷ 8 ∷ 9 ∷ []) $ fjoin3 ! $ fjoin ! $
+    feq_i ! (List Val) (vptr b₃ o₃ ∷ []) (vptr b₃ o₃ ∷ []) refl $ move ! (0 ∷ 6 ∷ 7 ∷ []) $ fjoin3 ! $ fjoin ! $ nothing ! $ fjoin ! $
+    feq_i ! (List Val) (vptr b₁ o₁ ∷ []) (vptr b₁ o₁ ∷ []) refl $ move ! (0 ∷ 4 ∷ 5 ∷ []) $ fjoin3 ! $ fjoin ! $ nothing ! $ fjoin ! $
+    returns ! (look_at ! 0 refl) $ free_all ! refl $ keep ! (1 ∷ 0 ∷ 2 ∷ []) $
+    by ! (ends 𝓛 En hs c y (vint w64 n) n (tt, (w', (tt, (seen', (up', (tt, (tt, tt))))))) (tt, (tt, (tt, (tt, (tt, (tt, (tt, tt)))))))
+    (fact_i 𝓤 _ (emp 𝓤) (sym asked.3, sym asked.1, sym (asked.4 ∙ ap inner_names asked.1), refl, refl, so.0, (so.1.0.1, refl, so.1.2))))))))))))))))))

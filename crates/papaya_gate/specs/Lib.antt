@@ -1,0 +1,3 @@
+pub mod Eras
+pub mod Kept
+pub mod Paid
