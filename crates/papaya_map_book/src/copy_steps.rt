@@ -21,6 +21,7 @@ use crate::window::Window;
 use boxcar::Pushed;
 use logbook::Pen;
 use papaya_call::ask::{At, StepKind};
+use papaya_gate::steps::load;
 use papaya_words::refused::Refused;
 use std::alloc::Global;
 use std::hash::{BuildHasher, Hash};
@@ -37,9 +38,7 @@ impl<'a, K: Hash + Eq, V, S: BuildHasher> Window<'a, K, V, S> {
         self.sight.learn(&self.book.begun);
         let wanted = Wanted { number };
         let mut offer = offer::bare::<K, V, S, Wanted, Fetch>(&self.sight, &wanted);
-        self.book
-            .root
-            .load::<Fetch, Found<K, V>>(&mut self.sight, &mut offer);
+        load::<_, _, _, Fetch, Found<K, V>>(&self.book.root, &mut self.sight, &mut offer);
         let known = offer::table_known(offer.into_gain());
         let token = token(known, (number - 1) as usize);
         self.book.parts.tables.value(&token)
@@ -101,7 +100,7 @@ impl<'a, K: Hash + Eq, V, S: BuildHasher> Window<'a, K, V, S> {
         let (old, new) = words;
         let (found, offer) = self
             .book
-            .exchange(table.slot(place), &wish, old, new, &mut self.sight);
+            .remove(table.slot(place), &wish, old, new, &mut self.sight);
         (found, pair_in(found, offer))
     }
 

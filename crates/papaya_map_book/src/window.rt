@@ -267,7 +267,7 @@ impl<'a, K: Hash + Eq, V, S: BuildHasher> Window<'a, K, V, S> {
         let (old, new) = words;
         let (found, offer) = self
             .book
-            .exchange(table.slot(place), &wish, old, new, &mut self.sight);
+            .remove(table.slot(place), &wish, old, new, &mut self.sight);
         self.keep(found == old);
         (found, pair_in(found, offer))
     }
