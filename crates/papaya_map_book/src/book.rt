@@ -35,7 +35,8 @@ use std::hash::{BuildHasher, Hash};
 
 /// The state that all callers of a map share: its parts, the root, the word that only makers of
 /// tables use, and the word that counts numbers for pairs. `origin` has observed the first entry of
-/// the log alone, and `begun` also the book's name. The gate is open.
+/// the log alone, and `begun` also the book's name. While the gate is open, anyone may change the map;
+/// when it is closed, nobody does, and all else goes on.
 pub struct Book<K: Hash + Eq, V, S: BuildHasher> {
     pub parts: Parts<K, V, S>,
     pub root: Cell<K, V, S>,
@@ -51,7 +52,6 @@ pub struct Book<K: Hash + Eq, V, S: BuildHasher> {
     ghost begins: { first_in begun.log ≡ Some (Begin (begun_of parts)) },
     ghost called: { name_in begun.log ≡ Some begun.book },
     ghost gate_is: { gate.names ≡ begun.names },
-    ghost open: { gate.era ≡ None },
     ghost origin_book: { origin.book ≡ begun.book },
     ghost origin_log: { origin.log ≡ Begin (begun_of parts) ∷ [] },
 }
@@ -135,6 +135,7 @@ impl<K: Hash + Eq, V, S: BuildHasher> Book<K, V, S> {
         sight: &mut Seen<K, V, S>,
     ) -> (u64, Offer<K, V, S>)
         requires book { sight.old.book ≡ self.now.begun.book }
+        requires open { self.now.gate.era ≡ None }
         requires word { word.now ≡ word_named self.now.begun.book word.now.key }
         requires key { key_at (steps_of sight.old.log) wish.now.at ≡ Some word.now.key }
         requires can { CanTry ⟦<S as Keyed<K>>⟧.keys self.now wish.now old new sight.old.log }
@@ -170,6 +171,7 @@ impl<K: Hash + Eq, V, S: BuildHasher> Book<K, V, S> {
         sight: &mut Seen<K, V, S>,
     ) -> (u64, Offer<K, V, S>)
         requires book { sight.old.book ≡ self.now.begun.book }
+        requires open { self.now.gate.era ≡ None }
         requires word { word.now ≡ word_named self.now.begun.book word.now.key }
         requires key { key_at (steps_of sight.old.log) wish.now.at ≡ Some word.now.key }
         requires placed { IsIn self.now (PairNamed wish.now.made.now) }

@@ -3,6 +3,7 @@ ghost use Rattle.std.specs.Prelude.{◌≡◌, ◌<◌, ◌≤◌, ◌+◌, ◌�
 ghost use Rattle.papaya_call.specs.Search.{IsSize};
 ghost use Rattle.papaya_call.specs.declared.ask.At.TheVariants.{Aborted, Done, Root, Slot};
 ghost use Rattle.papaya_map_book.specs.Books.{Seals};
+ghost use Rattle.papaya_map_book.specs.Changes.{ChangesNothing};
 ghost use Rattle.papaya_map_book.specs.Limits.{IsFull};
 ghost use Rattle.papaya_map_book.specs.Windows.{CanCopy, CanLink, CopiesSlot, CopiesWord, HasCome, IsIn, IsMade, IsTable, IsWord, Links, Observes};
 ghost use Rattle.papaya_map_book.specs.Logs.{pair_named};
@@ -86,6 +87,7 @@ impl<'a, K: Hash + Eq, V, S: BuildHasher> Window<'a, K, V, S> {
     ) -> (u64, Option<Stored<K, V>>)
         requires table { IsTable self.old number table.now }
         requires place { place < length table.now.slots }
+        requires leaves { ChangesNothing (Slot number place) kind }
         requires can { CanCopy self.old (Slot number place) kind kept.now words }
         ensures sees { Observes self.old self.new }
         ensures tried { CopiesSlot self.old self.new number place kind kept.now words result.0
@@ -100,7 +102,7 @@ impl<'a, K: Hash + Eq, V, S: BuildHasher> Window<'a, K, V, S> {
         let (old, new) = words;
         let (found, offer) = self
             .book
-            .remove(table.slot(place), &wish, old, new, &mut self.sight);
+            .exchange(table.slot(place), &wish, old, new, &mut self.sight);
         (found, pair_in(found, offer))
     }
 

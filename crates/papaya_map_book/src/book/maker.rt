@@ -6,7 +6,7 @@
 //! that opens or links the table. The log records the seal for which each word was dealt, so no two
 //! tables that have come share a word.
 ghost use Rattle.papaya_map_book.specs.Books.{Brings, CanBring, IsIn, IsLeft, Seals};
-ghost use Rattle.std.specs.Prelude.{◌≡◌, ◌≢◌, ◌+◌, ◌-◌, ◌<◌, ◌==◌, false, Some, IfOk, IfErr, IfSome};
+ghost use Rattle.std.specs.Prelude.{◌≡◌, ◌≢◌, ◌+◌, ◌-◌, ◌<◌, ◌==◌, false, None, Some, IfOk, IfErr, IfSome};
 ghost use mathlib.Core.List.{IsPrefix};
 ghost use Rattle.logbook.specs.Pages.{nib, may_write};
 ghost use Rattle.papaya_words.specs.Mode.{IsChunked};
@@ -38,7 +38,7 @@ impl<K: Hash + Eq, V, S: BuildHasher> Book<K, V, S> {
     /// could give it.
     pub fn begin(parts: Parts<K, V, S>) -> Result<Book<K, V, S>, Parts<K, V, S>>
         requires { IsChunked parts.mode }
-        ensures ok { IfOk result (λ book. book.parts ≡ parts) }
+        ensures ok { IfOk result (λ book. (book.parts ≡ parts) × (book.gate.era ≡ None)) }
         ensures err { IfErr result (λ back. back ≡ parts) }
     {
         let (start, gate) = Gate::begin(offer::begin(&parts));

@@ -19,7 +19,7 @@ paid-found-requires g c =
     let at = c.args.wish.now.at in let w = c.args.self.now in let v = c.align.new.sight.log in let b = begun_of w.parts in
     let same = sym c.align.ensures.1 in let pre = subst (IsPrefix c.args.sight.now.log) same c.learn.ensures.2 in
     let learned = subst (IsPrefix w.begun.log) same c.learn.ensures.3 in (
-      subst (λ (e : _). MayAdd e c.nobody-writer.result.author) (sym w.open) tt,
+      subst (λ (e : _). MayAdd e c.nobody-writer.result.author) (sym c.requires.open) tt,
       c.align.ensures.0 ∙ sym w.gate_is,
       ap (λ w. w.tracked) word,
       c.align.ensures.2 ∙ (c.learn.ensures.0 ∙ (c.requires.book ∙ sym (ap (λ w. w.book) word))),
