@@ -1,6 +1,7 @@
 mod CacheLemmas
 mod CounterLemmas
 mod HitLemmas
+mod JobLemmas
 mod LimitLemmas
 mod LoginLemmas
 mod MetricLemmas

@@ -2,6 +2,7 @@ pub mod Answers
 pub mod Cache
 pub mod Counters
 pub mod Hits
+pub mod Jobs
 pub mod Logins
 pub mod Metrics
 pub mod Routes
