@@ -16,6 +16,7 @@ mod inserting;
 mod lookups;
 pub mod making;
 mod observed;
+pub mod read_only;
 mod removals;
 mod resizing;
 mod scans;
