@@ -33,7 +33,7 @@ pub use papaya_map::session::Session;
 pub use papaya_map_scan::walk::{Iter, Keys, Values};
 pub use papaya_reclaiming::reclaiming::{Reclaiming, ReclaimingMap, ReclaimingSet};
 pub use papaya_set::builder::HashSetBuilder;
-pub use papaya_set::read_only::ReadOnlySet;
+pub use papaya_set::set::read_only::ReadOnlySet;
 pub use papaya_set::set::{HashSet, HashSetRef};
 pub use papaya_words::refused::Refused;
 pub use papaya_words::resize_mode::ResizeMode;

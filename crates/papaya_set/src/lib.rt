@@ -3,7 +3,7 @@
 //! `papaya_json` and `papaya_reclaiming` build on it, and `papaya` re-exports it.
 //!
 //! [`set`] has the set that threads share, [`pinned`] its calls, and [`guarded`] those with a
-//! guard; [`builder`] has its builder, and [`read_only`] the set that nobody changes any more.
+//! guard; [`builder`] has its builder, and [`set::read_only`] the set that nobody changes.
 //! [`seq`] is the set for one caller. Each call passes on to the map's.
 #![tactic(auto)]
 
@@ -15,7 +15,6 @@ pub mod guarded;
 pub mod iter;
 pub mod pinned;
 mod printing;
-pub mod read_only;
 pub mod seq;
 pub mod set;
 pub mod walks;

@@ -37,6 +37,6 @@ pub returns-in-Err-clause-alone : goal.returns-in-Err-clause-alone
 returns-in-Err-clause-alone g c =
     let matches = g.Q.Equivalent.matches c.args.key.now in
     subst (λ (s : MapState _ _ _).
-    IsRemovalAlone {R = Bool} g.K.PartialEq.eq (hash g) matches s (Err c.in-Err.refused) c.remove.follows.lender-at-none) c.self.view_is
+    IsRemovalAlone g.K.PartialEq.eq (hash g) {R = Bool} matches s (Err c.in-Err.refused) c.remove.follows.lender-at-none) c.self.view_is
     (removal_as_refused g.K.PartialEq.eq (hash g) matches c.self.inside.map c.remove.follows.lender-at-none (old_answered c.remove.result)
     c.remove.follows.holds-at-none.1 c.in-Err.refused (ap old_answered c.in-Err.is))
