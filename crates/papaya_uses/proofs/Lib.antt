@@ -5,6 +5,7 @@ mod JobLemmas
 mod LimitLemmas
 mod LoginLemmas
 mod MetricLemmas
+mod PriceLemmas
 mod PutLemmas
 mod Said
 mod SeenLemmas

@@ -5,6 +5,7 @@ pub mod Hits
 pub mod Jobs
 pub mod Logins
 pub mod Metrics
+pub mod Prices
 pub mod Routes
 pub mod Seen
 pub mod Sessions
