@@ -1,12 +1,12 @@
 -- A report is read after it by a session that has observed it, unless a change took the reported entry out.
 use Rattle.std.proofs.Common.{◌≡◌, ◌==◌, ◌⊎◌, ℕ, Bool, true, false, Option, None, Some, List, [], ◌∷◌, ◌++◌, inl, inr, ⊎_elim, refl, sym, ap, ◌∙◌, append_assoc, subst}
-use Rattle.std.proofs.lemmas.Bool.{cases_Bool, cond-false, cond-true, eq-eqb, eqb-true}
+use Rattle.std.proofs.lemmas.Bool.{cases_Bool, cond-false, eq-eqb, eqb-true}
 use Rattle.std.specs.Prelude.{is_some, option_map}
 use Rattle.std.specs.Borrow.{Bor}
 use mathlib.Core.List.{IsPrefix}
 use Rattle.papaya.specs.Types.{Refused}
 use Rattle.papaya.specs.Threads.{AllLegalChanges, Change, IsAnsweredBetween, IsLegalHistory, IsPlainRefusal, IsPut, IsWriteRefusal, Stored, WasTakenOut, changed, key_of, replay, replay_from}
-use Rattle.papaya_uses.specs.Jobs.{HasReported, IsPassedOn, IsReadAfter, Seen, entry_of}
+use Rattle.papaya_uses.specs.Jobs.{HasReported, IsReadAfter, Seen, entry_of}
 use Rattle.papaya_uses.proofs.MetricLemmas.{seen_on}
 
 -- why an insertion is refused, as far as a caller knows who does not see the session
@@ -96,13 +96,6 @@ reported job outcome old new before put =
       outcome_is = value_is;
     }
 
--- after a report the job has the entry that was put in
-has_entry : (job outcome : ℕ) (old new : Seen) (r : HasReported job outcome old new) → entry_of job new ≡ Some r.entry
-has_entry job outcome old new r =
-    ap (λ (h : Seen). entry_of job h) r.is
-    ∙ (replay_on (λ z. None) r.before (r.change ∷ []) job
-    ∙ (cond-true (job == r.change.class) r.change.put (replay same r.before job) (eq-eqb job r.change.class (sym r.class_is)) ∙ r.put_is))
-
 -- the outcome that a lookup found
 found_at : (job : ℕ) (both new : Seen) (found : Option (Bor ℕ)) (a : IsAnsweredBetween (λ a b. a == b) (λ key. job == key) both new found)
     → option_map (λ (p : Entry). p.value.value) (entry_of job a.seen) ≡ option_map (λ (v : Bor ℕ). v.now) found
@@ -131,33 +124,3 @@ read_after job worker old both new found read first second legal a copied =
           (λ still. inl (sym is ∙ ap (λ (z : Option Entry). option_map (λ (q : Entry). q.value.value) z) still))
           (out_or_still worker a.seen since lawful job p has);
     }
-
--- a lookup finds what was reported after the reader and the worker had met first, and then met again
-pub passed_on : (job outcome : ℕ) (old met worker new : Seen) (read : Option ℕ) → IsPrefix old met → HasReported job outcome met worker
-    → IsReadAfter job worker met new read → IsPassedOn job outcome old new read
-passed_on job outcome old met worker new read pre r after = record {
-  worker = worker;
-  reported = record {
-    before = r.before;
-    change = r.change;
-    entry = r.entry;
-    since = seen_on old met r.before pre r.since;
-    is = r.is;
-    class_is = r.class_is;
-    put_is = r.put_is;
-    outcome_is = r.outcome_is;
-  };
-  read_after = record {
-    seen = after.seen;
-    since_worker = after.since_worker;
-    since_reader = seen_on old met after.seen pre after.since_reader;
-    until = after.until;
-    read_is = after.read_is;
-    stays = after.stays;
-  };
-  stays =
-      ⊎_elim
-      (λ there. inl (there ∙ ap (λ (n : ℕ). Some n) r.outcome_is))
-      (λ out. inr out)
-      (after.stays r.entry (has_entry job outcome met worker r));
-}

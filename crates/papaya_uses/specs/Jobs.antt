@@ -36,13 +36,3 @@ pub record IsReadAfter (job : ℕ) (worker old new : Seen) (read : Option ℕ) :
   pub read_is : option_map (λ p. p.value.value) (entry_of job seen) ≡ read
   pub stays : (p : Stored ℕ ℕ) → entry_of job worker ≡ Some p
       → (read ≡ Some p.value.value) ⊎ WasTakenOut worker seen p
-
--- After the history `old`, which the reader had observed before the call, a change gave the job
--- this outcome. It is the last change of the history `worker`. The reader's result is the outcome
--- that the job had at some later point, or `None`. It is the reported outcome, unless a change in
--- between took the reported entry out.
-pub record IsPassedOn (job outcome : ℕ) (old new : Seen) (read : Option ℕ) : Type 0 where
-  pub worker : Seen
-  pub reported : HasReported job outcome old worker
-  pub read_after : IsReadAfter job worker old new read
-  pub stays : (read ≡ Some outcome) ⊎ WasTakenOut worker read_after.seen reported.entry

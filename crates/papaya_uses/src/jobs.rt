@@ -6,12 +6,11 @@
 ghost use Rattle.std.specs.Prelude.{◌≡◌, IfErr, IfOk, true};
 ghost use mathlib.Core.List.{IsPrefix};
 ghost use Rattle.papaya.specs.Threads.{IsPlainRefusal, Makes};
-ghost use Rattle.papaya_uses.specs.Jobs.{HasReported, IsPassedOn, IsReadAfter};
+ghost use Rattle.papaya_uses.specs.Jobs.{HasReported, IsReadAfter};
 
 use papaya::{HashMap, Refused, Session};
 use std::hash::{BuildHasherDefault, FoldHasher};
 use std::sync::Wait;
-use std::thread::{Threads, join};
 
 /// The outcome of each job, by the jobs' numbers.
 pub type Outcomes = HashMap<u64, u64, BuildHasherDefault<FoldHasher>>;
@@ -58,29 +57,4 @@ pub fn outcome_after(
     let found = reader.get(&job);
     reader.legal();
     found.copied()
-}
-
-/// Lets another thread report the outcome of a job, and then reads the outcome in this thread.
-///
-/// # Errors
-///
-/// Fails with `Refused::Memory`, `Refused::Capacity` or `Refused::Limit`, as [`report`] does. Then
-/// nothing was reported.
-pub fn report_and_read<R: Threads + Wait + Sync>(
-    rt: &R,
-    reader: &mut Session<'_, u64, u64>,
-    job: u64,
-    outcome: u64,
-) -> Result<Option<u64>, Refused>
-    ensures map { reader.new.map ≡ reader.old.map }
-    ensures seen { IsPrefix reader.old.history reader.new.history }
-    ensures read { IfOk result (IsPassedOn job outcome reader.old.history reader.new.history) }
-    ensures made { reader.new.made ≡ reader.old.made }
-    ensures refused { IfErr result (IsPlainRefusal reader.old.map.begun.limit) }
-{
-    let mut worker = Session::new(reader.map());
-    worker.meet(reader);
-    let (reported, _) = join(rt, move || report(rt, worker, job, outcome), || ());
-    let mut after = reported?;
-    Ok(outcome_after(reader, &mut after, job))
 }

@@ -4,7 +4,7 @@ use papaya::seq::HashMap;
 use papaya::{Refused, Session};
 use papaya_uses::counters::{Counters, add};
 use papaya_uses::hits::{Hits, forget_below, hit, reads, total};
-use papaya_uses::jobs::{Outcomes, outcome_after, report, report_and_read};
+use papaya_uses::jobs::{Outcomes, outcome_after, report};
 use papaya_uses::seen::{Finder, Items};
 use papaya_uses::sessions::{Users, sign_in, sign_out, user_of};
 use papaya_uses::settings::{Settings, set_and_read};
@@ -209,11 +209,26 @@ fn reads_each(
     Ok((reported, replaced, outcome_after(reader, &mut third, 3)))
 }
 
+/// Lets another thread report an outcome, and then reads it in this thread.
+fn report_and_read(
+    rt: &(impl Threads + Wait + Sync),
+    outcomes: &Outcomes,
+    reader: &mut Session<'_, u64, u64>,
+    job: u64,
+    outcome: u64,
+) -> Result<Option<u64>, Refused> {
+    let mut worker = Session::new(outcomes);
+    worker.meet(reader);
+    let (reported, _) = join(rt, move || report(rt, worker, job, outcome), || ());
+    let mut after = reported?;
+    Ok(outcome_after(reader, &mut after, job))
+}
+
 /// Lets other threads report outcomes, and reads them in this thread.
 fn passes_on(rt: &(impl Threads + Wait + Sync + Abort), outcomes: &Outcomes) {
     let mut reader = Session::new(outcomes);
     for outcome in 0..100u64 {
-        let read = report_and_read(rt, &mut reader, 1, outcome);
+        let read = report_and_read(rt, outcomes, &mut reader, 1, outcome);
         is(rt, read, Ok(Some(outcome)));
     }
     let read = reads_after_a_scope(rt, outcomes, &mut reader, 2, 20);
