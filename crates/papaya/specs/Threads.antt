@@ -26,3 +26,6 @@ pub use Rattle.papaya_map.specs.Storing.{stored as stored_by}
 pub use Rattle.papaya_map_change.specs.RemovalAnswers.{IsEntryRemoved}
 pub use Rattle.papaya_map_book.specs.Limits.{HasNoRoom}
 pub use Rattle.papaya_map_change.specs.Resizing.{HasNoRoomAhead, HasRoomAhead}
+-- what a read-only map has, and what its lookups and iterations return
+pub use Rattle.papaya_map.specs.Frozen.{Finds, FindsEntry, FindsKey, FindsStored, FindsValue, Frozen, HasEntry, HasNone}
+pub use Rattle.papaya_map.specs.FrozenWalks.{FrozenWalk, HasAll, Yields, YieldsKey, YieldsValue}

@@ -10,6 +10,8 @@
 //!   [`Pass`], the record of what one thread has observed.
 //! - [`HashMap::builder`] returns a [`HashMapBuilder`], which has a method for each setting of a
 //!   map.
+//! - [`HashMap::into_read_only`] returns a [`ReadOnly`], which threads can only read, and
+//!   [`HashSet::into_read_only`] a [`ReadOnlySet`].
 //! - [`ReclaimingMap`] and [`ReclaimingSet`] give back memory while threads go on.
 //! - [`HashSet`] is the set that threads share, with its [`HashSetRef`] and its [`HashSetBuilder`].
 //! - [`seq::HashMap`] is the map for one caller: changes take `&mut self`. [`seq::HashSet`] is the
@@ -24,12 +26,14 @@
 
 pub use papaya_call::answers::Operation;
 pub use papaya_map::builder::HashMapBuilder;
+pub use papaya_map::map::read_only::ReadOnly;
 pub use papaya_map::map::{HashMap, HashMapRef};
 pub use papaya_map::pass::Pass;
 pub use papaya_map::session::Session;
 pub use papaya_map_scan::walk::{Iter, Keys, Values};
 pub use papaya_reclaiming::reclaiming::{Reclaiming, ReclaimingMap, ReclaimingSet};
 pub use papaya_set::builder::HashSetBuilder;
+pub use papaya_set::set::read_only::ReadOnlySet;
 pub use papaya_set::set::{HashSet, HashSetRef};
 pub use papaya_words::refused::Refused;
 pub use papaya_words::resize_mode::ResizeMode;
@@ -40,6 +44,11 @@ pub use papaya_words_keys::results::{Compute, NotInserted, OccupiedError};
 pub mod reclaiming {
     pub use papaya_reclaiming::reclaim::Reclaim;
     pub use papaya_reclaiming::reclaiming::{Entered, Handle, LEAST_STORED};
+}
+
+/// The iterators of a read-only map.
+pub mod read_only {
+    pub use papaya_map::map::read_only::walks::{Iter, Keys, Values};
 }
 
 /// The iterator of the set that threads share.

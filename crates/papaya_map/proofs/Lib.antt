@@ -11,6 +11,9 @@ pub mod Cleared
 mod OwnEntries
 -- which lifetimes are within those of a book's entries
 mod Lives
+-- the whole history of a read-only map, and iterations over it
+mod Frozen
+mod FrozenWalks
 -- a result with its evidence; the run of a call that passes it on; and how that call meets its
 -- contract
 pub mod Earlier

@@ -13,3 +13,6 @@ pub mod Collected
 pub mod Limited
 -- A session as contracts see it.
 pub mod Known
+-- A read-only map as contracts see it, and the results of its lookups and iterations.
+pub mod Frozen
+pub mod FrozenWalks

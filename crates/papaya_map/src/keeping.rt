@@ -6,7 +6,7 @@ ghost use Rattle.std.specs.Prelude.{◌≡◌, None, Err};
 ghost use Rattle.std.specs.Int.{IsPowerOfTwo};
 ghost use Rattle.papaya_map_book.specs.Books.{IsIn};
 ghost use Rattle.papaya_map_book.specs.Logs.{pair_named};
-ghost use Rattle.papaya_map_book.specs.Windows.{IsLawful};
+ghost use Rattle.papaya_map_book.specs.Windows.{IsLawful, IsOpen};
 ghost use Rattle.papaya_map_change.specs.ClosureCalls.{Operates};
 ghost use Rattle.papaya_map_change.specs.Window.Ends.{Ends, HasCause};
 ghost use Rattle.papaya_map_compute.specs.FastPath.{ComesTo, IsOnItsWay};
@@ -78,6 +78,7 @@ fn compute_fast<
 ) -> Attempt<Start<K, V>, Result<Compute<'a, K, V, T>, Refused>>
     requires callable { F.IsAlwaysCallable f.old }
     requires lawful { IsLawful window.old }
+    requires open { IsOpen window.old }
     ensures callable { F.IsAlwaysCallable f.new }
     ensures comes { ComesTo changes (IsComputeBy K.eq key (past window.old) (past window.new)
         (Operates F.FnMut) f.old) (IsOnItsWay window.old window.new key (Operates F.FnMut) f.old
@@ -122,6 +123,7 @@ fn compute_slow<
     f: &mut F,
 ) -> Result<Compute<'a, K, V, T>, Refused>
     requires callable { F.IsAlwaysCallable f.old }
+    requires open { IsOpen window.old }
     requires initial { IsPowerOfTwo means.now.initial }
     requires can { (since : _) × (key : K) × (first : F) × IsOnItsWay since window.old key
         (Operates F.FnMut) first f.old start }
@@ -173,6 +175,7 @@ pub fn compute<
     mut f: F,
 ) -> Result<Compute<'a, K, V, T>, Refused>
     requires callable { F.IsAlwaysCallable f }
+    requires open { IsOpen window.old }
     requires initial { IsPowerOfTwo initial }
     ensures ends { Ends (changes result) window.old window.new }
     ensures tells { HasCause initial window.new given.new.done (λ cause. result ≡ Err cause) }

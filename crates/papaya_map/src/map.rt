@@ -1,9 +1,10 @@
 //! The map that threads share, and how it is pinned.
-ghost use Rattle.std.specs.Prelude.{◌≡◌, []};
+ghost use Rattle.std.specs.Prelude.{◌≡◌, None, []};
 ghost use Rattle.std.specs.Int.{IsPowerOfTwo};
 ghost use mathlib.Core.List.{IsPrefix};
 ghost use Rattle.papaya_map_book.specs.Limits.{tables_of};
 ghost use Rattle.papaya_map_book.specs.Parts.{begun_of};
+ghost use Rattle.papaya_map_book.specs.Windows.{IsOpen};
 ghost use Rattle.papaya_map_lookup.specs.Drivers.{own, past};
 ghost use Rattle.papaya_map_lookup.specs.History.{IsLegalHistory, history_of, key_of};
 ghost use Rattle.papaya_map.specs.Fixed.{Fixed, HasLearned, Pinned};
@@ -15,6 +16,7 @@ mod inserting;
 mod lookups;
 pub mod making;
 mod observed;
+pub mod read_only;
 mod removals;
 mod resizing;
 mod scans;
@@ -55,6 +57,7 @@ pub struct HashMap<K: Hash + Eq, V, S: BuildHasher = BuildHasherDefault<FoldHash
     opened: Seen<K, V, S>,
     ghost power: { IsPowerOfTwo initial } by { IsPowerOfTwo-prop initial },
     ghost opened_book: { opened.book ≡ book.begun.book },
+    ghost open: { book.gate.era ≡ None },
 }
 
 impl<K: Hash + Eq, V, S: BuildHasher> Model for HashMap<K, V, S> {
@@ -315,6 +318,7 @@ impl<'a, K: Hash + Eq, V, S: BuildHasher> HashMapRef<'a, K, V, S> {
         ensures history { past result ≡ pass.old.history }
         ensures made { own result ≡ pass.old.made }
         ensures tables { tables_of result.sight.log ≡ pass.old.tables }
+        ensures open { IsOpen result }
         ensures rest { (pass.new.book ≡ pass.old.book) × (pass.new.history ≡ pass.old.history)
             × (pass.new.tables ≡ pass.old.tables) × (pass.new.given ≡ pass.old.given) }
     {

@@ -26,6 +26,8 @@ use Rattle.papaya_map_book.specs.declared.rule.entry.Step.TheVariants as steps
 use Rattle.papaya_map_book.specs.declared.rule.entry.Event.{Event}
 use Rattle.papaya_map_book.specs.declared.rule.entry.Event.TheVariants.{Begin, Stepped}
 use Rattle.papaya_map_book.specs.Sheets.{Sheet}
+use Rattle.papaya_gate.specs.Paid.{Leaves}
+use Rattle.papaya_map_book.specs.Changes.{is_change}
 use Rattle.papaya_map_book.specs.Logs.{Stored, brought, coding_of, comes, dealt, entries_of, entry_of}
 use Rattle.papaya_map_book.specs.Logs.{exchange_of, exchanges_of, key_at, kind_of, made_of, name_in}
 use Rattle.papaya_map_book.specs.Logs.{number_of, or_else, owner, place_of, places_of, plan_of}
@@ -36,6 +38,7 @@ use Rattle.papaya_map_book.specs.Rows.{row_len}
 use Rattle.papaya_map_book.specs.Rule.{IsBlank, AreCodes, IsLawfulLog, IsOfMap, IsPlaced, flag, seal_at, word_in}
 use Rattle.papaya_map_book.specs.Offer.{Answered, LeavesRow, Moved}
 use Rattle.papaya_map_book.specs.Sheets.{Sheet}
+use Rattle.papaya_map_book.proofs.Changes.{changes_left, changes_still, table_quiet}
 use Rattle.papaya_map_book.proofs.Cells.{cell_other, cell_same, home_still, same_or_not}
 use Rattle.papaya_map_book.proofs.Comes.{IsNew, blank_zero, get_within, no_seal, no_shared, old_or_new}
 use Rattle.papaya_map_book.proofs.Comes.{root_or_not, seal_later, table_then, table_there, word_sizes}
@@ -338,7 +341,7 @@ module _ {K V S : Type 0} (eq : K → K → Bool) (hash : S → K → ℕ)
     (can : CanBring eq hash b (place_of ask) (kind_of ask) old new (made_of ask) w v) where
   brings_goes : (cs : List Cell) (log : List (Event K V S)) (h : AreCodes eq hash cs log) → IsPrefix v log → h.begun ≡ b → w.value.seal < length cs
       → (cell cs w.value.seal).1 ≡ false → (t : Bool) → ((cell cs k).0 == old) ≡ t
-      → Goes (AreCodes eq hash) shows (Moved ask) k (v, (nib may_write w.value.seal 0, None)) (λ n. either (n == old) new n)
+      → Goes (AreCodes eq hash) shows (Leaves is_change (Moved ask)) k (v, (nib may_write w.value.seal 0, None)) (λ n. either (n == old) new n)
       (Brings eq hash (step k old new ask) (v, (nib may_write w.value.seal 0, None))) cs log
   brings_goes cs log h pre same within away true is =
       let at = place_of ask in
@@ -365,9 +368,8 @@ module _ {K V S : Type 0} (eq : K → K → Bool) (hash : S → K → ℕ)
           refl,
           refl,
           (
-            inr (Stepped e, m.0.meant.with_it ∙ sym with_it, refl),
-            answered_left names_it log (Stepped e ∷ []) told,
-            row_stepped ask log e leaves,
+            (inr (Stepped e, m.0.meant.with_it ∙ sym with_it, refl), answered_left names_it log (Stepped e ∷ []) told, row_stepped ask log e leaves),
+            changes_still log (Stepped e) (table_quiet e w m.0.meant.with_it),
           ),
         ),
         (
@@ -397,7 +399,12 @@ module _ {K V S : Type 0} (eq : K → K → Bool) (hash : S → K → ℕ)
         Some names_it,
         tt,
         rw is (subst (λ (z : List Cell × List (Event K V S)). AreCodes eq hash z.0 z.1) (λ i. (sym (same_cells cs k home) i, sym nil i)) h),
-        inr (names_it, refl, refl, (inl nil, subst (λ (l : List (Event K V S)). Answered l names_it) (sym nil) told, row_still ask log leaves)),
+        inr (
+          names_it,
+          refl,
+          refl,
+          ((inl nil, subst (λ (l : List (Event K V S)). Answered l names_it) (sym nil) told, row_still ask log leaves), changes_left log [] refl),
+        ),
         (
           record {
             before = log;
@@ -413,7 +420,7 @@ module _ {K V S : Type 0} (eq : K → K → Bool) (hash : S → K → ℕ)
         ),
       )
 
-  pub brings_moves : Moves (AreCodes eq hash) shows (Moved ask) k (v, (nib may_write w.value.seal 0, None)) (λ n. either (n == old) new n)
+  pub brings_moves : Moves (AreCodes eq hash) shows (Leaves is_change (Moved ask)) k (v, (nib may_write w.value.seal 0, None)) (λ n. either (n == old) new n)
       (Brings eq hash (step k old new ask) (v, (nib may_write w.value.seal 0, None)))
   brings_moves cs log h pre away =
       let key' = key_since v log (place_of ask) k pre key in

@@ -1,12 +1,14 @@
 -- An exchange of a word preserves the rule, whatever its kind, and returns the exchanged word.
 use Rattle.std.proofs.Common.{◌≡◌, ◌≢◌, inl, inr, ⊎_elim, ℕ, ◌+◌, ◌<◌, ◌≤◌, ◌==◌, Bool, true, false}
-use Rattle.std.proofs.Common.{Option, None, Some, List, [], ◌∷◌, ◌++◌, length, slice_set, refl, sym}
+use Rattle.std.proofs.Common.{cond, Option, None, Some, List, [], ◌∷◌, ◌++◌, length, slice_set, refl, sym}
 use Rattle.std.proofs.Common.{ap, ◌∙◌, subst, arith, length-set}
+use Rattle.std.specs.Prelude.{filter}
 use Rattle.std.proofs.lemmas.List.{append-nil}
+use Rattle.std.proofs.lemmas.List.Elements.{filter-append}
 use Rattle.std.proofs.lemmas.Bool.Decides.{nat_tests}
 use mathlib.Core.List.{IsPrefix}
 use prog.Atomic.{either}
-use Rattle.logbook.specs.Pages.{Cell, Book, cell, keeps, no_nib, step, Goes, Moves}
+use Rattle.logbook.specs.Pages.{Cell, Book, cell, keeps, no_nib, step, Moves}
 use Rattle.papaya_call.specs.declared.ask.At.{At}
 use Rattle.papaya_words_law.specs.Allows.{Allows}
 use Rattle.papaya_words_law.specs.Exchange.{Setting, after}
@@ -24,7 +26,11 @@ use Rattle.papaya_map_book.specs.Logs.{setting_of, state_of, steps_of, word_name
 use Rattle.papaya_map_book.specs.Rows.{row_len}
 use Rattle.papaya_map_book.specs.Rule.{AreCodes, IsLawfulLog, IsPlaced, flag, seal_at, word_in}
 use Rattle.papaya_map_book.specs.Offer.{Answered, LeavesRow, MovesRow, Moved}
-use Rattle.papaya_map_book.specs.Plays.{CanExchange, MayStep, Tries}
+use Rattle.papaya_gate.specs.Paid.{Leaves, MovesPaid}
+use Rattle.papaya_map_book.specs.Changes.{ChangesNothing, is_change}
+use Rattle.papaya_map_book.specs.Own.{last_if}
+use Rattle.papaya_map_book.specs.Plays.{CanExchange, MayStep, Tried, Tries, TriesPaid}
+use Rattle.papaya_map_book.proofs.Changes.{changes_left, last_added, wished_quiet}
 use Rattle.papaya_map_book.proofs.Cells.{cell_other, cell_same, home_still, same_or_not}
 use Rattle.papaya_map_book.proofs.Logs.{IsQuiet, name-append, name_later, or_nothing, seals-append, answered_left, same_seal, steps-append, with_quiet}
 use Rattle.papaya_map_book.proofs.Grown.{lawful_more, same_keys, same_name, same_seals, word_more}
@@ -121,11 +127,19 @@ module _ {K V S : Type 0} (eq : K → K → Bool) (hash : S → K → ℕ)
       (key : key_at (steps_of v) (place_of ask) ≡ Some k) (began : IsPrefix (Begin b ∷ []) v)
       (quiet : IsQuiet (brought ask)) (name : Book) (named : name_in v ≡ Some name) (placed : IsPlaced b (Some name) (brought ask))
       (can : CanExchange eq hash b (place_of ask) (kind_of ask) old new (made_of ask) (brought ask) v) where
-    tries_goes : (cs : List Cell) (log : List (Event K V S)) (h : AreCodes eq hash cs log) → IsPrefix v log → h.begun ≡ b → (t : Bool)
-        → ((cell cs k).0 == old) ≡ t
-        → Goes (AreCodes eq hash) shows (Moved ask) k (v, (no_nib, None)) (λ n. either (n == old) new n)
-        (Tries eq hash (step k old new ask) (v, (no_nib, None))) cs log
-    tries_goes cs log h pre same true is =
+    -- What the exchange does at a book, whether it is made or finds another word.
+    record Effect (cs : List Cell) (log : List (Event K V S)) : Type 0 where
+      more : List (Event K V S)
+      answer : Named K V
+      holds : AreCodes eq hash (slice_set cs k (either ((cell cs k).0 == old) new (cell cs k).0, true)) (log ++ more)
+      moved : Moved ask log (log ++ more) answer
+      told : Tried eq hash (place_of ask) (kind_of ask) old new (made_of ask) (brought ask) v (cell cs k).0 (log ++ more) (Some answer)
+      changed : filter is_change more ≡ filter is_change (last_if ((cell cs k).0 == old) (log ++ more))
+      quiet_so : ChangesNothing (place_of ask) (kind_of ask) → filter is_change more ≡ []
+
+    effect : (cs : List Cell) (log : List (Event K V S)) (h : AreCodes eq hash cs log) → IsPrefix v log → h.begun ≡ b → (t : Bool)
+        → ((cell cs k).0 == old) ≡ t → Effect cs log
+    effect cs log h pre same true is =
         let at = place_of ask in
         let names = word_names (steps_of log) (state_of log) at in
         let key' = key_since v log at k pre key in
@@ -143,14 +157,13 @@ module _ {K V S : Type 0} (eq : K → K → Bool) (hash : S → K → ℕ)
         let placed' : IsPlaced h.begun (name_in log) (comes e) = subst (λ (z : Begun K V S × Option Book × Named K V). IsPlaced z.0 z.1 z.2)
         (λ i. (sym same i, sym named' i, sym m.meant.with_it i)) placed in
         let told : Answered log names = word_answer (setting_of eq (hash h.begun.hasher) h.begun.mode h.begun.limit log) log h.lawful.allowed at in
-        let more : AreCodes eq hash (slice_set cs k (new, true)) (log ++ Stepped e ∷ []) = kept_more cs log h e quiet' at k new key' may m.written placed' in (
-          keeps,
-          Stepped e ∷ [],
-          Some names,
-          tt,
-          rw is more,
-          inr (names, refl, refl, (inr (Stepped e, m.meant.with_it, refl), answered_left names log (Stepped e ∷ []) told, row_stepped ask log e leaves)),
-          record {
+        let more : AreCodes eq hash (slice_set cs k (new, true)) (log ++ Stepped e ∷ []) = kept_more cs log h e quiet' at k new key' may m.written placed' in
+        record {
+          more = Stepped e ∷ [];
+          answer = names;
+          holds = rw is more;
+          moved = (inr (Stepped e, m.meant.with_it, refl), answered_left names log (Stepped e ∷ []) told, row_stepped ask log e leaves);
+          told = record {
             before = log;
             since = pre;
             begun = h.begun;
@@ -159,23 +172,25 @@ module _ {K V S : Type 0} (eq : K → K → Bool) (hash : S → K → ℕ)
             is = stands;
             state_is = refl;
             after = rw is (e, m.meant, refl);
-          },
-        )
-    tries_goes cs log h pre same false is =
+          };
+          changed = rw is (ap (λ (l : List (Event K V S)). filter is_change l) (sym (last_added log (Stepped e))));
+          quiet_so = λ nothing. ap (λ (t : Bool). cond t (Stepped e ∷ []) [])
+              (wished_quiet (kind_of ask) at new (state_of log) (made_of ask) e nothing m.meant.asked);
+        }
+    effect cs log h pre same false is =
         let at = place_of ask in
         let names = word_names (steps_of log) (state_of log) at in
         let key' = key_since v log at k pre key in
         let stands = h.coded at k key' in
         let home : (cell cs k).1 ≡ true = ap (λ (c : Cell). c.1) stands in
         let nil : log ++ [] ≡ log = append-nil log in
-        let told : Answered log names = word_answer (setting_of eq (hash h.begun.hasher) h.begun.mode h.begun.limit log) log h.lawful.allowed at in (
-          keeps,
-          [],
-          Some names,
-          tt,
-          rw is (subst (λ (z : List Cell × List (Event K V S)). AreCodes eq hash z.0 z.1) (λ i. (sym (same_cells cs k home) i, sym nil i)) h),
-          inr (names, refl, refl, (inl nil, subst (λ (l : List (Event K V S)). Answered l names) (sym nil) told, row_still ask log leaves)),
-          record {
+        let told : Answered log names = word_answer (setting_of eq (hash h.begun.hasher) h.begun.mode h.begun.limit log) log h.lawful.allowed at in
+        record {
+          more = [];
+          answer = names;
+          holds = rw is (subst (λ (z : List Cell × List (Event K V S)). AreCodes eq hash z.0 z.1) (λ i. (sym (same_cells cs k home) i, sym nil i)) h);
+          moved = (inl nil, subst (λ (l : List (Event K V S)). Answered l names) (sym nil) told, row_still ask log leaves);
+          told = record {
             before = log;
             since = pre;
             begun = h.begun;
@@ -184,16 +199,49 @@ module _ {K V S : Type 0} (eq : K → K → Bool) (hash : S → K → ℕ)
             is = sym (ap (λ (c : Cell). c.0) stands);
             state_is = refl;
             after = rw is nil;
-          },
-        )
+          };
+          changed = rw is refl;
+          quiet_so = λ nothing. refl;
+        }
 
-    pub tries_moves : Moves (AreCodes eq hash) shows (Moved ask) k (v, (no_nib, None)) (λ n. either (n == old) new n)
+    began_in : (log : List (Event K V S)) → IsPrefix v log → IsPrefix (Begin b ∷ []) log
+    began_in log pre = Rattle.papaya_map_book.proofs.Logs.prefix_trans (Begin b ∷ []) v log began pre
+
+    -- an exchange that changes nothing of the map
+    pub tries_moves : ChangesNothing (place_of ask) (kind_of ask)
+        → Moves (AreCodes eq hash) shows (Leaves is_change (Moved ask)) k (v, (no_nib, None)) (λ n. either (n == old) new n)
         (Tries eq hash (step k old new ask) (v, (no_nib, None)))
-    tries_moves cs log h pre away =
+    tries_moves nothing cs log h pre away =
         let key' = key_since v log (place_of ask) k pre key in
-        let began' : IsPrefix (Begin b ∷ []) log = Rattle.papaya_map_book.proofs.Logs.prefix_trans (Begin b ∷ []) v log began pre in (
+        let go = effect cs log h pre (begun_is b h.begun log (began_in log pre) h.lawful) ((cell cs k).0 == old) refl in (
           (h.counted (place_of ask) k key').0,
           ap (λ (c : Cell). c.1) (h.coded (place_of ask) k key'),
-          tries_goes cs log h pre
-              (begun_is b h.begun log began' h.lawful) ((cell cs k).0 == old) refl,
+          (
+            keeps,
+            go.more,
+            Some go.answer,
+            tt,
+            go.holds,
+            inr (go.answer, refl, refl, (go.moved, changes_left log go.more (go.quiet_so nothing))),
+            go.told,
+          ),
+        )
+
+    -- an exchange that pays
+    pub tries_paid : MovesPaid is_change (AreCodes eq hash) shows (Moved ask) k v None (λ n. either (n == old) new n)
+        (TriesPaid eq hash (step k old new ask) v None)
+    tries_paid cs log h pre =
+        let key' = key_since v log (place_of ask) k pre key in
+        let go = effect cs log h pre (begun_is b h.begun log (began_in log pre) h.lawful) ((cell cs k).0 == old) refl in (
+          (h.counted (place_of ask) k key').0,
+          ap (λ (c : Cell). c.1) (h.coded (place_of ask) k key'),
+          (
+            go.more,
+            filter is_change go.more,
+            Some go.answer,
+            go.holds,
+            filter-append is_change log go.more,
+            inr (go.answer, refl, refl, go.moved),
+            (go.told, go.changed),
+          ),
         )

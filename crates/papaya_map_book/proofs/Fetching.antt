@@ -10,13 +10,16 @@ use Rattle.papaya_map_book.specs.declared.rule.entry.Begun.{Begun}
 use Rattle.papaya_map_book.specs.declared.rule.entry.Event.{Event}
 use Rattle.papaya_map_book.specs.declared.rule.entry.Event.TheVariants.{Begin}
 use Rattle.papaya_map_book.specs.declared.rule.entry.Named.{Named}
+use Rattle.papaya_gate.specs.Paid.{Leaves}
 use Rattle.papaya_map_book.specs.Calls.{HasCome}
+use Rattle.papaya_map_book.specs.Changes.{is_change}
 use Rattle.papaya_map_book.specs.Fetches.{Fetched, Fetches}
 use Rattle.papaya_map_book.specs.Logs.{coding_of, name_in, place_of, setting_of, steps_of, table_in, table_named}
 use Rattle.papaya_map_book.specs.Makers.{table_of}
 use Rattle.papaya_map_book.specs.Rule.{AreCodes, IsLawfulLog, word_in}
 use Rattle.papaya_map_book.specs.Sheets.{Sheet}
 use Rattle.papaya_map_book.specs.Offer.{Answered, LeavesRow, Moved}
+use Rattle.papaya_map_book.proofs.Changes.{changes_left}
 use Rattle.papaya_map_book.proofs.Loaded.{IsFoundTable, found_table, table_since}
 use Rattle.papaya_map_book.proofs.Loads.{row_still, same_cells, shows}
 use Rattle.papaya_map_book.proofs.Names.{number_answer}
@@ -25,7 +28,7 @@ use Rattle.papaya_map_book.proofs.Tellings.{opened_with}
 module _ {K V S : Type 0} (eq : K → K → Bool) (hash : S → K → ℕ) where
   -- the word that is loaded is the root
   pub fetches_moves : (v : List (Event K V S)) (ask : Event K V S) → LeavesRow ask
-      → Moves (AreCodes eq hash) shows (Moved ask) 0 (v, (no_nib, None)) (λ n. n) (Fetches eq hash (step 0 0 0 ask) (v, (no_nib, None)))
+      → Moves (AreCodes eq hash) shows (Leaves is_change (Moved ask)) 0 (v, (no_nib, None)) (λ n. n) (Fetches eq hash (step 0 0 0 ask) (v, (no_nib, None)))
   fetches_moves v ask leaves cs log h pre away =
       let t = table_of (place_of ask) in
       let named = table_named (table_in (steps_of log) t) in
@@ -41,7 +44,12 @@ module _ {K V S : Type 0} (eq : K → K → Bool) (hash : S → K → ℕ) where
           Some named,
           tt,
           subst (λ (z : List Cell × List (Event K V S)). AreCodes eq hash z.0 z.1) (λ i. (sym (same_cells cs 0 home) i, sym nil i)) h,
-          inr (named, refl, refl, (inl nil, subst (λ (l : List (Event K V S)). Answered l named) (sym nil) told, row_still ask log leaves)),
+          inr (
+            named,
+            refl,
+            refl,
+            ((inl nil, subst (λ (l : List (Event K V S)). Answered l named) (sym nil) told, row_still ask log leaves), changes_left log [] refl),
+          ),
           subst (λ (l : List (Event K V S)). Fetched eq hash t l (Some named)) (sym nil) (record { begun = h.begun; lawful = h.lawful; state_is = refl }),
         ),
       )

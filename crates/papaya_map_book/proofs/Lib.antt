@@ -8,6 +8,8 @@ pub mod Names
 pub mod Windows
 -- the facts that steps preserve and record
 pub mod Cells
+-- entries that change the map
+pub mod Changes
 pub mod Loads
 pub mod Grown
 pub mod Exchanges

@@ -4,12 +4,15 @@ use Rattle.std.proofs.lemmas.List.{append-nil, set-get_or}
 use mathlib.Core.List.{IsPrefix}
 use Rattle.logbook.specs.Pages.{Cell, cell, keeps, no_nib, step, Moves}
 use Rattle.papaya_call.specs.declared.ask.At.{At}
+use Rattle.papaya_gate.specs.Paid.{Leaves}
 use Rattle.papaya_map_book.specs.declared.rule.entry.Event.{Event}
 use Rattle.papaya_map_book.specs.declared.rule.entry.Event.TheVariants.{Begin, Called, Dealt, Draw, Stepped, Wish}
+use Rattle.papaya_map_book.specs.Changes.{is_change}
 use Rattle.papaya_map_book.specs.Logs.{dealt, key_at, name_in, place_of, setting_of, state_of, steps_of, word_names}
 use Rattle.papaya_map_book.specs.Rule.{AreCodes, word_in}
 use Rattle.papaya_map_book.specs.Offer.{Answered, LeavesRow, MovesRow, Moved}
 use Rattle.papaya_map_book.specs.Plays.{Looked, Looks}
+use Rattle.papaya_map_book.proofs.Changes.{changes_left}
 use Rattle.papaya_map_book.proofs.Logs.{key_later, steps-append}
 use Rattle.papaya_map_book.proofs.Names.{word_answer}
 
@@ -44,7 +47,7 @@ module _ {K V S : Type 0} where
 
   module _ (eq : K → K → Bool) (hash : S → K → ℕ) where
     pub looks_moves : (v : List (Event K V S)) (ask : Event K V S) (k : ℕ) → LeavesRow ask → key_at (steps_of v) (place_of ask) ≡ Some k
-        → Moves (AreCodes eq hash) shows (Moved ask) k (v, (no_nib, None)) (λ n. n) (Looks eq hash (step k 0 0 ask) (v, (no_nib, None)))
+        → Moves (AreCodes eq hash) shows (Leaves is_change (Moved ask)) k (v, (no_nib, None)) (λ n. n) (Looks eq hash (step k 0 0 ask) (v, (no_nib, None)))
     looks_moves v ask k leaves at_k cs log h pre away =
         let at = place_of ask in
         let named = word_names (steps_of log) (state_of log) at in
@@ -61,7 +64,12 @@ module _ {K V S : Type 0} where
             Some named,
             tt,
             subst (λ (z : List Cell × List (Event K V S)). AreCodes eq hash z.0 z.1) (λ i. (sym (same_cells cs k home) i, sym nil i)) h,
-            inr (named, refl, refl, (inl nil, subst (λ (l : List (Event K V S)). Answered l named) (sym nil) told, row_still ask log leaves)),
+            inr (
+              named,
+              refl,
+              refl,
+              ((inl nil, subst (λ (l : List (Event K V S)). Answered l named) (sym nil) told, row_still ask log leaves), changes_left log [] refl),
+            ),
             subst (λ (l : List (Event K V S)). Looked eq hash at (cell cs k).0 l (Some named)) (sym nil)
                 (record { begun = h.begun; lawful = h.lawful; is = sym (ap (λ (z : Cell). z.0) stands); state_is = refl }),
           ),

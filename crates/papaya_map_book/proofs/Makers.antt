@@ -22,6 +22,8 @@ use Rattle.papaya_map_book.specs.declared.rule.entry.Named.TheVariants as names
 use Rattle.papaya_map_book.specs.declared.rule.entry.Step.{Step}
 use Rattle.papaya_map_book.specs.declared.rule.entry.Event.{Event}
 use Rattle.papaya_map_book.specs.declared.rule.entry.Event.TheVariants.{Called, Dealt, Draw}
+use Rattle.papaya_gate.specs.Paid.{Leaves}
+use Rattle.papaya_map_book.specs.Changes.{is_change}
 use Rattle.papaya_map_book.specs.Logs.{Stored, Entered, brought, dealt, entry_of, in_table, key_at}
 use Rattle.papaya_map_book.specs.Logs.{name_in, name_of, or_else, owner, plan_of, seals_of, step_of}
 use Rattle.papaya_map_book.specs.Logs.{steps_of, table_in}
@@ -29,6 +31,7 @@ use Rattle.papaya_map_book.specs.Makers.{AreDealt, Calls, Deals}
 use Rattle.papaya_map_book.specs.Rows.{row_len}
 use Rattle.papaya_map_book.specs.Rule.{IsBlank, AreCodes, IsLawfulLog, IsOfMap, IsPlaced, IsSealOf, flag, seal_at, word_in}
 use Rattle.papaya_map_book.specs.Offer.{Moved}
+use Rattle.papaya_map_book.proofs.Changes.{changes_still}
 use Rattle.papaya_map_book.proofs.Cells.{cell_left, cell_other, cell_past, cell_same, home_still}
 use Rattle.papaya_map_book.proofs.Loads.{same_cells, shows}
 use Rattle.papaya_map_book.proofs.Logs.{entered_last, get_right, name-append, name_later, name_since, or_nothing, owner_later, seals-append, steps_same}
@@ -239,7 +242,7 @@ module _ {K V S : Type 0} (eq : K → K → Bool) (hash : S → K → ℕ) where
     ask = Draw name (old + 2) count
 
     deals_goes : (cs : List Cell) (log : List (Event K V S)) → AreCodes eq hash cs log → IsPrefix v log → (t : Bool) → ((cell cs 1).0 == old) ≡ t
-        → Goes (AreCodes eq hash) shows (Moved ask) 1 (v, (no_nib, None)) (λ n. either (n == old) (old + count) n)
+        → Goes (AreCodes eq hash) shows (Leaves is_change (Moved ask)) 1 (v, (no_nib, None)) (λ n. either (n == old) (old + count) n)
         (Deals (step 1 old (old + count) ask) (v, (no_nib, None))) cs log
     deals_goes cs log h pre true is =
         let seal = length cs in
@@ -256,7 +259,15 @@ module _ {K V S : Type 0} (eq : K → K → Bool) (hash : S → K → ℕ) where
           Some names.Nothing,
           tt,
           rw is (kept_dealt cs log h seal count (old + count) new fits),
-          inr (names.Nothing, refl, refl, (inr (Dealt seal count, refl, refl), tt, (called, first, fits, called', dealt_more cs log h seal count))),
+          inr (
+            names.Nothing,
+            refl,
+            refl,
+            (
+              (inr (Dealt seal count, refl, refl), tt, (called, first, fits, called', dealt_more cs log h seal count)),
+              changes_still log (Dealt seal count) refl,
+            ),
+          ),
           rw is (
             seal,
             refl,
@@ -268,13 +279,13 @@ module _ {K V S : Type 0} (eq : K → K → Bool) (hash : S → K → ℕ) where
     deals_goes cs log h pre false is =
         (keeps, [], None, tt, rw is (left_so cs log h), inl (refl, append-nil log), rw is tt)
 
-    pub deals_moves : Moves (AreCodes eq hash) shows (Moved ask) 1 (v, (no_nib, None)) (λ n. either (n == old) (old + count) n)
+    pub deals_moves : Moves (AreCodes eq hash) shows (Leaves is_change (Moved ask)) 1 (v, (no_nib, None)) (λ n. either (n == old) (old + count) n)
         (Deals (step 1 old (old + count) ask) (v, (no_nib, None)))
     deals_moves cs log h pre away = let m = maker_home cs log h in (m.0, m.1, deals_goes cs log h pre ((cell cs 1).0 == old) refl)
 
   calls_goes : (v : List (Event K V S)) (name : Book) (cs : List Cell) (log : List (Event K V S)) → AreCodes eq hash cs log → (t : Bool)
       → ((cell cs 1).0 == 0) ≡ t
-      → Goes (AreCodes eq hash) shows (Moved (Called name)) 1 (v, (no_nib, None)) (λ n. either (n == 0) 1 n)
+      → Goes (AreCodes eq hash) shows (Leaves is_change (Moved (Called name))) 1 (v, (no_nib, None)) (λ n. either (n == 0) 1 n)
       (Calls (step 1 0 1 (Called name)) (v, (no_nib, None))) cs log
   calls_goes v name cs log h true is =
       let none : (cell cs 1).0 ≡ 0 = grind (arith, nat_tests) in let called = kept_called cs log h name none in (
@@ -283,12 +294,12 @@ module _ {K V S : Type 0} (eq : K → K → Bool) (hash : S → K → ℕ) where
         Some names.Nothing,
         tt,
         rw is called.0,
-        inr (names.Nothing, refl, refl, (inr (Called name, refl, refl), tt, (called.1, called.2))),
+        inr (names.Nothing, refl, refl, ((inr (Called name, refl, refl), tt, (called.1, called.2)), changes_still log (Called name) refl)),
         rw is called.1,
       )
   calls_goes v name cs log h false is =
       (keeps, [], None, tt, rw is (left_so cs log h), inl (refl, append-nil log), rw is tt)
 
   pub calls_moves : (v : List (Event K V S)) (name : Book)
-      → Moves (AreCodes eq hash) shows (Moved (Called name)) 1 (v, (no_nib, None)) (λ n. either (n == 0) 1 n) (Calls (step 1 0 1 (Called name)) (v, (no_nib, None)))
+      → Moves (AreCodes eq hash) shows (Leaves is_change (Moved (Called name))) 1 (v, (no_nib, None)) (λ n. either (n == 0) 1 n) (Calls (step 1 0 1 (Called name)) (v, (no_nib, None)))
   calls_moves v name cs log h pre away = let m = maker_home cs log h in (m.0, m.1, calls_goes v name cs log h ((cell cs 1).0 == 0) refl)

@@ -11,6 +11,8 @@ pub mod Logs
 -- The row of words that tables are made of.
 pub mod Rows
 pub mod Rule
+-- Which exchanges change the map.
+pub mod Changes
 -- The book's rule for hints.
 pub mod Hinted
 pub mod Plays

@@ -1,5 +1,5 @@
 -- The results of the steps on words.
-use Rattle.std.specs.Prelude.{◌≡◌, ◌⊎◌, ℕ, ◌==◌, Bool, MatchBool, Option, None, Some, List, [], ◌∷◌, ◌++◌}
+use Rattle.std.specs.Prelude.{◌≡◌, ◌⊎◌, ℕ, ◌==◌, Bool, MatchBool, Option, None, Some, List, [], ◌∷◌, ◌++◌, filter}
 use mathlib.Core.List.{IsPrefix}
 use Rattle.logbook.specs.Pages.{View, Step as Book_step}
 use Rattle.papaya_call.specs.declared.ask.At.{At}
@@ -19,6 +19,8 @@ use Rattle.papaya_map_book.specs.declared.rule.entry.Event.TheVariants.{Stepped}
 use Rattle.papaya_map_book.specs.Logs.{Stored, brought, coding_of, comes, exchange_of, kind_of, made_of}
 use Rattle.papaya_map_book.specs.Logs.{place_of, setting_of, setting_with, state_of, steps_of}
 use Rattle.papaya_map_book.specs.Logs.{word_names}
+use Rattle.papaya_map_book.specs.Changes.{is_change}
+use Rattle.papaya_map_book.specs.Own.{last_if}
 use Rattle.papaya_map_book.specs.Rule.{IsLawfulLog, word_in}
 
 -- The pair that a call made, if any, as a list.
@@ -118,3 +120,11 @@ module _ {K V S : Type 0} (eq : K → K → Bool) (hash : S → K → ℕ) where
       → View (Event K V S) (Named K V) → Type 0
   Tries s v found w = Tried (place_of s.ask) (kind_of s.ask) s.old s.new (made_of s.ask)
       (brought s.ask) v.0 found w.0 w.1.1
+
+  -- The same for an exchange that pays with the gate. Of what it added it tells the entry that
+  -- changes the map.
+  abbrev pub TriesPaid : Book_step (Event K V S) → List (Event K V S) → Option (Named K V) → ℕ
+      → List (Event K V S) → List (Event K V S) → Option (Named K V) → Type 0
+  TriesPaid s seen state found added log state' = Tried (place_of s.ask) (kind_of s.ask) s.old s.new
+      (made_of s.ask) (brought s.ask) seen found log state'
+      × (added ≡ filter is_change (last_if (found == s.old) log))

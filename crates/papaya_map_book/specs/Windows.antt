@@ -38,6 +38,10 @@ module _ {K V S H : Type 0} {d : keyed.Ghosts S K H} where
   abbrev pub Does : Bool → (old new : Window K V S H d) → Type 0
   Does exchanged old new = new.own.done ≡ old.own.done ++ last_if exchanged (steps_of new.sight.log)
 
+  -- The gate of the book is open: calls may change the map.
+  abbrev pub IsOpen : Window K V S H d → Type 0
+  IsOpen w = w.book.now.gate.era ≡ None
+
   -- The rule of the book holds of what has been observed.
   abbrev pub IsLawful : Window K V S H d → Type 0
   IsLawful w = books.IsLawfulLog d.keys w.book.now w.sight.log

@@ -3,6 +3,7 @@ ghost use Rattle.std.specs.Prelude.{◌≡◌, ◌<◌, ◌≤◌, ◌+◌, ◌�
 ghost use Rattle.papaya_call.specs.Search.{IsSize};
 ghost use Rattle.papaya_call.specs.declared.ask.At.TheVariants.{Aborted, Done, Root, Slot};
 ghost use Rattle.papaya_map_book.specs.Books.{Seals};
+ghost use Rattle.papaya_map_book.specs.Changes.{ChangesNothing};
 ghost use Rattle.papaya_map_book.specs.Limits.{IsFull};
 ghost use Rattle.papaya_map_book.specs.Windows.{CanCopy, CanLink, CopiesSlot, CopiesWord, HasCome, IsIn, IsMade, IsTable, IsWord, Links, Observes};
 ghost use Rattle.papaya_map_book.specs.Logs.{pair_named};
@@ -21,6 +22,7 @@ use crate::window::Window;
 use boxcar::Pushed;
 use logbook::Pen;
 use papaya_call::ask::{At, StepKind};
+use papaya_gate::steps::load;
 use papaya_words::refused::Refused;
 use std::alloc::Global;
 use std::hash::{BuildHasher, Hash};
@@ -37,9 +39,7 @@ impl<'a, K: Hash + Eq, V, S: BuildHasher> Window<'a, K, V, S> {
         self.sight.learn(&self.book.begun);
         let wanted = Wanted { number };
         let mut offer = offer::bare::<K, V, S, Wanted, Fetch>(&self.sight, &wanted);
-        self.book
-            .root
-            .load::<Fetch, Found<K, V>>(&mut self.sight, &mut offer);
+        load::<_, _, _, Fetch, Found<K, V>>(&self.book.root, &mut self.sight, &mut offer);
         let known = offer::table_known(offer.into_gain());
         let token = token(known, (number - 1) as usize);
         self.book.parts.tables.value(&token)
@@ -87,6 +87,7 @@ impl<'a, K: Hash + Eq, V, S: BuildHasher> Window<'a, K, V, S> {
     ) -> (u64, Option<Stored<K, V>>)
         requires table { IsTable self.old number table.now }
         requires place { place < length table.now.slots }
+        requires leaves { ChangesNothing (Slot number place) kind }
         requires can { CanCopy self.old (Slot number place) kind kept.now words }
         ensures sees { Observes self.old self.new }
         ensures tried { CopiesSlot self.old self.new number place kind kept.now words result.0

@@ -1,5 +1,5 @@
 //! The book of a shared map: atomic words, with a ghost log that records every exchange.
-//! It uses `papaya_map_arena`, `papaya_map_cells` and the laws of `papaya_call_law`.
+//! It uses `papaya_map_arena`, `papaya_map_cells`, `papaya_gate` and the laws of `papaya_call_law`.
 //! All calls of the shared map load and exchange words through it.
 //!
 //! Read [`rule`] first: what the log says ([`rule::entry`]), when an exchange is allowed

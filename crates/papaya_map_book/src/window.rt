@@ -43,7 +43,7 @@ impl<'a, K: Hash + Eq, V, S: BuildHasher> Window<'a, K, V, S> {
     ghost use Rattle.papaya_call.specs.Search.{IsSize};
     ghost use Rattle.papaya_map_book.specs.Books.{IsLeft, Seals, root_then};
     ghost use Rattle.papaya_map_book.specs.Limits.{IsFull};
-    ghost use Rattle.papaya_map_book.specs.Windows.{CanCopy, CanPutSlot, CanTrySlot, CopiesWord, Does, IsHint, IsIn, IsLawful, IsMade, IsNext, IsRoot};
+    ghost use Rattle.papaya_map_book.specs.Windows.{CanCopy, CanPutSlot, CanTrySlot, CopiesWord, Does, IsHint, IsIn, IsLawful, IsMade, IsNext, IsOpen, IsRoot};
     ghost use Rattle.papaya_map_book.specs.Windows.{IsSlot, IsSlotWord, IsTable, IsWord, MayHint, Observes, Opens, PutsSlot, Sees, TriesSlot};
     ghost use Rattle.papaya_map_book.specs.declared.rule.entry.Named.TheVariants.{Pair as PairNamed, Table as TableNamed};
 
@@ -253,6 +253,7 @@ impl<'a, K: Hash + Eq, V, S: BuildHasher> Window<'a, K, V, S> {
     ) -> (u64, Option<Stored<K, V>>)
         requires table { IsTable self.old number table.now }
         requires place { place < length table.now.slots }
+        requires open { IsOpen self.old }
         requires can { CanTrySlot self.old number place kind words }
         ensures sees { Sees self.old self.new }
         ensures tried { TriesSlot self.old self.new number place kind words result.0 result.1 }
@@ -267,7 +268,7 @@ impl<'a, K: Hash + Eq, V, S: BuildHasher> Window<'a, K, V, S> {
         let (old, new) = words;
         let (found, offer) = self
             .book
-            .exchange(table.slot(place), &wish, old, new, &mut self.sight);
+            .remove(table.slot(place), &wish, old, new, &mut self.sight);
         self.keep(found == old);
         (found, pair_in(found, offer))
     }
@@ -285,6 +286,7 @@ impl<'a, K: Hash + Eq, V, S: BuildHasher> Window<'a, K, V, S> {
     ) -> (u64, Option<Stored<K, V>>)
         requires table { IsTable self.old number table.now }
         requires place { place < length table.now.slots }
+        requires open { IsOpen self.old }
         requires placed { IsIn self.old (PairNamed made.now) }
         requires can { CanPutSlot self.old number place kind made.now words }
         ensures sees { Sees self.old self.new }

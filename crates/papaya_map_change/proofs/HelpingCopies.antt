@@ -37,6 +37,7 @@ use Rattle.papaya_map_change.specs.Copier.{AnswersExchange, AnswersTo, CanAnswer
 use Rattle.papaya_map_change.specs.Copier.{HasMade, IsHandLeft, IsReached, marked_or}
 use Rattle.papaya_map_change.specs.Going.{with_copier}
 use Rattle.papaya_map_change.specs.Helping.{HasCopied, IsTriedFor}
+use Rattle.papaya_map_change.proofs.CopyKinds.{phase_keeps}
 use Rattle.papaya_map_change.proofs.HelpingAnswers.{as_loaded, beaten, compared, counted, exchanged}
 use Rattle.papaya_map_change.proofs.HelpingAnswers.{follows_came, hand_kept, hand_tried, hashed, hinted}
 use Rattle.papaya_map_change.proofs.HelpingAnswers.{linking, may_try, noted, ready, size_came, sized}
@@ -94,23 +95,35 @@ module _ {K V S H : Type 0} (eq : K → K → Bool) (input : K → List (List �
       )
   can_exchange Root old new asked = (
     tt,
-    may_try eq input build write finish classes respects b name matches fed form k begun made v c r Root old new
-        asked (λ t e. cc e) v ([], append-nil v),
+    (
+      may_try eq input build write finish classes respects b name matches fed form k begun made v c r Root old new
+          asked (λ t e. cc e) v ([], append-nil v),
+      tt,
+    ),
   )
   can_exchange (Aborted t) old new asked = (
     reached (Aborted t) (there (copies.Exchange (Aborted t) old new) asked),
-    may_try eq input build write finish classes respects b name matches fed
-        form k begun made v c r (Aborted t) old new asked (λ t e. cc e) v ([], append-nil v),
+    (
+      may_try eq input build write finish classes respects b name matches fed
+          form k begun made v c r (Aborted t) old new asked (λ t e. cc e) v ([], append-nil v),
+      tt,
+    ),
   )
   can_exchange (Done t i) old new asked = (
     reached (Done t i) (there (copies.Exchange (Done t i) old new) asked),
-    may_try eq input build write finish
-        classes respects b name matches fed form k begun made v c r (Done t i) old new asked (λ t e. cc e) v ([], append-nil v),
+    (
+      may_try eq input build write finish
+          classes respects b name matches fed form k begun made v c r (Done t i) old new asked (λ t e. cc e) v ([], append-nil v),
+      tt,
+    ),
   )
   can_exchange (Slot t x) old new asked = (
     reached (Slot t x) (there (copies.Exchange (Slot t x) old new) asked),
-    may_try eq input build write finish
-        classes respects b name matches fed form k begun made v c r (Slot t x) old new asked (λ t e. cc e) v ([], append-nil v),
+    (
+      may_try eq input build write finish
+          classes respects b name matches fed form k begun made v c r (Slot t x) old new asked (λ t e. cc e) v ([], append-nil v),
+      phase_keeps t x c.machine.call c.machine.phase (copies.Exchange (Slot t x) old new) asked,
+    ),
   )
   can_exchange Made_word old new asked = absurd (there (copies.Exchange Made_word old new) asked)
 

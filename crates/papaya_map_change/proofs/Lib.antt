@@ -43,6 +43,7 @@ pub mod MakingAsks
 pub mod Numbered
 pub mod HelpingLeads
 pub mod HelpingExchanges
+pub mod CopyKinds
 pub mod Copiers
 pub mod HelpingRelies
 pub mod HelpingAnswers

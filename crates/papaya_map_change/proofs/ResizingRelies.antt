@@ -61,6 +61,7 @@ use Rattle.papaya_map_change.specs.Changing.{HasChunks, loaded_with}
 use Rattle.papaya_map_change.specs.Copier.{CanAnswerTo, CanExchangeFor, IsReached, marked_or}
 use Rattle.papaya_map_change.specs.Helping.{IsOwnTable, IsTriedFor}
 use Rattle.papaya_map_change.specs.Resizing.{IsResizing}
+use Rattle.papaya_map_change.proofs.CopyKinds.{stage_keeps}
 use Rattle.papaya_map_change.proofs.HelpingExchanges.{copy_alike, eq_le, last_marked, link_step, next_or, of_copy, own_words, step_of_copy, told_pair, words_where}
 use Rattle.papaya_map_change.proofs.HelpingFollows.{copying_on, copying_rises}
 use Rattle.papaya_map_change.proofs.HelpingPlaces.{chain_came}
@@ -385,18 +386,16 @@ module _ {K V S H : Type 0} (eq : K → K → Bool) (input : K → List (List �
 
       can_exchange : (at : At) (old new : ℕ) → ask_of m ≡ Some (copies.Exchange at old new) → CanExchangeFor eq hash b name at (kind_of_ask m) old new v h
       can_exchange (Next t) old new asked = can_join t old new asked
-      can_exchange Root old new asked = (tt, can_try closed Root old new asked (λ t e. cc e))
+      can_exchange Root old new asked = (tt, (can_try closed Root old new asked (λ t e. cc e), tt))
       can_exchange (Aborted t) old new asked =
-          (reached (Aborted t) (there (copies.Exchange (Aborted t) old new) asked), can_try closed (Aborted t) old new asked (λ t e. cc e))
+          (reached (Aborted t) (there (copies.Exchange (Aborted t) old new) asked), (can_try closed (Aborted t) old new asked (λ t e. cc e), tt))
       can_exchange (Done t i) old new asked = (
         reached (Done t i) (there (copies.Exchange (Done t i) old new) asked),
-        can_try closed (Done t i) old
-            new asked (λ t e. cc e),
+        (can_try closed (Done t i) old new asked (λ t e. cc e), tt),
       )
       can_exchange (Slot t x) old new asked = (
         reached (Slot t x) (there (copies.Exchange (Slot t x) old new) asked),
-        can_try closed (Slot t x) old
-            new asked (λ t e. cc e),
+        (can_try closed (Slot t x) old new asked (λ t e. cc e), stage_keeps t x m.state),
       )
       can_exchange Made_word old new asked = absurd (there (copies.Exchange Made_word old new) asked)
 

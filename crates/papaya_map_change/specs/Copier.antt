@@ -21,6 +21,7 @@ use Rattle.papaya_map_book.specs.declared.rule.entry.Event.{Event}
 use Rattle.papaya_map_book.specs.declared.rule.entry.Named.TheVariants as names
 use Rattle.papaya_map_book.specs.declared.rule.own.CapacityCause.TheVariants.{Sum}
 use Rattle.papaya_map_book.specs.Calls.{HasCome, IsTable}
+use Rattle.papaya_map_book.specs.Changes.{ChangesNothing}
 use Rattle.papaya_map_book.specs.Hinted.{IsSlotHint}
 use Rattle.papaya_map_book.specs.Limits.{IsFull}
 use Rattle.papaya_map_book.specs.Logs.{Stored, pair_named, steps_of, table_in}
@@ -66,11 +67,12 @@ IsHandLeft at fresh fresh' = fresh' ≡ fresh
 
 module _ {K V S : Type 0} (eq : K → K → Bool) (hash : S → K → ℕ) (b : Begun K V S)
     (name : Book) where
-  -- This exchange may be tried with the pair that the copier carries, and with no table.
+  -- This exchange may be tried with the pair that the copier carries, and with no table. It does
+  -- not change the map.
   abbrev pub CanTryFor : At → Option StepKind → (words : ℕ × ℕ) → (kept : Option (Stored K V))
       → List (Event K V S) → Type 0
   CanTryFor at kind words kept log = CanExchange eq hash b at kind words.0 words.1 kept names.Nothing
-      log
+      log × ChangesNothing at kind
 
   -- An exchange was tried, and found the word `found`.
   pub record HasTried (at : At) (kind : Option StepKind) (words : ℕ × ℕ)

@@ -9,7 +9,7 @@ ghost use Rattle.papaya_call.specs.ChainMachine.{IsValid, after, kind_of_ask, st
 ghost use Rattle.papaya_call.specs.declared.chain.ask.Answer.TheVariants.{Call};
 ghost use Rattle.papaya_call.specs.declared.chain.machine.Phase.TheVariants.{Calling};
 ghost use Rattle.papaya_call_law.specs.TrueAnswers.{or_last};
-ghost use Rattle.papaya_map_book.specs.Windows.{CanTrySlot, Does, IsHint, MayHint, Observes, Sees};
+ghost use Rattle.papaya_map_book.specs.Windows.{CanTrySlot, Does, IsHint, IsOpen, MayHint, Observes, Sees};
 ghost use Rattle.papaya_map_change.specs.Doing.{was_made};
 ghost use Rattle.papaya_map_change.specs.Window.Driver.{Holds, Loads};
 ghost use Rattle.papaya_map_change.specs.Window.ProbingOn.{CanProbeOn, HasPassedOver, ProbesOn};
@@ -222,6 +222,7 @@ impl<'a, K: Hash + Eq, V, S: BuildHasher> Driver<'a, K, V, S> {
         window: &mut Window<'a, K, V, S>,
     ) -> CallAnswer
         requires held { Holds (Slot number place) window.old self.old }
+        requires open { IsOpen window.old }
         requires can { CanTrySlot window.old number place (kind_of_ask self.old.machine) words }
         ensures sees { Sees window.old window.new }
         ensures does { Does (was_made result) window.old window.new }

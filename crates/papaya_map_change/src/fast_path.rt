@@ -13,7 +13,7 @@ ghost use Rattle.papaya_words.specs.Word.{kind_of, pair_of};
 ghost use Rattle.papaya_words.specs.declared.word.Kind.TheVariants.{Live};
 ghost use Rattle.papaya_map_book.specs.declared.rule.entry.Named.TheVariants.{Pair as PairNamed};
 ghost use Rattle.papaya_map_book.specs.Pairs.{IsKeyIn};
-ghost use Rattle.papaya_map_book.specs.Windows.{CanTrySlot, Does, IsIn, IsLawful, IsTable, Observes, Sees};
+ghost use Rattle.papaya_map_book.specs.Windows.{CanTrySlot, Does, IsIn, IsLawful, IsOpen, IsTable, Observes, Sees};
 ghost use Rattle.papaya_map_book.specs.Windows.{TriesSlot};
 ghost use Rattle.papaya_map_lookup.specs.Drivers.{own, past};
 ghost use Rattle.papaya_map_lookup.specs.History.{key_of};
@@ -313,6 +313,7 @@ pub fn claim<K: Hash + Eq + Drop, V: Drop, S: BuildHasher>(
 ) -> Tried<K, V, (K, V)>
     requires hashed { hash ≡ ⟦<S as Hashed<K>>⟧.hash window.old.book.now.parts.hasher key }
     requires limit { window.old.book.now.parts.limit ≡ None }
+    requires open { IsOpen window.old }
     requires stands { IsStateAfter window.old key table.now (Empty at) }
     ensures tried { HasTried key value window.old window.new result }
     ensures put { (q : _) → result ≡ Put q → Offers window.old window.new key table.now
@@ -348,6 +349,7 @@ pub fn replace<K: Hash + Eq + Drop, V: Drop, S: BuildHasher>(
     live: &Live<'_, K, V>,
 ) -> Tried<K, V, V>
     requires limit { window.old.book.now.parts.limit ≡ None }
+    requires open { IsOpen window.old }
     requires stands { (key : K) × IsStateAfter window.old key table.now (MetPair live.now) }
     ensures tried { HasTried (key_of live.now.stored) value window.old window.new result }
     ensures put { (q : _) → result ≡ Put q → (key : K) → Offers window.old window.new key
@@ -388,6 +390,7 @@ pub fn bury_slot<K: Hash + Eq, V, S: BuildHasher>(
 ) -> (u64, Option<Stored<K, V>>)
     requires table { IsTable window.old number table.now }
     requires place { place < length table.now.slots }
+    requires open { IsOpen window.old }
     requires can { CanTrySlot window.old number place (Some Bury) (word, grave_word word) }
     requires placed { IsIn window.old (PairNamed shown.now) }
     requires number { shown.now.index ≡ pair_of word }
@@ -420,6 +423,7 @@ pub(crate) fn bury_met<K: Hash + Eq, V, S: BuildHasher>(
 ) -> bool
     requires table { IsTable window.old met.now.place.table table.now }
     requires place { met.now.place.probe.i < length table.now.slots }
+    requires open { IsOpen window.old }
     requires can { CanBury window.old met.now }
     requires placed { IsIn window.old (PairNamed met.now.stored) }
     requires number { met.now.stored.index ≡ pair_of met.now.word }
@@ -442,6 +446,7 @@ pub fn bury<K: Hash + Eq, V, S: BuildHasher>(
     table: &Table<K, V, S>,
     met: &Met<K, V>,
 ) -> bool
+    requires open { IsOpen window.old }
     requires shows { (key : K) × (begun : _) × CallsWith window.old key begun table.now met.now }
     ensures ends { Ends result window.old window.new }
     ensures went { result ≡ true → (key : K) → TakesOut window.old window.new key table.now
@@ -467,6 +472,7 @@ fn claim_at<'a, R: Wait, K: Hash + Eq + Drop, V: Drop, S: BuildHasher>(
     requires initial { IsPowerOfTwo means.now.initial }
     requires hashed { hash ≡ ⟦<S as Hashed<K>>⟧.hash window.old.book.now.parts.hasher key }
     requires limit { window.old.book.now.parts.limit ≡ None }
+    requires open { IsOpen window.old }
     requires stands { IsStateAfter window.old key table.now (Empty at) }
     ensures ends { Ends (is_ok result) window.old window.new }
     ensures put { IfOk result (λ answer. HasWritten window.old window.new key value
@@ -498,6 +504,7 @@ fn replace_at<'a, R: Wait, K: Hash + Eq + Drop, V: Drop, S: BuildHasher>(
     requires initial { IsPowerOfTwo means.now.initial }
     requires hashed { hash ≡ ⟦<S as Hashed<K>>⟧.hash window.old.book.now.parts.hasher key }
     requires limit { window.old.book.now.parts.limit ≡ None }
+    requires open { IsOpen window.old }
     requires stands { IsStateAfter window.old key table.now (MetPair live) }
     ensures ends { Ends (is_ok result) window.old window.new }
     ensures put { IfOk result (λ answer. HasWritten window.old window.new key value
@@ -535,6 +542,7 @@ pub fn insert<'a, R: Wait, K: Hash + Eq + Drop, V: Drop, S: BuildHasher>(
     value: V,
 ) -> Result<Option<&'a V>, Refused>
     requires initial { IsPowerOfTwo initial }
+    requires open { IsOpen window.old }
     ensures ends { Ends (is_ok result) window.old window.new }
     ensures put { IfOk result (λ answer. IsPut K.eq key value (past window.old) (past window.new)
         answer) }

@@ -3,6 +3,7 @@
 ghost use Rattle.papaya_map_change.specs.Window.Ends.{Ends};
 ghost use Rattle.std.specs.Int.{IsPowerOfTwo};
 ghost use Rattle.papaya_call.specs.Made.{IsLimit};
+ghost use Rattle.papaya_map_book.specs.Windows.{IsOpen};
 ghost use Rattle.papaya_map_lookup.specs.Drivers.{past};
 ghost use Rattle.papaya_map_change.specs.RemovalAnswers.{IsTriedRemoval, has_removed_fast};
 ghost use Rattle.papaya_map_change.specs.ClosureCalls.{Judges};
@@ -63,6 +64,7 @@ pub fn remove_fast<
 ) -> Option<Result<Option<(&'a K, &'a V)>, (&'a K, &'a V)>>
     requires callable { F.IsAlwaysCallable agrees.old }
     requires initial { IsPowerOfTwo means.now.initial }
+    requires open { IsOpen window.old }
     ensures callable { F.IsAlwaysCallable agrees.new }
     ensures ends { Ends (has_removed_fast result) window.old window.new }
     ensures removed { IsTriedRemoval K.eq (Q.matches key.now) (past window.old) (past window.new)

@@ -2,7 +2,7 @@
 ghost use Rattle.papaya_map_change.specs.Window.Ends.{Ends, HasCause};
 ghost use Rattle.papaya_map_lookup.specs.Drivers.{past};
 ghost use Rattle.papaya_map_lookup.specs.History.{key_of};
-ghost use Rattle.papaya_map_book.specs.Windows.{Does, IsIn, Sees};
+ghost use Rattle.papaya_map_book.specs.Windows.{Does, IsIn, IsOpen, Sees};
 ghost use Rattle.papaya_map_book.specs.declared.rule.entry.Named.TheVariants.{Pair as PairNamed};
 ghost use Rattle.papaya_map_change.specs.Doing.{Answers, has_changed, was_made};
 ghost use Rattle.papaya_map_change.specs.Window.Inserting.{CanInsert, HasPut, HasPutSince, Inserts};
@@ -129,6 +129,7 @@ impl<'a, K: Hash + Eq + Drop, V: Drop, S: BuildHasher> Insertion<'a, K, V, S> {
         window: &mut Window<'a, K, V, S>,
     ) -> Answer
         requires valid { IsValid self.old.writer.call.machine }
+        requires open { IsOpen window.old }
         requires can { CanInsert window.old self.old }
         requires asks { ask_of self.old.writer.call.machine ≡ Call (Exchange
             (Slot number place) words.0 words.1) }
@@ -153,6 +154,7 @@ impl<'a, K: Hash + Eq + Drop, V: Drop, S: BuildHasher> Insertion<'a, K, V, S> {
     ) -> Option<Answer>
         requires valid { IsValid self.old.writer.call.machine }
         requires calling { self.old.writer.call.machine.phase ≡ Calling }
+        requires open { IsOpen window.old }
         requires can { CanInsert window.old self.old }
         ensures sees { Sees window.old window.new }
         ensures answers { Answers (call_ask_of self.old.writer.call.machine.call) result window.old
@@ -227,6 +229,7 @@ fn drive<'a, R: Wait, K: Hash + Eq + Drop, V: Drop, S: BuildHasher>(
 ) -> Result<Option<&'a V>, Refused>
     requires valid { IsValid begun.writer.call.machine }
     requires calling { begun.writer.call.machine.phase ≡ Calling }
+    requires open { IsOpen window.old }
     requires can { CanInsert window.old begun }
     requires unchanged { has_changed begun.writer.call.machine ≡ false }
     ensures ends { Ends (is_ok result) window.old window.new }
@@ -264,6 +267,7 @@ pub(crate) fn insert_slow<'a, R: Wait, K: Hash + Eq + Drop, V: Drop, S: BuildHas
     value: V,
 ) -> Result<Option<&'a V>, Refused>
     requires initial { IsPowerOfTwo means.now.initial }
+    requires open { IsOpen window.old }
     ensures ends { Ends (is_ok result) window.old window.new }
     ensures put { IfOk result (λ answer. IsPut K.eq key value
         (past window.old) (past window.new) answer) }
@@ -292,6 +296,7 @@ pub(crate) fn insert_onward<'a, R: Wait, K: Hash + Eq + Drop, V: Drop, S: BuildH
     number: u64,
 ) -> Result<Option<&'a V>, Refused>
     requires initial { IsPowerOfTwo means.now.initial }
+    requires open { IsOpen window.old }
     requires hashed { hash ≡ ⟦<S as Hashed<K>>⟧.hash window.old.book.now.parts.hasher key }
     requires stands { IsStateAfter window.old key table.now (Over number) }
     ensures ends { Ends (is_ok result) window.old window.new }
@@ -319,6 +324,7 @@ pub(crate) fn insert_stored<'a, R: Wait, K: Hash + Eq + Drop, V: Drop, S: BuildH
     pair: Stored<K, V>,
 ) -> Result<Option<&'a V>, Refused>
     requires initial { IsPowerOfTwo means.now.initial }
+    requires open { IsOpen window.old }
     requires hashed { hash ≡ ⟦<S as Hashed<K>>⟧.hash window.old.book.now.parts.hasher (key_of pair) }
     requires placed { IsIn window.old (PairNamed pair) }
     requires number { pair.index < 2 ^ 48 }
@@ -353,6 +359,7 @@ pub(crate) fn insert_met<'a, R: Wait, K: Hash + Eq + Drop, V: Drop, S: BuildHash
     pair: Stored<K, V>,
 ) -> Result<Option<&'a V>, Refused>
     requires initial { IsPowerOfTwo means.now.initial }
+    requires open { IsOpen window.old }
     requires hashed { hash ≡ ⟦<S as Hashed<K>>⟧.hash window.old.book.now.parts.hasher key }
     requires placed { IsIn window.old (PairNamed pair) }
     requires number { pair.index < 2 ^ 48 }

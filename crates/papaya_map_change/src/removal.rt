@@ -3,7 +3,7 @@
 ghost use Rattle.papaya_map_change.specs.Window.Ends.{Ends};
 ghost use Rattle.papaya_map_lookup.specs.Drivers.{past};
 ghost use Rattle.papaya_map_lookup.specs.History.{key_of};
-ghost use Rattle.papaya_map_book.specs.Windows.{Sees};
+ghost use Rattle.papaya_map_book.specs.Windows.{IsOpen, Sees};
 ghost use Rattle.papaya_map_book.specs.Books.{IsIn};
 ghost use Rattle.papaya_map_change.specs.Doing.{Answers};
 ghost use Rattle.papaya_map_change.specs.Window.Removing.{CanRemove, HoldsResult, Removes};
@@ -113,6 +113,7 @@ impl<'a, K: Hash + Eq, V, S: BuildHasher> Removal<'a, K, V, S> {
         window: &mut Window<'a, K, V, S>,
     ) -> Option<Answer>
         requires callable { F.IsAlwaysCallable agrees.old }
+        requires open { IsOpen window.old }
         requires can { CanRemove (⟦<S as Asked<K, Q>>⟧.query key.now) (Judges F.FnMut) window.old
             self.old agrees.old }
         requires valid { IsValid self.old.call.machine }
@@ -204,6 +205,7 @@ pub fn remove_slow<
 ) -> Result<Result<Option<(&'a K, &'a V)>, (&'a K, &'a V)>, Refused>
     requires callable { F.IsAlwaysCallable agrees }
     requires initial { IsPowerOfTwo means.now.initial }
+    requires open { IsOpen window.old }
     ensures ends { Ends (has_removed result) window.old window.new }
     ensures removed { IsRemovalBy K.eq (Q.matches key.now) (past window.old) (past window.new)
         (Judges F.FnMut) agrees result }
@@ -262,6 +264,7 @@ pub fn remove<
 ) -> Result<Result<Option<(&'a K, &'a V)>, (&'a K, &'a V)>, Refused>
     requires callable { F.IsAlwaysCallable agrees }
     requires initial { IsPowerOfTwo initial }
+    requires open { IsOpen window.old }
     ensures ends { Ends (has_removed result) window.old window.new }
     ensures removed { IsRemovalBy K.eq (Q.matches key.now) (past window.old) (past window.new)
         (Judges F.FnMut) agrees result }

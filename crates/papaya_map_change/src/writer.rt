@@ -1,5 +1,5 @@
 //! The shared part of calls that insert: their machine's asks, performed by steps on the book.
-ghost use Rattle.papaya_map_book.specs.Windows.{IsIn};
+ghost use Rattle.papaya_map_book.specs.Windows.{IsIn, IsOpen};
 ghost use Rattle.papaya_map_change.specs.Window.ProbingOn.{HasPassedOver};
 ghost use Rattle.papaya_map_change.specs.Window.Writing.{CanPut, CanWrite, StoresEntry, MakesPart, Puts, Steps, Tries, Waits, Writes};
 ghost use Rattle.papaya_map_change.specs.Window.Writing.{WritesOn};
@@ -280,6 +280,7 @@ impl<'a, K: Hash + Eq + Drop, V: Drop, S: BuildHasher> Writer<'a, K, V, S> {
         pair: &Stored<K, V>,
         window: &mut Window<'a, K, V, S>,
     ) -> Answer
+        requires open { IsOpen window.old }
         requires can { CanPut window.old self.old number place words.0 pair.now }
         requires number { pair_of words.1 ≡ pair.now.index }
         requires asks { ask_of self.old.call.machine ≡ Call (Exchange (Slot number place)
@@ -307,6 +308,7 @@ impl<'a, K: Hash + Eq + Drop, V: Drop, S: BuildHasher> Writer<'a, K, V, S> {
         words: (u64, u64),
         window: &mut Window<'a, K, V, S>,
     ) -> Answer
+        requires open { IsOpen window.old }
         requires waits { Waits window.old self.old (Exchange (Slot number place) words.0 words.1) }
         requires kind { kind_of_ask self.old.call.machine ≡ Some Bury }
         requires valid { IsValid self.old.call.machine }

@@ -7,7 +7,7 @@ ghost use Rattle.papaya_map_change.specs.Window.Ends.{Ends, HasCause};
 ghost use Rattle.std.specs.Prelude.{◌≡◌, None, Some, Option, Ok, Err};
 ghost use Rattle.std.specs.Int.{IsPowerOfTwo};
 ghost use Rattle.papaya_map_lookup.specs.Drivers.{past};
-ghost use Rattle.papaya_map_book.specs.Windows.{IsLawful, Observes};
+ghost use Rattle.papaya_map_book.specs.Windows.{IsLawful, IsOpen, Observes};
 ghost use Rattle.papaya_map_change.specs.declared.fast_path.ProbeHit.TheVariants.{Empty, Met as MetPair};
 ghost use Rattle.papaya_map_compute.specs.Deciding.{AsksRule, IsDecided, answer_of, outcome_of, puts};
 ghost use Rattle.papaya_map_compute.specs.FastPath.{ComesTo, IsSearchEnd, IsOnItsWay};
@@ -138,6 +138,7 @@ fn decide_absent<'a, R: Wait, K: Hash + Eq + Drop, V: Drop, S: BuildHasher, D: R
     rule: &mut D,
 ) -> Attempt<Start<K, V>, Result<Decided<'a, V>, Refused>>
     requires callable { D.callable rule.old }
+    requires open { IsOpen window.old }
     requires led { (begun : _) × IsSearchEnd window.old key hash begun table.now (Empty at) }
     ensures callable { D.callable rule.new }
     ensures comes { (since : _) → IsSearchEnd window.old key hash since.sight.log table.now (Empty at)
@@ -176,6 +177,7 @@ fn decide_present<'a, R: Wait, K: Hash + Eq + Drop, V: Drop, S: BuildHasher, D: 
     rule: &mut D,
 ) -> Attempt<Start<K, V>, Result<Decided<'a, V>, Refused>>
     requires callable { D.callable rule.old }
+    requires open { IsOpen window.old }
     requires led { (begun : _) × IsSearchEnd window.old key hash begun table.now (MetPair live) }
     ensures callable { D.callable rule.new }
     ensures comes { (since : _) → IsSearchEnd window.old key hash since.sight.log table.now
@@ -226,6 +228,7 @@ fn decide_fast<'a, R: Wait, K: Hash + Eq + Drop, V: Drop, S: BuildHasher, D: Rul
     rule: &mut D,
 ) -> Attempt<Start<K, V>, Result<Decided<'a, V>, Refused>>
     requires callable { D.callable rule.old }
+    requires open { IsOpen window.old }
     requires lawful { IsLawful window.old }
     ensures callable { D.callable rule.new }
     ensures comes { ComesTo puts (IsDecided K.eq key (past window.old) (past window.new) D.decides
@@ -257,6 +260,7 @@ fn decide_slow<'a, R: Wait, K: Hash + Eq + Drop, V: Drop, S: BuildHasher, D: Rul
 ) -> Result<Decided<'a, V>, Refused>
     requires callable { D.callable rule.old }
     requires initial { IsPowerOfTwo means.now.initial }
+    requires open { IsOpen window.old }
     requires can { (since : _) × (key : K) × (first : D) × IsOnItsWay since window.old key
         (CallsClosure (AsksRule D.decides)) first rule.old start }
     ensures ends { Ends (puts result) window.old window.new }
@@ -286,6 +290,7 @@ pub fn decide<'a, R: Wait, K: Hash + Eq + Drop, V: Drop, S: BuildHasher, D: Rule
 ) -> Result<Decided<'a, V>, Refused>
     requires callable { D.callable rule.old }
     requires initial { IsPowerOfTwo initial }
+    requires open { IsOpen window.old }
     ensures ends { Ends (puts result) window.old window.new }
     ensures tells { HasCause initial window.new given.new.done (λ cause. result ≡ Err cause) }
     ensures decided { IsDecided K.eq key (past window.old) (past window.new) D.decides rule.old

@@ -7,7 +7,7 @@ ghost use Rattle.papaya_call.specs.declared.answers.Operation.{Operation};
 ghost use Rattle.papaya_map_book.specs.Books.{IsStoredAs};
 ghost use Rattle.papaya_map_book.specs.Logs.{Stored};
 ghost use Rattle.papaya_map_book.specs.PairParts.{IsKeyPartIn, key_in};
-ghost use Rattle.papaya_map_book.specs.Windows.{IsLawful, Observes};
+ghost use Rattle.papaya_map_book.specs.Windows.{IsLawful, IsOpen, Observes};
 ghost use Rattle.papaya_map_change.specs.ClosureCalls.{AreOf};
 ghost use Rattle.papaya_map_change.specs.declared.fast_path.ProbeHit.TheVariants.{Empty, Met as MetPair};
 ghost use Rattle.papaya_map_compute.specs.FastPath.{DoesAtOnce, CanStartSince, IsSearchEnd, StartsAt};
@@ -142,6 +142,7 @@ pub fn fill<'a, R: Wait, K: Hash + Eq + Drop, V: Drop, S: BuildHasher, T: Drop>(
     at: Place,
     operation: Operation<V, T>,
 ) -> Attempt<Start<K, V>, Result<Compute<'a, K, V, T>, Refused>>
+    requires open { IsOpen window.old }
     requires led { (begun : _) × IsSearchEnd window.old key hash begun table.now (Empty at) }
     ensures does { DoesAtOnce window.old window.new key table.now (Empty at) operation result }
 {
@@ -179,6 +180,7 @@ pub fn renew<'a, R: Wait, K: Hash + Eq + Drop, V: Drop, S: BuildHasher, T: Drop>
     old: (&'a K, &'a V),
     operation: Operation<V, T>,
 ) -> Attempt<Start<K, V>, Result<Compute<'a, K, V, T>, Refused>>
+    requires open { IsOpen window.old }
     requires led { (begun : _) × IsSearchEnd window.old key hash begun table.now (MetPair live) }
     requires shown { AreOf old live.stored }
     ensures does { DoesAtOnce window.old window.new key table.now (MetPair live.entry) operation

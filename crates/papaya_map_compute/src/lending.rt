@@ -4,6 +4,7 @@ ghost use Rattle.papaya_map_change.specs.Window.Ends.{Ends, HasCause};
 ghost use Rattle.std.specs.Prelude.{◌≡◌, Err};
 ghost use Rattle.std.specs.Fn.{Called};
 ghost use Rattle.std.specs.Int.{IsPowerOfTwo};
+ghost use Rattle.papaya_map_book.specs.Windows.{IsOpen};
 ghost use Rattle.papaya_map_change.specs.ClosureCalls.{Operates};
 ghost use Rattle.papaya_map_compute.specs.ComputeAnswers.{IsComputeBy, changes};
 ghost use Rattle.papaya_map_lookup.specs.Drivers.{past};
@@ -58,6 +59,7 @@ pub fn compute_lent<
 ) -> Result<Compute<'a, K, V, T>, Refused>
     requires callable { F.IsAlwaysCallable f }
     requires initial { IsPowerOfTwo initial }
+    requires open { IsOpen window.old }
     ensures ends { Ends (changes result) window.old window.new }
     ensures tells { HasCause initial window.new given.new.done (λ cause. result ≡ Err cause) }
     ensures computed { IsComputeBy K.eq key (past window.old) (past window.new) (Operates F.FnMut) f

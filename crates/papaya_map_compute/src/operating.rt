@@ -5,7 +5,7 @@ ghost use Rattle.std.specs.Int.{IsPowerOfTwo};
 ghost use denote.Bor.{Bor};
 ghost use Rattle.papaya_map_book.specs.Books.{IsIn};
 ghost use Rattle.papaya_map_book.specs.Logs.{pair_named};
-ghost use Rattle.papaya_map_book.specs.Windows.{IsLawful};
+ghost use Rattle.papaya_map_book.specs.Windows.{IsLawful, IsOpen};
 ghost use Rattle.papaya_call.specs.declared.answers.Operation.{Operation};
 ghost use Rattle.papaya_map_change.specs.Window.Ends.{Ends, HasCause};
 ghost use Rattle.papaya_map_compute.specs.ComputeAnswers.{changes};
@@ -97,6 +97,7 @@ fn fast<
     Option<&'a V>,
 )
     requires callable { A.callable op.old }
+    requires open { IsOpen window.old }
     requires lawful { IsLawful window.old }
     ensures callable { A.callable op.new }
     ensures comes { ComesTo changes (λ answer. HasEnded K.eq key (past window.old) (past window.new)
@@ -146,6 +147,7 @@ pub(crate) fn slow<
 ) -> Ended<'a, K, V, T>
     requires callable { A.callable op.old }
     requires initial { IsPowerOfTwo means.now.initial }
+    requires open { IsOpen window.old }
     requires can { (since : _) × (key : K) × (first : O) × IsOnItsWay since window.old key
         (CallsClosure A.operates) first op.old start }
     ensures ends { Ends (changes result.answer) window.old window.new }
@@ -205,6 +207,7 @@ pub(crate) fn compute<
 ) -> Ended<'a, K, V, T>
     requires callable { A.callable op.old }
     requires initial { IsPowerOfTwo initial }
+    requires open { IsOpen window.old }
     ensures ends { Ends (changes result.answer) window.old window.new }
     ensures tells { HasCause initial window.new given.new.done
         (λ cause. result.answer ≡ Err cause) }

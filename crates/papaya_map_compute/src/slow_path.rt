@@ -1,7 +1,7 @@
 //! Computes: their machine, whose asks are performed by steps on the book and by a closure.
 ghost use Rattle.papaya_map_compute.specs.FastPath.{IsAhead};
 ghost use Rattle.papaya_map_book.specs.declared.rule.entry.Named.TheVariants.{Pair as PairNamed};
-ghost use Rattle.papaya_map_book.specs.Windows.{Does, IsIn as IsInWindow, IsLawful, Observes, Sees};
+ghost use Rattle.papaya_map_book.specs.Windows.{Does, IsIn as IsInWindow, IsLawful, IsOpen, Observes, Sees};
 ghost use Rattle.papaya_map_book.specs.Books.{IsIn};
 ghost use Rattle.papaya_map_book.specs.Logs.{pair_named};
 ghost use Rattle.papaya_map_compute.specs.Computes.{CanCompute, CanTake, Computes, HasReplied, HasStepped, RecordsResult, IsAnyCompute, IsBegun, HasAnswered, Replies};
@@ -384,6 +384,7 @@ impl<'a, K: Hash + Eq + Drop, V: Drop, S: BuildHasher, T: Drop> Computing<'a, K,
         words: (u64, u64),
         window: &mut Window<'a, K, V, S>,
     ) -> Answer
+        requires open { IsOpen window.old }
         requires can { CanCompute window.old self.old }
         requires valid { IsValid self.old.writer.call.machine }
         requires asks { ask_of self.old.writer.call.machine ≡ Call (Exchange
@@ -410,6 +411,7 @@ impl<'a, K: Hash + Eq + Drop, V: Drop, S: BuildHasher, T: Drop> Computing<'a, K,
         words: (u64, u64),
         window: &mut Window<'a, K, V, S>,
     ) -> Answer
+        requires open { IsOpen window.old }
         requires can { CanCompute window.old self.old }
         requires valid { IsValid self.old.writer.call.machine }
         requires asks { ask_of self.old.writer.call.machine ≡ Call (Exchange
@@ -461,6 +463,7 @@ impl<'a, K: Hash + Eq + Drop, V: Drop, S: BuildHasher, T: Drop> Computing<'a, K,
         means: &Means<'_, '_, R>,
         window: &mut Window<'a, K, V, S>,
     ) -> ComputeStep<K, V>
+        requires open { IsOpen window.old }
         requires can { CanCompute window.old self.old }
         requires valid { IsValid self.old.writer.call.machine }
         requires calling { self.old.writer.call.machine.phase ≡ Calling }

@@ -3,7 +3,7 @@
 ghost use Rattle.std.specs.Prelude.{◌≡◌, ◌<◌, suc, false, Err, IfErr, length};
 ghost use Rattle.std.specs.Int.{IsPowerOfTwo};
 ghost use Rattle.papaya_map_book.specs.Limits.{HasNoRoom, tables_of};
-ghost use Rattle.papaya_map_book.specs.Windows.{IsIn, IsLawful, IsTable, Sees};
+ghost use Rattle.papaya_map_book.specs.Windows.{IsIn, IsLawful, IsOpen, IsTable, Sees};
 ghost use Rattle.papaya_map_book.specs.declared.rule.entry.Named.TheVariants.{Pair as PairNamed};
 ghost use Rattle.papaya_map_lookup.specs.Drivers.{own, past};
 ghost use Rattle.papaya_map_change.specs.ClosureCalls.{Judges};
@@ -56,6 +56,7 @@ fn scan_slot<'a, R: Wait, K: Hash + Eq, V, S: BuildHasher, F: FnMut(&K, &V) -> b
     requires table { IsTable window.old number table.now }
     requires taken { (began : _) × IsTaken began window.old number }
     requires place { place < length table.now.slots }
+    requires open { IsOpen window.old }
     ensures sees { Sees window.old window.new }
     ensures callable { F.IsAlwaysCallable stays.new }
     ensures scans { (began : _) → IsTaken began window.old number
@@ -96,6 +97,7 @@ fn scan_table<'a, R: Wait, K: Hash + Eq, V, S: BuildHasher, F: FnMut(&K, &V) -> 
     requires callable { F.IsAlwaysCallable stays.old }
     requires table { IsTable window.old number table.now }
     requires taken { (began : _) × IsTaken began window.old number }
+    requires open { IsOpen window.old }
     ensures sees { Sees window.old window.new }
     ensures callable { F.IsAlwaysCallable stays.new }
     ensures scans { (began : _) → IsTaken began window.old number
@@ -121,6 +123,7 @@ pub fn retain<'a, R: Wait, K: Hash + Eq, V, S: BuildHasher, F: FnMut(&K, &V) -> 
 ) -> Result<(), Refused>
     requires callable { F.IsAlwaysCallable stays }
     requires initial { IsPowerOfTwo means.now.initial }
+    requires open { IsOpen window.old }
     ensures sees { Sees window.old window.new }
     ensures lawful { IsLawful window.new }
     ensures kept { HasKept K.eq (past window.old) (past window.new) (own window.old)

@@ -2,7 +2,7 @@
 ghost use Rattle.std.specs.Prelude.{◌≡◌, ◌<◌, ◌==◌, true, false, Some, length};
 ghost use Rattle.papaya_words.specs.Word.{kind_of};
 ghost use Rattle.papaya_words.specs.declared.word.Kind.TheVariants.{Live};
-ghost use Rattle.papaya_map_book.specs.Windows.{Does, IsLawful, IsSlot, IsTable, Observes, Sees};
+ghost use Rattle.papaya_map_book.specs.Windows.{Does, IsLawful, IsOpen, IsSlot, IsTable, Observes, Sees};
 ghost use Rattle.papaya_map_scan.specs.TableScans.{IsBuried, IsMet, IsTaken};
 
 use papaya_map_book::count::Shard;
@@ -45,6 +45,7 @@ pub fn bury<'a, K: Hash + Eq, V, S: BuildHasher>(
     requires table { IsTable window.old number table.now }
     requires taken { (began : _) × IsTaken began window.old number }
     requires place { place < length table.now.slots }
+    requires open { IsOpen window.old }
     requires stood { IsSlot window.old window.old number place word (Some shown.now) }
     requires live { kind_of word ≡ Live }
     ensures sees { Sees window.old window.new }

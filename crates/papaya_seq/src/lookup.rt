@@ -7,6 +7,8 @@ ghost use Rattle.papaya_core_timeline.specs.Content.{content};
 ghost use Rattle.papaya_core_store.specs.Store.{pair_of};
 ghost use Rattle.papaya_words_keys.specs.Hashes.{hash_of};
 ghost use Rattle.papaya_seq.specs.Looks.{LooksUp, matches_in};
+ghost use Rattle.papaya_seq.specs.Searches.{IsRootHit};
+ghost use Rattle.papaya_seq.specs.declared.search.ProbeHit.TheVariants.{Over};
 
 use crate::search::{ProbeHit, search, search_root};
 use crate::seq::HashMap;
@@ -45,34 +47,38 @@ impl<K: Hash + Eq, V, S: BuildHasher> HashMap<K, V, S> {
         ensures apart { AreApart K.eq (λ p. p.key) (content K.eq self.now.store) }
     {
         let hash = self.store.hash(key);
-        match search_root(&self.store, key, hash) {
-            Some(ProbeHit::Here(_, word)) => Some(Word(word).pair()),
-            Some(ProbeHit::Empty(_)) => None,
-            _ => self.look_up_far(key),
+        let turn = search_root(&self.store, key, hash)?;
+        match turn {
+            ProbeHit::Here(_, word) => Some(Word(word).pair()),
+            ProbeHit::Over(root) => self.look_up_far(key, hash, root),
+            _ => None,
         }
     }
 
-    /// Returns the number of a key's pair, whichever table has it. It is a call of its own, so that
-    /// the search of the root keeps its registers.
+    /// Returns the number of a key's pair, whichever table after the root has it. The root's search
+    /// has passed the whole root. It is a call of its own, so that the search of the root keeps its
+    /// registers.
     #[cold]
     #[inline(never)]
-    fn look_up_far<Q: Equivalent<K>>(&self, key: &Q) -> Option<u64>
+    fn look_up_far<Q: Equivalent<K>>(&self, key: &Q, hash: u64, root: u64) -> Option<u64>
+        requires hash { hash ≡ hash_of Q.hash_input S.build_hasher S.Hasher.write S.Hasher.finish
+            self.now.store.hasher key.now }
+        requires led { IsRootHit (Q.matches key.now) self.now.store hash (Over root) }
         ensures { (found : _) × LooksUp K.eq (Q.matches key.now) self.now.store
             (started Get (hash_of Q.hash_input S.build_hasher S.Hasher.write S.Hasher.finish
             self.now.store.hasher key.now) self.now.mode.resize self.now.initial
             self.now.mode.limit) found
             × (result ≡ option_map (λ p. p.number) found) }
     {
-        let hash = self.store.hash(key);
-        let mut number = self.store.word(At::Root);
+        let ResizeMode::Incremental(_) = self.mode.resize else {
+            return None;
+        };
+        let mut number = self.store.word(At::Next(root));
         while let Some(table) = self.store.table(number) {
             let first = Place::first(hash, number, table.len(), table.limit());
             match search(&self.store, key, hash, first) {
                 ProbeHit::Here(_, word) => return Some(Word(word).pair()),
-                ProbeHit::Over(passed) => match self.mode.resize {
-                    ResizeMode::Incremental(_) => number = self.store.word(At::Next(passed)),
-                    ResizeMode::Blocking => return None,
-                },
+                ProbeHit::Over(passed) => number = self.store.word(At::Next(passed)),
                 _ => return None,
             }
         }

@@ -1,5 +1,5 @@
 //! The search of one table for a key, by the table's words: one loop for every call.
-ghost use Rattle.std.specs.Prelude.{◌≡◌, ◌+◌, ◌<◌, ℕ, Some, length};
+ghost use Rattle.std.specs.Prelude.{◌≡◌, ◌+◌, ◌<◌, ℕ, None, Some, length};
 ghost use Rattle.papaya_call.specs.Search.{IsSize, IsWithin};
 ghost use Rattle.papaya_core_store.specs.Tables.{table_of};
 ghost use Rattle.papaya_seq.specs.Searches.{IsPassed, IsReadHit, IsRootHit, IsThere, IsProbeHit, HasStopped};
@@ -143,7 +143,10 @@ pub(crate) fn search_root<K: Hash + Eq, V, S: BuildHasher, Q: Equivalent<K>>(
 ) -> Option<ProbeHit>
     requires { (n : ℕ) (t : _) → table_of store.now.words.tables n ≡ Some t
         → IsSize (length t.slots) t.limit }
-    ensures { (turn : _) → result ≡ Some turn → IsRootHit (Q.matches key.now) store.now hash turn }
+    ensures turn { (turn : _) → result ≡ Some turn
+        → IsRootHit (Q.matches key.now) store.now hash turn }
+    ensures over { (place : _) → result ≡ Some (Next place) → ⊥ }
+    ensures none { result ≡ None → table_of store.now.words.tables store.now.words.root ≡ None }
 {
     let number = store.word(At::Root);
     let table = store.table(number)?;

@@ -5,7 +5,9 @@ ghost use Rattle.papaya_words.specs.Probe.{IsEntriesFor};
 ghost use Rattle.papaya_words.specs.declared.limits.TheConstants.{DEFAULT_CHUNK, DEFAULT_SHARDS};
 ghost use Rattle.papaya_core_timeline.specs.Content.{content};
 ghost use Rattle.papaya_core_timeline.specs.Core.{unlimited};
+ghost use Rattle.papaya_words_keys.specs.Hashes.{hash_of};
 ghost use Rattle.papaya_seq.specs.Clones.{HasParts, IsCloneRefusal, IsRebuildRefusal, IsRebuilt};
+ghost use Rattle.papaya_seq.specs.PutAlone.{IsClonedAlone, IsRebuiltAlone};
 ghost use Rattle.papaya_map_change.specs.Writing.{IsMemoryOrCapacity};
 ghost use Rattle.papaya_map.specs.Collected.{AreCopied};
 ghost use Rattle.papaya_map.specs.Fixed.{HasFirstTable, HasSettingsOf, IsFor};
@@ -36,6 +38,9 @@ impl<K: Hash + Eq + Clone + Drop, S: BuildHasher + Clone + Drop> seq::HashSet<K,
             ≡ unlimited (ResizeMode.Incremental DEFAULT_CHUNK))
             × IsEntriesFor (length (content K.eq self.now.store)) made.initial
             × (made.store.count.shards ≡ 1)) }
+        ensures alone { IfOk result (IsClonedAlone K.eq
+            (hash_of K.hash_input S.build_hasher S.Hasher.write S.Hasher.finish) K.is_clone
+            (λ v w. w ≡ v) self.now) }
         ensures err { IfErr result (λ e. IsCloneRefusal K.eq K.is_clone (λ v w. w ≡ v)
             self.now.store e) }
         ensures below { IfErr result (λ e. e ≢ Refused.Limit) }
@@ -61,6 +66,9 @@ impl<K: Hash + Eq + Clone + Drop, S: BuildHasher + Clone + Drop> seq::HashSet<K,
         ensures parts { OnOk result (HasParts self.old self.new) }
         ensures numbers { OnOk result (self.new.store.words.made
             ≡ length (content K.eq self.old.store)) }
+        ensures alone { OnOk result (IsRebuiltAlone K.eq
+            (hash_of K.hash_input S.build_hasher S.Hasher.write S.Hasher.finish) K.is_clone
+            (λ v w. w ≡ v) self.old self.new) }
         ensures err { IfErr result (λ e. (self.new ≡ self.old)
             × IsRebuildRefusal K.eq K.is_clone (λ v w. w ≡ v) self.old e) }
         ensures below { IfErr result (λ e. e ≢ Refused.Limit) }

@@ -3,8 +3,10 @@ ghost use Rattle.std.specs.Prelude.{◌≡◌, ◌⊎◌, IfOk, IfErr};
 ghost use Rattle.std.specs.Iterator.{IsFiniteIterable};
 ghost use Rattle.std.specs.declared.hash.FoldHasher.{FoldHasher};
 ghost use Rattle.std.specs.declared.hash.BuildHasherDefault.{BuildHasherDefault};
+ghost use Rattle.papaya_words_keys.specs.Hashes.{hash_of};
 ghost use Rattle.papaya_seq.specs.Entries.{AllCome, ComesNext, Extends, HasJust, IsCutNew};
 ghost use Rattle.papaya_seq.specs.Entries.{IsCutIn};
+ghost use Rattle.papaya_seq.specs.PutAlone.{ExtendsAlone, IsFilledAlone};
 ghost use Rattle.papaya_set.specs.Sets.{entry_of_key, entry_of_ref};
 
 use crate::seq::HashSet;
@@ -27,8 +29,11 @@ impl<K: Hash + Eq + Drop, S: BuildHasher> HashSet<K, S> {
         U::IntoIter: Drop,
         requires { IsFiniteIterable U.into_iter_gives U.IntoIter.can_next U.IntoIter.remaining
             iter }
-        ensures { Extends U.into_iter_gives U.IntoIter.next_gives K.eq entry_of_key iter self.old
-            result self.new }
+        ensures extends { Extends U.into_iter_gives U.IntoIter.next_gives K.eq entry_of_key iter
+            self.old result self.new }
+        ensures alone { ExtendsAlone K.eq
+            (hash_of K.hash_input S.build_hasher S.Hasher.write S.Hasher.finish) entry_of_key
+            U.into_iter_gives U.IntoIter.next_gives iter self.old result self.new }
     {
         for key in iter {
             match self.insert(key) {
@@ -53,8 +58,11 @@ impl<K: Hash + Eq + Copy + Drop, S: BuildHasher> HashSet<K, S> {
         U::IntoIter: Drop,
         requires { IsFiniteIterable U.into_iter_gives U.IntoIter.can_next U.IntoIter.remaining
             iter }
-        ensures { Extends U.into_iter_gives U.IntoIter.next_gives K.eq entry_of_ref iter self.old
-            result self.new }
+        ensures extends { Extends U.into_iter_gives U.IntoIter.next_gives K.eq entry_of_ref iter
+            self.old result self.new }
+        ensures alone { ExtendsAlone K.eq
+            (hash_of K.hash_input S.build_hasher S.Hasher.write S.Hasher.finish) entry_of_ref
+            U.into_iter_gives U.IntoIter.next_gives iter self.old result self.new }
     {
         for key in iter {
             match self.insert(*key) {
@@ -85,6 +93,10 @@ impl<K: Hash + Eq + Drop, S: BuildHasher + Default + Drop> HashSet<K, S> {
             iter }
         ensures ok { IfOk result (λ set. AllCome U.into_iter_gives U.IntoIter.next_gives iter
             (λ items. HasJust K.eq entry_of_key items set)) }
+        ensures alone { IfOk result (λ set. AllCome U.into_iter_gives U.IntoIter.next_gives iter
+            (λ items. IsFilledAlone K.eq
+            (hash_of K.hash_input S.build_hasher S.Hasher.write S.Hasher.finish) entry_of_key items
+            set)) }
         ensures hasher { IfOk result (λ set. S.is_default set.store.hasher) }
         ensures err { IfErr result (λ e. (e ≡ Refused.Memory)
             ⊎ ComesNext U.into_iter_gives U.IntoIter.next_gives iter

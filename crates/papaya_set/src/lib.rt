@@ -3,8 +3,8 @@
 //! `papaya_json` and `papaya_reclaiming` build on it, and `papaya` re-exports it.
 //!
 //! [`set`] has the set that threads share, [`pinned`] its calls, and [`guarded`] those with a
-//! guard; [`builder`] has its builder. [`seq`] is the set for one caller. Each call passes on to
-//! the map's.
+//! guard; [`builder`] has its builder, and [`set::read_only`] the set that nobody changes.
+//! [`seq`] is the set for one caller. Each call passes on to the map's.
 #![tactic(auto)]
 
 pub mod builder;

@@ -1,17 +1,24 @@
 //! The set for one caller.
-ghost use Rattle.std.specs.Prelude.{◌≡◌, ◌≢◌, ◌↔◌, IsTrue, true, Err, IfErr, IfOk, IsOk, OnOk, [], MatchBool};
-ghost use Rattle.std.specs.Prelude.{MatchOption, length, option_map, is_some};
+ghost use Rattle.std.specs.Prelude.{◌≡◌, ◌≢◌, ◌↔◌, ℕ, ◌≤◌, IsTrue, true, Some, Ok, Err, IfErr, IfOk, IsOk};
+ghost use Rattle.std.specs.Prelude.{OnOk, [], MatchBool, MatchOption, length, option_map, is_some};
 ghost use Rattle.papaya_words.specs.declared.limits.TheConstants.{DEFAULT_CHUNK};
+ghost use Rattle.papaya_call.specs.Machine.{started};
+ghost use Rattle.papaya_call.specs.declared.call.Task.TheVariants.{Get};
 ghost use Rattle.papaya_words_law.specs.Content.{AreApart};
 ghost use Rattle.papaya_core_timeline.specs.Content.{content};
 ghost use Rattle.papaya_core_timeline.specs.New.{IsNew, IsNewLimited};
+ghost use Rattle.papaya_words_keys.specs.Hashes.{hash_of};
 ghost use Rattle.papaya_words_keys.specs.Sizes.{IsAllowed, IsSizeRefusal, IsTooMuch};
 ghost use Rattle.papaya_seq.specs.Entries.{IsPut};
-ghost use Rattle.papaya_seq.specs.Map.{HasNone, Holds, Keeps, KeepsSlots, Unchanged};
+ghost use Rattle.papaya_seq.specs.Looks.{LooksUp};
+ghost use Rattle.papaya_seq.specs.MadeAlone.{IsDoneAlone, IsRemovalAlone};
+ghost use Rattle.papaya_seq.specs.Map.{HasNone, Holds, Keeps, KeepsSlots, PushesOne, Unchanged};
 ghost use Rattle.papaya_seq.specs.Map.{core_of, next_of, slots_of};
-ghost use Rattle.papaya_seq.specs.Resizes.{HasRoomFor, IsCopyCause, IsReserveCause, pairs_with};
+ghost use Rattle.papaya_seq.specs.Resizes.{HasRoomAlready, HasRoomFor, IsCopyCause, IsReserveCause};
+ghost use Rattle.papaya_seq.specs.Resizes.{pairs_with};
 ghost use Rattle.papaya_set.specs.Sets.{AreKept, HaveSameKeys, IsTaken, key_in};
 
+use papaya_call::call::Call;
 use papaya_seq::seq::HashMap;
 use papaya_words::refused::Refused;
 use papaya_words::resize_mode::ResizeMode;
@@ -183,9 +190,14 @@ impl<K: Hash + Eq, S: BuildHasher> HashSet<K, S> {
     }
 
     /// Returns the number of keys in the set.
+    ///
+    /// The contract also states that the arena of a set with a limit has no more keys than the
+    /// limit.
     pub fn len(&self) -> usize
         ensures count { result ≡ length (content K.eq self.now.store) }
         ensures apart { AreApart K.eq (λ p. p.key) (content K.eq self.now.store) }
+        ensures limit { (n : ℕ) → self.now.mode.limit ≡ Some n
+            → length self.now.store.pairs ≤ n }
     {
         self.map.len()
     }
@@ -205,6 +217,11 @@ impl<K: Hash + Eq, S: BuildHasher> HashSet<K, S> {
         ensures answer { MatchBool result
             ((p : _) × Holds K.eq (Q.matches key.now) self.now.store p)
             (HasNone K.eq (Q.matches key.now) self.now.store) }
+        ensures machine { (found : _) × LooksUp K.eq (Q.matches key.now) self.now.store
+            (started Get (hash_of Q.hash_input S.build_hasher S.Hasher.write S.Hasher.finish
+            self.now.store.hasher key.now) self.now.mode.resize self.now.initial
+            self.now.mode.limit) found
+            × (result ≡ is_some found) }
     {
         self.map.contains_key(key)
     }
@@ -217,6 +234,11 @@ impl<K: Hash + Eq, S: BuildHasher> HashSet<K, S> {
         ensures answer { MatchOption result (HasNone K.eq (Q.matches key.now) self.now.store)
             (λ stored. (p : _) × Holds K.eq (Q.matches key.now) self.now.store p
             × (p.key ≡ stored.now)) }
+        ensures machine { (found : _) × LooksUp K.eq (Q.matches key.now) self.now.store
+            (started Get (hash_of Q.hash_input S.build_hasher S.Hasher.write S.Hasher.finish
+            self.now.store.hasher key.now) self.now.mode.resize self.now.initial
+            self.now.mode.limit) found
+            × (option_map (λ stored. stored.now) result ≡ option_map (λ p. p.key) found) }
     {
         match self.map.get_key_value(key) {
             Some((stored, _)) => Some(stored),
@@ -243,7 +265,11 @@ impl<K: Hash + Eq + Drop, S: BuildHasher> HashSet<K, S> {
     /// [`HashMap::insert`] does. The set is then as it was, and the key is dropped, at once or with
     /// the set.
     pub fn insert(&mut self, key: K) -> Result<bool, Refused>
-        ensures { IsPut K.eq key tt self.old result self.new }
+        ensures puts { IsPut K.eq key tt self.old result self.new }
+        ensures alone { IsDoneAlone K.eq
+            (hash_of K.hash_input S.build_hasher S.Hasher.write S.Hasher.finish) self.old
+            (Call.Insert key tt) result self.new }
+        ensures stores { PushesOne self.old.store self.new.store }
     {
         self.map.put(key, ())
     }
@@ -256,6 +282,9 @@ impl<K: Hash + Eq + Drop, S: BuildHasher> HashSet<K, S> {
     /// keys are being moved to a next table.
     pub fn remove<Q: Equivalent<K>>(&mut self, key: &Q) -> Result<bool, Refused>
         ensures taken { IsTaken K.eq (Q.matches key.now) self.old result self.new }
+        ensures alone { IsRemovalAlone K.eq
+            (hash_of K.hash_input S.build_hasher S.Hasher.write S.Hasher.finish)
+            (Q.matches key.now) self.old result self.new }
         ensures never { next_of self.old.store ≡ 0 → IsOk result }
     {
         let was = match self.map.remove(key) {
@@ -275,7 +304,13 @@ impl<K: Hash + Eq + Drop, S: BuildHasher> HashSet<K, S> {
         ensures err { IfErr result (λ e. IsReserveCause K.eq self.old additional e self.new) }
         ensures too_much { IsTooMuch (pairs_with K.eq self.old.store additional)
             → (result ≡ Err Refused.Capacity) × (self.new ≡ self.old) }
+        ensures there { HasRoomAlready K.eq self.old.store additional
+            → (result ≡ Ok tt) × (self.new ≡ self.old) }
         ensures map { Unchanged K.eq self.old.store self.new.store }
+        ensures alone { IsDoneAlone K.eq
+            (hash_of K.hash_input S.build_hasher S.Hasher.write S.Hasher.finish) self.old
+            (Call.Reserve additional) result self.new }
+        ensures words { self.new.store ≡ record self.old.store { words = self.new.store.words } }
         ensures keeps { Keeps self.old self.new }
     {
         self.map.reserve(additional)

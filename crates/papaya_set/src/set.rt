@@ -5,6 +5,8 @@ ghost use Rattle.papaya_words_keys.specs.Sizes.{IsAllowed, IsSizeRefusal};
 ghost use Rattle.papaya_map.specs.Fixed.{HasLearned, IsFor};
 ghost use mathlib.Core.List.{IsPrefix};
 
+pub mod read_only;
+
 use papaya_map::map::{HashMap, HashMapRef};
 use papaya_map::pass::Pass;
 use papaya_words::refused::Refused;

@@ -1,9 +1,11 @@
 mod CacheLemmas
 mod CounterLemmas
 mod HitLemmas
+mod JobLemmas
 mod LimitLemmas
 mod LoginLemmas
 mod MetricLemmas
+mod PriceLemmas
 mod PutLemmas
 mod Said
 mod SeenLemmas

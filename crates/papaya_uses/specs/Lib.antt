@@ -2,8 +2,10 @@ pub mod Answers
 pub mod Cache
 pub mod Counters
 pub mod Hits
+pub mod Jobs
 pub mod Logins
 pub mod Metrics
+pub mod Prices
 pub mod Routes
 pub mod Seen
 pub mod Sessions

@@ -42,6 +42,8 @@ mod plain;
 #[cfg(test)]
 mod printing;
 #[cfg(test)]
+mod read_only;
+#[cfg(test)]
 mod refused;
 #[cfg(test)]
 mod scans;

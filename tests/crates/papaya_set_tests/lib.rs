@@ -12,6 +12,8 @@ mod labels;
 #[cfg(test)]
 mod overlaps;
 #[cfg(test)]
+mod read_only;
+#[cfg(test)]
 mod reclaiming;
 #[cfg(test)]
 mod refused;

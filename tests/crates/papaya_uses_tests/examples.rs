@@ -299,6 +299,54 @@ fn stores(rt: &(impl Abort + Wait), map: &Numbers) -> Result<(), Refused> {
     Ok(())
 }
 
+fn into_read_only(rt: &impl Wait, map: Numbers) -> Found {
+    map.pin().insert(rt, 1, 10)?;
+    let fixed = map.into_read_only();
+    let value = fixed.get(&1); // Some(&10)
+    let absent = fixed.get(&2); // None
+    Ok((value.copied(), absent.copied()))
+}
+
+fn into_map(rt: &impl Wait, map: Numbers) -> Result<Option<u64>, Refused> {
+    map.pin().insert(rt, 1, 10)?;
+    let fixed = map.into_read_only();
+    let map = fixed.into_map();
+    let old = map.pin().insert(rt, 1, 11)?; // Some(&10)
+    Ok(old.copied())
+}
+
+fn read_only_iter(rt: &impl Wait, map: Numbers) -> Result<u64, Refused> {
+    map.pin().insert(rt, 1, 10)?;
+    map.pin().insert(rt, 2, 20)?;
+    let fixed = map.into_read_only();
+    let mut sum = 0u64;
+    for (_, value) in fixed.iter(rt)? {
+        sum = sum.saturating_add(*value);
+    }
+    // sum is 30
+    Ok(sum)
+}
+
+#[test]
+fn read_only_maps(rt: HostRuntime) -> Result<(), Fail> {
+    is(
+        &rt,
+        into_read_only(&rt, HashMap::new(&rt, rt.alloc())?),
+        Ok((Some(10), None)),
+    );
+    is(
+        &rt,
+        into_map(&rt, HashMap::new(&rt, rt.alloc())?),
+        Ok(Some(10)),
+    );
+    is(
+        &rt,
+        read_only_iter(&rt, HashMap::new(&rt, rt.alloc())?),
+        Ok(30),
+    );
+    Ok(())
+}
+
 #[test]
 fn shared_maps(rt: HostRuntime) -> Result<(), Fail> {
     let mut map: Numbers = HashMap::new(&rt, rt.alloc())?;

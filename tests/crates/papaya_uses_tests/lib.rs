@@ -21,6 +21,8 @@ mod named;
 #[cfg(test)]
 mod plain;
 #[cfg(test)]
+mod prices;
+#[cfg(test)]
 mod servers;
 #[cfg(test)]
 mod sessions;

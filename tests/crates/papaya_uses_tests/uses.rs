@@ -4,6 +4,7 @@ use papaya::seq::HashMap;
 use papaya::{Refused, Session};
 use papaya_uses::counters::{Counters, add};
 use papaya_uses::hits::{Hits, forget_below, hit, reads, total};
+use papaya_uses::jobs::{Outcomes, outcome_after, report};
 use papaya_uses::seen::{Finder, Items};
 use papaya_uses::sessions::{Users, sign_in, sign_out, user_of};
 use papaya_uses::settings::{Settings, set_and_read};
@@ -11,6 +12,7 @@ use papaya_uses::words::count_words;
 use std::process::Abort;
 use std::sync::Wait;
 use std::test::Fail;
+use std::thread;
 use std::thread::{Threads, join};
 
 /// Checks that the word occurs this many times in the text.
@@ -170,5 +172,82 @@ fn finds(rt: &(impl Threads + Wait + Sync + Abort), items: &Items) {
 fn each_item_is_new_once(rt: HostRuntime) -> Result<(), Fail> {
     let items: Items = Items::new(&rt, rt.alloc())?;
     finds(&rt, &items);
+    Ok(())
+}
+
+/// Lets a thread of a scope report the outcome of a job, and reads the outcome in this thread.
+fn reads_after_a_scope(
+    rt: &(impl Threads + Wait + Sync),
+    outcomes: &Outcomes,
+    reader: &mut Session<'_, u64, u64>,
+    job: u64,
+    outcome: u64,
+) -> Result<Option<u64>, Refused> {
+    let mut worker = thread::scope(thread::scope_env(), rt, |scope| {
+        let Ok(worker) = scope.spawn(move || report(rt, Session::new(outcomes), job, outcome))
+        else {
+            return Err(Refused::Memory);
+        };
+        worker.join(rt)
+    })?;
+    Ok(outcome_after(reader, &mut worker, job))
+}
+
+/// Reports an outcome, replaces it by a second session, and removes it by a third. Returns what the
+/// reader reads after it has met each of them.
+fn reads_each(
+    rt: &impl Wait,
+    outcomes: &Outcomes,
+    reader: &mut Session<'_, u64, u64>,
+) -> Result<(Option<u64>, Option<u64>, Option<u64>), Refused> {
+    let mut first = report(rt, Session::new(outcomes), 3, 30)?;
+    let reported = outcome_after(reader, &mut first, 3);
+    let mut second = report(rt, Session::new(outcomes), 3, 31)?;
+    let replaced = outcome_after(reader, &mut second, 3);
+    let mut third = Session::new(outcomes);
+    third.remove(rt, &3)?;
+    Ok((reported, replaced, outcome_after(reader, &mut third, 3)))
+}
+
+/// Lets another thread report an outcome, and then reads it in this thread.
+fn report_and_read(
+    rt: &(impl Threads + Wait + Sync),
+    outcomes: &Outcomes,
+    reader: &mut Session<'_, u64, u64>,
+    job: u64,
+    outcome: u64,
+) -> Result<Option<u64>, Refused> {
+    let mut worker = Session::new(outcomes);
+    worker.meet(reader);
+    let (reported, _) = join(rt, move || report(rt, worker, job, outcome), || ());
+    let mut after = reported?;
+    Ok(outcome_after(reader, &mut after, job))
+}
+
+/// Lets other threads report outcomes, and reads them in this thread.
+fn passes_on(rt: &(impl Threads + Wait + Sync + Abort), outcomes: &Outcomes) {
+    let mut reader = Session::new(outcomes);
+    for outcome in 0..100u64 {
+        let read = report_and_read(rt, outcomes, &mut reader, 1, outcome);
+        is(rt, read, Ok(Some(outcome)));
+    }
+    let read = reads_after_a_scope(rt, outcomes, &mut reader, 2, 20);
+    is(rt, read, Ok(Some(20)));
+    is(
+        rt,
+        reads_each(rt, outcomes, &mut reader),
+        Ok((Some(30), Some(31), None)),
+    );
+    is(
+        rt,
+        outcome_after(&mut reader, &mut Session::new(outcomes), 1),
+        Some(99),
+    );
+}
+
+#[test]
+fn a_thread_reads_what_another_one_reported(rt: HostRuntime) -> Result<(), Fail> {
+    let outcomes: Outcomes = Outcomes::new(&rt, rt.alloc())?;
+    passes_on(&rt, &outcomes);
     Ok(())
 }

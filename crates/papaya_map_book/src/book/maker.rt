@@ -6,7 +6,7 @@
 //! that opens or links the table. The log records the seal for which each word was dealt, so no two
 //! tables that have come share a word.
 ghost use Rattle.papaya_map_book.specs.Books.{Brings, CanBring, IsIn, IsLeft, Seals};
-ghost use Rattle.std.specs.Prelude.{◌≡◌, ◌≢◌, ◌+◌, ◌-◌, ◌<◌, ◌==◌, false, Some, IfOk, IfErr, IfSome};
+ghost use Rattle.std.specs.Prelude.{◌≡◌, ◌≢◌, ◌+◌, ◌-◌, ◌<◌, ◌==◌, false, None, Some, IfOk, IfErr, IfSome};
 ghost use mathlib.Core.List.{IsPrefix};
 ghost use Rattle.logbook.specs.Pages.{nib, may_write};
 ghost use Rattle.papaya_words.specs.Mode.{IsChunked};
@@ -25,6 +25,8 @@ use crate::rule::offer::{Offer, Seen};
 use crate::rule::steps::{Bring, Deal, Laying, NameStep};
 use crate::rule::token::{drawn, witness};
 use logbook::{Pen, Pens, Word};
+use papaya_gate::gate::Gate;
+use papaya_gate::steps::unpaid;
 use std::hash::{BuildHasher, Hash};
 use std::sync::Wait;
 
@@ -36,12 +38,13 @@ impl<K: Hash + Eq, V, S: BuildHasher> Book<K, V, S> {
     /// could give it.
     pub fn begin(parts: Parts<K, V, S>) -> Result<Book<K, V, S>, Parts<K, V, S>>
         requires { IsChunked parts.mode }
-        ensures ok { IfOk result (λ book. book.parts ≡ parts) }
+        ensures ok { IfOk result (λ book. (book.parts ≡ parts) × (book.gate.era ≡ None)) }
         ensures err { IfErr result (λ back. back ≡ parts) }
     {
+        let (start, gate) = Gate::begin(offer::begin(&parts));
         let (mut begun, mut pens) = logbook::Seen::open_row::<Parts<K, V, S>, OpeningLog>(
             &parts,
-            offer::begin(&parts),
+            start,
             3 + ROW_LEN as usize,
         );
         let mut pen = pens.take();
@@ -53,8 +56,8 @@ impl<K: Hash + Eq, V, S: BuildHasher> Book<K, V, S> {
         let known = begun.again();
         let mut offer = offer::with_row(&known, &mut pens);
         let mut pen = begun.no_pen();
-        let found = maker.compare_exchange::<NameStep, Found<K, V>>(
-            0, 1, &mut begun, &mut offer, &mut pen,
+        let found = unpaid::<_, _, _, NameStep, Found<K, V>>(
+            &maker, 0, 1, &mut begun, &mut offer, &mut pen,
         );
         if found != 0 {
             return Err(parts);
@@ -66,6 +69,7 @@ impl<K: Hash + Eq, V, S: BuildHasher> Book<K, V, S> {
             made,
             begun,
             origin: known,
+            gate,
         })
     }
 
@@ -95,9 +99,14 @@ impl<K: Hash + Eq, V, S: BuildHasher> Book<K, V, S> {
             }
             let mut draw = offer::drawing(sight, old + 2, count);
             let mut pen = sight.no_pen();
-            let found = self
-                .maker
-                .compare_exchange::<Deal, Drawn>(old, old + count, sight, &mut draw, &mut pen);
+            let found = unpaid::<_, _, _, Deal, Drawn>(
+                &self.maker,
+                old,
+                old + count,
+                sight,
+                &mut draw,
+                &mut pen,
+            );
             if found == old {
                 let seal = Word::tracked(0, &mut pen);
                 return Some((seal, pen, drawn(draw.into_gain())));
@@ -149,7 +158,7 @@ impl<K: Hash + Eq, V, S: BuildHasher> Book<K, V, S> {
             laying,
             witness(laying.table),
         );
-        let found = word.compare_exchange::<Bring, Found<K, V>>(old, new, sight, &mut offer, seal);
+        let found = unpaid::<_, _, _, Bring, Found<K, V>>(word, old, new, sight, &mut offer, seal);
         (found, offer)
     }
 }

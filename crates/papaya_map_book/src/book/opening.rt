@@ -1,5 +1,5 @@
 //! Opening the book of a map.
-ghost use Rattle.std.specs.Prelude.{◌≡◌, IfOk, [], ◌∷◌};
+ghost use Rattle.std.specs.Prelude.{◌≡◌, IfOk, None, [], ◌∷◌};
 ghost use Rattle.papaya_words.specs.Mode.{IsChunked};
 ghost use Rattle.papaya_map_book.specs.Parts.{begun_of};
 ghost use Rattle.papaya_map_book.specs.declared.rule.entry.Event.TheVariants.{Begin};
@@ -41,7 +41,7 @@ impl<K: Hash + Eq, V, S: BuildHasher> Book<K, V, S> {
     /// Returns the book of a new map.
     pub fn opened<R: Wait>(rt: &R, parts: Parts<K, V, S>) -> Book<K, V, S>
         requires { IsChunked parts.mode }
-        ensures { result.parts ≡ parts }
+        ensures { (result.parts ≡ parts) × (result.gate.era ≡ None) }
     {
         let mut parts = parts;
         for _ in rt.forever() {

@@ -1,19 +1,23 @@
 //! The rule of the book.
 use crate::rule::entry::{Event, Named};
 use logbook::{Gain, Rule};
+use papaya_gate::rule::{Gated, Tracking};
 use papaya_map_cells::hint::Hinting;
 use std::hash::{BuildHasher, Hash};
 use std::marker::PhantomData;
 
-/// The rule of the book. The log's exchanges are allowed, the words are those that they leave, and
-/// each hint was one of its slot. The book keeps the tokens of all pairs and tables that came, and
-/// the rights to make words for tables. Hints are beside words of slots, eight beside one word; a
-/// word of a fresh slot, which the book does not track, is 0.
-pub struct Law<K, V, S> {
+/// The rule of the book, with a gate beside it for the exchanges that change the map.
+pub type Law<K, V, S> = Gated<LogLaw<K, V, S>>;
+
+/// The rule of the book without its gate. The log's exchanges are allowed, the words are those that
+/// they leave, and each hint was one of its slot. The book keeps the tokens of all pairs and tables
+/// that came, and the rights to make words for tables. Hints are beside words of slots, eight beside
+/// one word; a word of a fresh slot, which the book does not track, is 0.
+pub struct LogLaw<K, V, S> {
     of: PhantomData<(K, V, S)>,
 }
 
-impl<K: Hash + Eq, V, S: BuildHasher> Rule<Event<K, V, S>, Named<K, V>> for Law<K, V, S> {
+impl<K: Hash + Eq, V, S: BuildHasher> Rule<Event<K, V, S>, Named<K, V>> for LogLaw<K, V, S> {
     ghost use Rattle.std.specs.Prelude.{◌≡◌, []};
     ghost use Rattle.papaya_map_book.specs.Hashes.{hash_of};
     ghost use Rattle.papaya_map_book.specs.Rule.{AreCodes};
@@ -37,7 +41,14 @@ impl<K: Hash + Eq, V, S: BuildHasher> Rule<Event<K, V, S>, Named<K, V>> for Law<
     ghost moves = { λ ask before after answer. Moved ask before after answer };
 }
 
-impl<K: Hash + Eq, V, S: BuildHasher> Hinting<Event<K, V, S>> for Law<K, V, S> {
+/// The gate is about the exchanges that put a pair in or take one out.
+impl<K, V, S> Tracking<Event<K, V, S>> for LogLaw<K, V, S> {
+    ghost use Rattle.papaya_map_book.specs.Changes.{is_change};
+
+    ghost tracks = { is_change };
+}
+
+impl<K: Hash + Eq, V, S: BuildHasher> Hinting<Event<K, V, S>> for Gated<LogLaw<K, V, S>> {
     ghost use Rattle.papaya_map_book.specs.Hashes.{hash_of};
     ghost use Rattle.papaya_map_book.specs.Hinted.{AreHinted};
 

@@ -7,10 +7,11 @@ ghost use Rattle.papaya_map_book.specs.Logs.{brought};
 ghost use Rattle.papaya_map_book.specs.Parts.{begun_of};
 ghost use Rattle.papaya_map_book.specs.Rows.{row_len};
 ghost use Rattle.papaya_map_book.specs.Offer.{LeavesRow};
+ghost use Rattle.papaya_gate.specs.Kept.{inner_names};
 
 use crate::book::parts::Parts;
 use crate::rule::entry::{Event, Named};
-use crate::rule::law::{Drawn, Found, Law};
+use crate::rule::law::{Drawn, Found, Law, LogLaw};
 use crate::rule::pair::Pair;
 use crate::rule::token::Known;
 use crate::table::Table;
@@ -22,11 +23,11 @@ use std::marker::PhantomData;
 /// The part of the log that a thread has observed.
 pub type Seen<K, V, S> = logbook::Seen<Event<K, V, S>, Named<K, V>, Law<K, V, S>>;
 
-/// A client's update of the book.
-pub type Offer<K, V, S> = logbook::Offer<Event<K, V, S>, Named<K, V>, Law<K, V, S>, Found<K, V>>;
+/// A client's update of the book. It is over the rule without the gate, which a step adds.
+pub type Offer<K, V, S> = logbook::Offer<Event<K, V, S>, Named<K, V>, LogLaw<K, V, S>, Found<K, V>>;
 
 /// A client's update that draws words of the row.
-pub type Drawing<K, V, S> = logbook::Offer<Event<K, V, S>, Named<K, V>, Law<K, V, S>, Drawn>;
+pub type Drawing<K, V, S> = logbook::Offer<Event<K, V, S>, Named<K, V>, LogLaw<K, V, S>, Drawn>;
 
 /// Returns an update with which nothing comes. It gains the token of what the word names.
 pub fn bare<K: Hash + Eq, V, S: BuildHasher, X, M: Plain<X, Event<K, V, S>, Named<K, V>>>(
@@ -34,7 +35,7 @@ pub fn bare<K: Hash + Eq, V, S: BuildHasher, X, M: Plain<X, Event<K, V, S>, Name
     about: &X,
 ) -> Offer<K, V, S>
     requires { (brought (M.ask about.now) ≡ Nothing) × LeavesRow (M.ask about.now) }
-    ensures { (result.names ≡ seen.now.names) × (result.ask ≡ M.ask about.now) × (result.about ≡ [])
+    ensures { (result.names ≡ inner_names seen.now.names) × (result.ask ≡ M.ask about.now) × (result.about ≡ [])
         × (result.state ≡ None) }
 {
     logbook::Offer {
@@ -49,7 +50,7 @@ pub fn with_pair<K: Hash + Eq, V, S: BuildHasher, X, M: Plain<X, Event<K, V, S>,
     known: KnownPair<Pair<K, V>>,
 ) -> Offer<K, V, S>
     requires { brought (M.ask about.now) ≡ PairNamed known.at }
-    ensures { (result.names ≡ seen.now.names) × (result.ask ≡ M.ask about.now) × (result.about ≡ [])
+    ensures { (result.names ≡ inner_names seen.now.names) × (result.ask ≡ M.ask about.now) × (result.about ≡ [])
         × (result.state ≡ None) }
 {
     let KnownPair { marker: _ } = known;
@@ -65,7 +66,7 @@ pub fn with_table<K: Hash + Eq, V, S: BuildHasher, X, M: Plain<X, Event<K, V, S>
     known: Known<Table<K, V, S>>,
 ) -> Offer<K, V, S>
     requires { brought (M.ask about.now) ≡ TableNamed known.at }
-    ensures { (result.names ≡ seen.now.names) × (result.ask ≡ M.ask about.now) × (result.about ≡ [])
+    ensures { (result.names ≡ inner_names seen.now.names) × (result.ask ≡ M.ask about.now) × (result.about ≡ [])
         × (result.state ≡ None) }
 {
     let Known { marker: _ } = known;
@@ -106,7 +107,7 @@ pub fn with_row<K: Hash + Eq, V, S: BuildHasher>(
     row: &mut Pens,
 ) -> Offer<K, V, S>
     requires { (row.old.next ≡ 3) × (row.old.left ≡ row_len) }
-    ensures { (result.names ≡ seen.now.names) × (result.ask ≡ Called row.old.book)
+    ensures { (result.names ≡ inner_names seen.now.names) × (result.ask ≡ Called row.old.book)
         × (result.about ≡ []) × (result.state ≡ None) }
 {
     logbook::Offer {
@@ -120,7 +121,7 @@ pub fn drawing<K: Hash + Eq, V, S: BuildHasher>(
     first: u64,
     count: u64,
 ) -> Drawing<K, V, S>
-    ensures { (result.names ≡ seen.now.names) × (result.ask ≡ Draw seen.now.book first count)
+    ensures { (result.names ≡ inner_names seen.now.names) × (result.ask ≡ Draw seen.now.book first count)
         × (result.about ≡ Draw seen.now.book first count ∷ []) × (result.state ≡ None) }
 {
     logbook::Offer {
@@ -131,7 +132,7 @@ pub fn drawing<K: Hash + Eq, V, S: BuildHasher>(
 /// Returns what clients keep of the first log: nothing.
 pub fn begin<K: Hash + Eq, V, S: BuildHasher>(
     begun: &Parts<K, V, S>,
-) -> Start<Event<K, V, S>, Named<K, V>, Law<K, V, S>>
+) -> Start<Event<K, V, S>, Named<K, V>, LogLaw<K, V, S>>
     ensures { (result.names ≡ []) × (result.shown ≡ Begin (begun_of begun.now) ∷ []) }
 {
     Start {

@@ -4,6 +4,7 @@ use crate::table::Table;
 use boxcar::Pushed;
 use logbook::{Plain, Play};
 use papaya_call::ask::{At, StepKind};
+use papaya_gate::steps::PaidPlay;
 use std::hash::{BuildHasher, Hash};
 
 /// A word that is to be loaded.
@@ -106,6 +107,15 @@ impl<K: Hash + Eq, V, S: BuildHasher> Play<Event<K, V, S>, Named<K, V>> for Try 
     ghost use Rattle.papaya_map_book.specs.Plays.{Tries};
 
     ghost then = { Tries K.eq (hash_of K.hash_input S.build_hasher S.Hasher.write
+        S.Hasher.finish) };
+}
+
+/// The same for an exchange that pays with the gate.
+impl<K: Hash + Eq, V, S: BuildHasher> PaidPlay<Event<K, V, S>, Named<K, V>> for Try {
+    ghost use Rattle.papaya_map_book.specs.Hashes.{hash_of};
+    ghost use Rattle.papaya_map_book.specs.Plays.{TriesPaid};
+
+    ghost then = { TriesPaid K.eq (hash_of K.hash_input S.build_hasher S.Hasher.write
         S.Hasher.finish) };
 }
 

@@ -85,12 +85,17 @@ fn locate(index: usize) -> (usize, usize)
     (bucket, skewed - bucket_len(bucket))
 }
 
-/// Rebuilds the token from its index.
+/// Rebuilds the token from its index. Nearly every table is in the first bucket, whose slots have
+/// the numbers of their indices.
+#[inline(always)]
 pub fn token<T>(known: Known<T>, index: usize) -> Pushed<T>
     requires index { index ≡ known.at.index }
     requires fits { index + 32 < 2 ^ 63 }
     ensures { result ≡ known.at }
 {
+    if index < 32 {
+        return rebuild(known, index, 0, index);
+    }
     let (bucket, slot) = locate(index);
     rebuild(known, index, bucket, slot)
 }

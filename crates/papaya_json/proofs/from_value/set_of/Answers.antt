@@ -22,7 +22,7 @@ loop-item-preserved g c =
     subst (λ es. IsFilled g.K.PartialEq.eq (IsKey (FnReturnsAt g.T.Fn c.args.key)) entry_of_key c.args.hasher es c.insert.new.self)
     (sym (take_more items i item inside ∙ ap (λ x. take i items ++ x ∷ []) is))
     (filled_more g.K.PartialEq.eq (IsKey (FnReturnsAt g.T.Fn c.args.key)) entry_of_key c.args.hasher (take i items) c.loop-item.set
-    c.loop-item.invariant item c.in-Some.k key _ c.insert.new.self c.in-Ok.ensures)
+    c.loop-item.invariant item c.in-Some.k key _ c.insert.new.self c.in-Ok.ensures.puts)
 
 pub returns-clause-ok : goal.returns-clause-ok
 returns-clause-ok g c =
@@ -69,6 +69,6 @@ returns-in-Err-clause-err g c =
         c.in-Some.k,
         key,
         filled_cut g.K.PartialEq.eq (IsKey (FnReturnsAt g.T.Fn c.args.key)) entry_of_key c.args.hasher (take i items) c.loop-item.set
-            c.loop-item.invariant c.in-Some.k c.in-Err.refused c.insert.new.self c.in-Err.ensures,
+            c.loop-item.invariant c.in-Some.k c.in-Err.refused c.insert.new.self c.in-Err.ensures.puts,
       );
     })

@@ -1,4 +1,4 @@
-use Rattle.std.proofs.Common.{refl}
+use Rattle.std.proofs.Common.{refl, ◌∙◌}
 use Rattle.papaya_map_change.specs.ClosureCalls.{Operates}
 use Rattle.papaya_map_lookup.proofs.Histories.{history_since}
 use Rattle.papaya_map_compute.specs.ComputeAnswers.{changes}
@@ -17,12 +17,15 @@ compute_slow-requires g c = let l = c.learn.ensures in let a = c.args in let at 
   (
     at.ensures.callable,
     (
-      c.requires.initial,
+      rw (at.ensures.comes.sees.book ∙ l.sees.book) c.requires.open,
       (
-        c.learn.new.self,
-        a.key,
-        a.f,
-        on_starts changes a.window.now c.learn.new.self at.new.window l.sees _ _ _ at.ensures.comes c.in-On.start c.in-On.is,
+        c.requires.initial,
+        (
+          c.learn.new.self,
+          a.key,
+          a.f,
+          on_starts changes a.window.now c.learn.new.self at.new.window l.sees _ _ _ at.ensures.comes c.in-On.start c.in-On.is,
+        ),
       ),
     ),
   ),

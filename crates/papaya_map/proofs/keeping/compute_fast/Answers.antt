@@ -28,7 +28,7 @@ pub fill-requires : goal.fill-requires
 fill-requires g c =
     let log = c.args.window.now.sight.log in let mid = c.search_root.new.window in let spot = c.in-Some.spot in
     let led = subst (λ (z : ProbeHit _). IsSearchEnd mid c.args.key c.hash-hash.result log spot.table.now z) c.in-Empty.is (c.search_root.ensures.led spot c.in-Some.is) in
-    record { led = (log, led) }
+    record { «open» = rw c.search_root.ensures.looked.book c.requires.open; led = (log, led) }
 
 pub returns-in-Empty-clause-comes : goal.returns-in-Empty-clause-comes
 returns-in-Empty-clause-comes g c =
@@ -38,6 +38,9 @@ returns-in-Empty-clause-comes g c =
     comes_once w mid then c.search_root.ensures.looked key c.hash-hash.result spot.table.now _ led says c.args.f.now left done c.operate-operation.ensures.operates _
     (computed_by g.K.PartialEq.eq key (past w) (past w) (past then) ([], append-nil (past w)) says c.args.f.now left ((None, done) ∷ [])
     (c.args.f.now, refl, c.operate-operation.ensures.operates)) _ c.fill.ensures.does
+
+pub renew-requires-clause-open : goal.renew-requires-clause-open
+renew-requires-clause-open g c = rw c.search_root.ensures.looked.book c.requires.open
 
 pub renew-requires-clause-led : goal.renew-requires-clause-led
 renew-requires-clause-led g c =

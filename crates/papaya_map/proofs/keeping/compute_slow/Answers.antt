@@ -10,6 +10,9 @@ loop-init g c = let a = c.args in let m = c.machine_of-computing in
 pub machine_of-computing-requires-clause-can : goal.machine_of-computing-requires-clause-can
 machine_of-computing-requires-clause-can g c = let way = c.requires.can in (way.1, way.0.sight.log, way.3.0, way.3.1)
 
+pub turn-requires-clause-open : goal.turn-requires-clause-open
+turn-requires-clause-open g c = rw c.loop.invariant.0.4.book c.requires.open
+
 pub advance-requires-clause-can : goal.advance-requires-clause-can
 advance-requires-clause-can g c =
     let a = c.args in let says = Operates g.F.FnMut in let r = c.loop.invariant.0 in let way = c.requires.can in let t = c.turn.new in

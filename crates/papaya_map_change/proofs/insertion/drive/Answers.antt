@@ -52,6 +52,9 @@ answer-requires-clause-can g c =
     z.now.begun.book key value begun c.args.window.now.sight.log c.args.begun) (sym c.loop.invariant.4.book) begin.3) in
     (key, value, begun, u)
 
+pub answer-requires-clause-open : goal.answer-requires-clause-open
+answer-requires-clause-open g c = rw c.loop.invariant.4.book c.requires.open
+
 pub answer-requires-in-Some-answer-clause-fit : goal.answer-requires-in-Some-answer-clause-fit
 answer-requires-in-Some-answer-clause-fit g c =
     let begin = c.requires.can in let key = begin.0 in let value = begin.1 in let begun = begin.2 in

@@ -52,6 +52,9 @@ loop-init g c =
           (idles c.args.window.now c.learn.new.self c.learn.ensures.sees.own),
     )
 
+pub answer-requires-clause-open : goal.answer-requires-clause-open
+answer-requires-clause-open g c = rw c.loop.invariant.4.book c.requires.open
+
 pub answer-requires-in-Some-answer-clause-fit : goal.answer-requires-in-Some-answer-clause-fit
 answer-requires-in-Some-answer-clause-fit g c = let u = c.loop.invariant.0 in (c.in-Some-answer.ensures.removes c.args.agrees u.0 u.2).1
 

@@ -1,4 +1,4 @@
-use Rattle.std.proofs.Common.{refl}
+use Rattle.std.proofs.Common.{refl, ◌∙◌}
 use Rattle.papaya_map_lookup.proofs.Histories.{history_since}
 use Rattle.papaya_map_compute.specs.Deciding.{puts}
 use Rattle.papaya_map_compute.proofs.DoneBy.{decided_since}
@@ -17,6 +17,12 @@ returns-in-Over-clause-ends g c = let l = c.learn.ensures in let at = c.decide_f
 pub returns-in-Over-clause-tells : goal.returns-in-Over-clause-tells
 returns-in-Over-clause-tells g c = let l = c.learn.ensures in let at = c.decide_fast in
     over_tells puts c.args.window.now c.learn.new.self at.new.window l.sees _ _ _ at.ensures.comes c.in-Over.answer c.in-Over.is _ _
+
+pub decide_fast-requires-clause-open : goal.decide_fast-requires-clause-open
+decide_fast-requires-clause-open g c = rw c.learn.ensures.sees.book c.requires.open
+
+pub decide_slow-requires-clause-open : goal.decide_slow-requires-clause-open
+decide_slow-requires-clause-open g c = rw (c.decide_fast.ensures.comes.sees.book ∙ c.learn.ensures.sees.book) c.requires.open
 
 pub decide_slow-requires-clause-can : goal.decide_slow-requires-clause-can
 decide_slow-requires-clause-can g c = let l = c.learn.ensures in let a = c.args in let at = c.decide_fast in (

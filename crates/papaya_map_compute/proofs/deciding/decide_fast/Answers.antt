@@ -13,6 +13,9 @@ pub returns-in_default-turn-clause-comes : goal.returns-in_default-turn-clause-c
 returns-in_default-turn-clause-comes g c =
     comes_asked_nothing puts c.args.window.now _ _ c.search_root.new.window _ c.search_root.ensures.looked ([], ((refl, refl), c.search_root.ensures.looked.log, tt), refl)
 
+pub decide_absent-requires-clause-open : goal.decide_absent-requires-clause-open
+decide_absent-requires-clause-open g c = rw c.search_root.ensures.looked.book c.requires.open
+
 pub decide_absent-requires-clause-led : goal.decide_absent-requires-clause-led
 decide_absent-requires-clause-led g c =
     let log = c.args.window.now.sight.log in let mid = c.search_root.new.window in let spot = c.in-Some.spot in
@@ -24,6 +27,9 @@ returns-in-Empty-clause-comes g c =
     c.decide_absent.ensures.comes c.args.window.now
     (subst (λ (z : ProbeHit _). IsSearchEnd mid c.args.key c.hash-hash.result log spot.table.now z) c.in-Empty.is (c.search_root.ensures.led spot c.in-Some.is))
     c.search_root.ensures.looked
+
+pub decide_present-requires-clause-open : goal.decide_present-requires-clause-open
+decide_present-requires-clause-open g c = rw c.search_root.ensures.looked.book c.requires.open
 
 pub decide_present-requires-clause-led : goal.decide_present-requires-clause-led
 decide_present-requires-clause-led g c =

@@ -226,7 +226,7 @@ bury-requires g c =
     let write = Writing (record { place = met.place; old = met.word }) in let call_closure = Showing (record { place = met.place; word = met.word }) in
     let table = c.args.table.now in
     let led = c.requires.led in
-    rw c.met-in-Remove.ensures (record { shows = (key, led.0, led.1.found Computes call_closure refl) })
+    rw c.met-in-Remove.ensures (record { «open» = c.requires.open; shows = (key, led.0, led.1.found Computes call_closure refl) })
 
 pub returns-then-not-bury : goal.returns-then-not-bury
 returns-then-not-bury g c =

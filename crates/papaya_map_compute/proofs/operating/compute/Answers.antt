@@ -1,4 +1,4 @@
-use Rattle.std.proofs.Common.{refl}
+use Rattle.std.proofs.Common.{refl, ◌∙◌}
 use Rattle.papaya_map_lookup.proofs.Histories.{history_since}
 use Rattle.papaya_map_compute.specs.ComputeAnswers.{changes}
 use Rattle.papaya_map_compute.specs.Operating.{CallsClosure}
@@ -19,10 +19,13 @@ slow-answer-requires g c = let l = c.learn.ensures in let a = c.args in let at =
     (
       c.requires.initial,
       (
-        c.learn.new.self,
-        a.key,
-        a.op.now,
-        on_starts changes a.window.now c.learn.new.self at.new.window l.sees _ _ _ at.ensures.comes c.in-On.start c.in-On.is,
+        rw (at.ensures.comes.sees.book ∙ l.sees.book) c.requires.open,
+        (
+          c.learn.new.self,
+          a.key,
+          a.op.now,
+          on_starts changes a.window.now c.learn.new.self at.new.window l.sees _ _ _ at.ensures.comes c.in-On.start c.in-On.is,
+        ),
       ),
     ),
   ),

@@ -29,7 +29,7 @@ pub fill-filled-requires : goal.fill-filled-requires
 fill-filled-requires g c =
     let log = c.args.window.now.sight.log in let mid = c.search_root.new.window in let spot = c.in-Some.spot in
     let led = subst (λ (z : ProbeHit _). IsSearchEnd mid c.args.key c.hash-hash.result log spot.table.now z) c.in-Empty.is (c.search_root.ensures.led spot c.in-Some.is) in
-    record { led = (log, led) }
+    record { «open» = rw c.search_root.ensures.looked.book c.requires.open; led = (log, led) }
 
 pub returns-in-Empty-clause-comes : goal.returns-in-Empty-clause-comes
 returns-in-Empty-clause-comes g c =
@@ -45,6 +45,9 @@ renew-renewed-requires-clause-led g c =
     let log = c.args.window.now.sight.log in let mid = c.search_root.new.window in let spot = c.in-Some.spot in
     let led = subst (λ (z : ProbeHit _). IsSearchEnd mid c.args.key c.hash-hash.result log spot.table.now z) c.in-Met.is (c.search_root.ensures.led spot c.in-Some.is) in
     rw c.in-Met.live-is (log, led)
+
+pub renew-renewed-requires-clause-open : goal.renew-renewed-requires-clause-open
+renew-renewed-requires-clause-open g c = rw c.search_root.ensures.looked.book c.requires.open
 
 pub renew-renewed-requires-clause-shown : goal.renew-renewed-requires-clause-shown
 renew-renewed-requires-clause-shown g c = (c.entry-old.ensures.key ∙ ap (λ p. p.key.value) c.pair.ensures, c.entry-old.ensures.value ∙ ap (λ p. p.value) c.pair.ensures)

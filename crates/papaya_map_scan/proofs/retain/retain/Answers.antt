@@ -1,4 +1,4 @@
-use Rattle.std.proofs.Common.{◌≡◌, false, [], length, append-nil, refl, rules, sym, ap, subst, arith}
+use Rattle.std.proofs.Common.{◌≡◌, false, [], length, append-nil, refl, rules, sym, ap, ◌∙◌, subst, arith}
 use denote.Bor.{Bor}
 use Rattle.papaya_map_book.specs.declared.book.Book.{Book}
 use Rattle.papaya_map_book.specs.Hashes.{hash_of}
@@ -50,6 +50,9 @@ scan_table-requires-clause-taken g c =
     let b = begun_of c.take_root.new.window.book.now.parts in let log = c.take_root.new.window.sight.log in
     let taken : IsTaken b c.loop.window.sight.log log c.in-Some-2.number = search rules in
     (c.loop.window.sight.log, taken)
+
+pub scan_table-requires-clause-open : goal.scan_table-requires-clause-open
+scan_table-requires-clause-open g c = rw (c.take_root.ensures.sees.book ∙ c.loop.invariant.sees.book) c.requires.open
 
 pub returns-then-not-scan_table-clause-kept : goal.returns-then-not-scan_table-clause-kept
 returns-then-not-scan_table-clause-kept g c =

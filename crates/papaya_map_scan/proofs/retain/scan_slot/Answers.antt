@@ -72,6 +72,9 @@ bury-found-requires-clause-taken g c = (
   taken_on c.requires.taken.0 c.args.window.now c.loop.window c.args.number c.loop.invariant.sees c.requires.taken.1,
 )
 
+pub bury-found-requires-clause-open : goal.bury-found-requires-clause-open
+bury-found-requires-clause-open g c = rw c.loop.invariant.sees.book c.requires.open
+
 pub returns-then-found-word-clause-scans : goal.returns-then-found-word-clause-scans
 returns-then-found-word-clause-scans g c = λ began taken.
     let hash = hash_of g.K.Hash.hash_input g.S.BuildHasher.build_hasher g.S.Hasher.Hasher.write g.S.Hasher.Hasher.finish in

@@ -14,6 +14,9 @@ scan_slot-requires-clause-taken g c = (
   taken_on c.requires.taken.0 c.args.window.now c.loop-place.window c.args.number c.loop-place.invariant.sees c.requires.taken.1,
 )
 
+pub scan_slot-requires-clause-open : goal.scan_slot-requires-clause-open
+scan_slot-requires-clause-open g c = rw c.loop-place.invariant.sees.book c.requires.open
+
 pub returns-then-scan_slot-clause-scans : goal.returns-then-scan_slot-clause-scans
 returns-then-scan_slot-clause-scans g c = λ began taken.
     scans_stopped began (Judges g.F.FnMut) c.args.number c.args.window.now c.scan_slot.new.window c.args.stays.now

@@ -30,12 +30,12 @@ said g f = Says (λ shown operation. given.F-post g f shown operation)
 -- the outcome of the search of the root
 empty : (g : Over) (c : In-Some-Empty g) → IsRootHit (g.K.PartialEq.eq c.args.key) c.args.store.now c.args.hash (turns.Empty c.in-Some-Empty.place)
 empty g c = subst (λ (t : ProbeHit). IsRootHit (g.K.PartialEq.eq c.args.key) c.args.store.now c.args.hash t) (search rules)
-    (c.search_root.ensures c.in-Some-Empty.field-0 c.in-Some-Empty.is)
+    (c.search_root.ensures.turn c.in-Some-Empty.field-0 c.in-Some-Empty.is)
 
 here : (g : Over) (c : In-Some-Here g) → IsRootHit (g.K.PartialEq.eq c.args.key) c.args.store.now c.args.hash
     (turns.Here c.in-Some-Here.place c.in-Some-Here.word)
 here g c = subst (λ (t : ProbeHit). IsRootHit (g.K.PartialEq.eq c.args.key) c.args.store.now c.args.hash t) (search rules)
-    (c.search_root.ensures c.in-Some-Here.field-0 c.in-Some-Here.is)
+    (c.search_root.ensures.turn c.in-Some-Here.field-0 c.in-Some-Here.is)
 
 -- a place that was empty has no word
 bare : (g : Over) (c : In-Some-Empty g) → word_at c.args.store.now.words (slot_of c.in-Some-Empty.place) ≡ 0

@@ -15,7 +15,7 @@ use Rattle.papaya_seq.proofs.removal.remove_fast.Given.{Over}
 here : (g : Over) (c : In-Some-Here g) → IsRootHit (g.Q.Equivalent.matches c.args.key.now) c.args.store.now c.args.hash
     (turns.Here c.in-Some-Here.place c.in-Some-Here.word)
 here g c = subst (λ (t : ProbeHit). IsRootHit (g.Q.Equivalent.matches c.args.key.now) c.args.store.now c.args.hash t) (search rules)
-    (c.search_root.ensures c.in-Some-Here.field-0 c.in-Some-Here.is)
+    (c.search_root.ensures.turn c.in-Some-Here.field-0 c.in-Some-Here.is)
 
 pub bury-requires-clause-stands : goal.bury-requires-clause-stands
 bury-requires-clause-stands g c = (here g (goal.at.bury-requires-clause-stands g c).In-Some-Here).stands
@@ -29,7 +29,7 @@ returns-in-Some-Empty g c mode initial limit =
     let root : IsRootHit (g.Q.Equivalent.matches c.args.key.now) c.args.store.now c.args.hash
     (turns.Empty c.in-Some-Empty.field-0-0) =
     subst (λ (t : ProbeHit). IsRootHit (g.Q.Equivalent.matches c.args.key.now) c.args.store.now c.args.hash t) c.in-Some-Empty.field-0-is
-    (c.search_root.ensures c.in-Some-Empty.field-0 c.in-Some-Empty.is) in
+    (c.search_root.ensures.turn c.in-Some-Empty.field-0 c.in-Some-Empty.is) in
     found_none g.F.FnMut (g.Q.Equivalent.matches c.args.key.now) c.args.store.now c.args.agrees.now c.args.hash mode initial limit
     c.in-Some-Empty.field-0-0 root
 

@@ -22,12 +22,12 @@ use Rattle.papaya_seq.proofs.writing.insert_fast.Given.{Over}
 -- the outcome of the search of the root
 empty : (g : Over) (c : In-Some-Empty g) → IsRootHit (g.K.PartialEq.eq c.args.key) c.args.store.now c.args.hash (turns.Empty c.in-Some-Empty.place)
 empty g c = subst (λ (t : ProbeHit). IsRootHit (g.K.PartialEq.eq c.args.key) c.args.store.now c.args.hash t) (search rules)
-    (c.search_root.ensures c.in-Some-Empty.field-0 c.in-Some-Empty.is)
+    (c.search_root.ensures.turn c.in-Some-Empty.field-0 c.in-Some-Empty.is)
 
 here : (g : Over) (c : In-Some-Here g) → IsRootHit (g.K.PartialEq.eq c.args.key) c.args.store.now c.args.hash
     (turns.Here c.in-Some-Here.place c.in-Some-Here.word)
 here g c = subst (λ (t : ProbeHit). IsRootHit (g.K.PartialEq.eq c.args.key) c.args.store.now c.args.hash t) (search rules)
-    (c.search_root.ensures c.in-Some-Here.field-0 c.in-Some-Here.is)
+    (c.search_root.ensures.turn c.in-Some-Here.field-0 c.in-Some-Here.is)
 
 -- a place that was empty has no word
 bare : (g : Over) (c : In-Some-Empty g) → word_at c.args.store.now.words (slot_of c.in-Some-Empty.place) ≡ 0
@@ -72,7 +72,7 @@ pub returns-in-Some-Over-clause-err : goal.returns-in-Some-Over-clause-err
 returns-in-Some-Over-clause-err g c =
     let over : IsRootHit (g.K.PartialEq.eq c.args.key) c.args.store.now c.args.hash
     (turns.Over c.in-Some-Over.table) = subst (λ (t : ProbeHit). IsRootHit (g.K.PartialEq.eq c.args.key) c.args.store.now c.args.hash t) (search rules)
-    (c.search_root.ensures c.in-Some-Over.field-0 c.in-Some-Over.is) in
+    (c.search_root.ensures.turn c.in-Some-Over.field-0 c.in-Some-Over.is) in
     (refl, refl, refl, leads (c.in-Some-Over.table == 0) (λ mode initial limit. over.sees (started (Insert c.args.replace) c.args.hash mode initial limit)))
   where
     -- to the state where it makes room, or to the root

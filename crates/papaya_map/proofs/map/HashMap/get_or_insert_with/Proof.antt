@@ -13,8 +13,11 @@ use Rattle.papaya_words.specs.contracts.refused.Refused.{the_row as RefusedRow}
 use Rattle.papaya_words.specs.declared.refused.Refused.TheVariants.{WrongGuard}
 use Rattle.papaya_map_book.specs.contracts.rule.entry.Event as event
 use Rattle.papaya_map_book.specs.contracts.rule.entry.Named as naming
-use Rattle.papaya_map_book.specs.contracts.rule.law.Law as law
-use Rattle.papaya_map_book.specs.contracts.rule.law.LawRuleEventNamed.TheImpl as LawRule
+use Rattle.papaya_gate.specs.contracts.rule.Gated as gated
+use Rattle.papaya_gate.specs.contracts.rule.GatedRule.TheImpl as GatedRule
+use Rattle.papaya_map_book.specs.contracts.rule.law.LogLaw as law
+use Rattle.papaya_map_book.specs.contracts.rule.law.LogLawRuleEventNamed.TheImpl as LawRule
+use Rattle.papaya_map_book.specs.contracts.rule.law.LogLawTrackingEvent.TheImpl as LawTracking
 use Rattle.papaya_map_lookup.specs.History.{IsLegalHistory, history_of, key_of}
 use Rattle.papaya_map.specs.Limited.{IsPlainRefusal}
 use Rattle.papaya_map.specs.contracts.map.HashMap.get_or_insert_with as contract
@@ -43,9 +46,9 @@ get_or_insert_with_spec 𝓤 𝓛 𝓜 𝓡 wired K V S S-Hasher R F G LK LV LS 
     (dcons K-Destruct-dict (dcons V-Destruct-dict
     (dcons S-Hasher-Destruct-dict (dcons R-Wait-dict (dcons F-FnOnce-dict (dcons G-Guard-dict (dcons F-Destruct-dict dnil)))))))))))) in
     let E = event.the_row (param 0 K) (param 1 V) (param 2 S) in let N = naming.the_row (param 0 K) (param 1 V) in
-    let P = law.the_row (param 0 K) (param 1 V) (param 2 S) in
-    let g = LawRule.ghosts (param 0 K) (param 1 V) (param 2 S) (param 3 S-Hasher) K-Hash LawRule.no_dict K-Eq LawRule.no_dict K-PartialEq
-    LawRule.no_dict S-BuildHasher LawRule.no_dict S-Hasher-Hasher LawRule.no_dict LawRule.no_dict in
+    let L = law.the_row (param 0 K) (param 1 V) (param 2 S) in let P = gated.the_row L in
+    let g = GatedRule.ghosts E N L (LawRule.ghosts (param 0 K) (param 1 V) (param 2 S) (param 3 S-Hasher) K-Hash LawRule.no_dict K-Eq LawRule.no_dict K-PartialEq
+    LawRule.no_dict S-BuildHasher LawRule.no_dict S-Hasher-Hasher LawRule.no_dict LawRule.no_dict) GatedRule.no_dict (LawTracking.ghosts (param 0 K) (param 1 V) (param 2 S)) GatedRule.no_dict in
     let Ends = ended K V S S-Hasher R F G K-Hash K-Hash-dict K-Eq K-Eq-dict K-PartialEq K-PartialEq-dict S-BuildHasher S-BuildHasher-dict
     S-Hasher-Hasher S-Hasher-Hasher-dict K-Destruct-dict V-Destruct-dict S-Hasher-Destruct-dict R-Wait R-Wait-dict F-FnOnce F-FnOnce-dict G-Guard
     G-Guard-dict F-Destruct-dict in

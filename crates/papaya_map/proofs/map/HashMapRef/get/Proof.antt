@@ -10,8 +10,11 @@ use denote.Param.{param, bounded}
 use Rattle.std.proofs.option.Option.TheLaws.{the_row_laws as option_laws}
 use Rattle.papaya_map_book.specs.contracts.rule.entry.Event as event
 use Rattle.papaya_map_book.specs.contracts.rule.entry.Named as naming
-use Rattle.papaya_map_book.specs.contracts.rule.law.Law as law
-use Rattle.papaya_map_book.specs.contracts.rule.law.LawRuleEventNamed.TheImpl as LawRule
+use Rattle.papaya_gate.specs.contracts.rule.Gated as gated
+use Rattle.papaya_gate.specs.contracts.rule.GatedRule.TheImpl as GatedRule
+use Rattle.papaya_map_book.specs.contracts.rule.law.LogLaw as law
+use Rattle.papaya_map_book.specs.contracts.rule.law.LogLawRuleEventNamed.TheImpl as LawRule
+use Rattle.papaya_map_book.specs.contracts.rule.law.LogLawTrackingEvent.TheImpl as LawTracking
 use Rattle.papaya_map_lookup.specs.History.{IsLegalHistory, history_of, key_of}
 use Rattle.papaya_map_lookup.specs.Answers.{IsAnsweredBetween}
 use Rattle.papaya_map.specs.Plain.{IsSince, rule_of}
@@ -36,9 +39,9 @@ get_spec 𝓤 𝓛 𝓜 𝓡 wired K V S S-Hasher Q LK LV LS LH LQ K-Hash K-Hash
     (dcons S-BuildHasher-dict (dcons S-Hasher-Hasher-dict
     (dcons S-Hasher-Destruct-dict (dcons Q-Equivalent-dict (dcons Q-Hash-dict (dcons Q-Eq-dict (dcons Q-PartialEq-dict dnil)))))))))) in
     let E = event.the_row (param 0 K) (param 1 V) (param 2 S) in let N = naming.the_row (param 0 K) (param 1 V) in
-    let P = law.the_row (param 0 K) (param 1 V) (param 2 S) in
-    let g = LawRule.ghosts (param 0 K) (param 1 V) (param 2 S) (param 3 S-Hasher) K-Hash LawRule.no_dict K-Eq LawRule.no_dict K-PartialEq
-    LawRule.no_dict S-BuildHasher LawRule.no_dict S-Hasher-Hasher LawRule.no_dict LawRule.no_dict in
+    let L = law.the_row (param 0 K) (param 1 V) (param 2 S) in let P = gated.the_row L in
+    let g = GatedRule.ghosts E N L (LawRule.ghosts (param 0 K) (param 1 V) (param 2 S) (param 3 S-Hasher) K-Hash LawRule.no_dict K-Eq LawRule.no_dict K-PartialEq
+    LawRule.no_dict S-BuildHasher LawRule.no_dict S-Hasher-Hasher LawRule.no_dict LawRule.no_dict) GatedRule.no_dict (LawTracking.ghosts (param 0 K) (param 1 V) (param 2 S)) GatedRule.no_dict in
     let Ends = ended K V S S-Hasher Q K-Hash K-Hash-dict K-Eq K-Eq-dict K-PartialEq K-PartialEq-dict S-BuildHasher S-BuildHasher-dict S-Hasher-Hasher
     S-Hasher-Hasher-dict S-Hasher-Destruct-dict Q-Equivalent Q-Equivalent-dict Q-Hash Q-Hash-dict Q-Eq Q-Eq-dict Q-PartialEq Q-PartialEq-dict in
     meets E N P g Ends 𝓛 𝓜 𝓡 (clauses K V S S-Hasher Q K-Hash K-Hash-dict K-Eq K-Eq-dict K-PartialEq K-PartialEq-dict S-BuildHasher S-BuildHasher-dict

@@ -11,8 +11,8 @@ use Rattle.papaya_map_book.proofs.Settings.{plans}
 use Rattle.papaya_map_book.proofs.Tellings.{began_seen, tried_told}
 use Rattle.papaya_map_book.proofs.book.Book.bring.Goals as goal
 
-pub compare_exchange-found-requires : goal.compare_exchange-found-requires
-compare_exchange-found-requires g c =
+pub unpaid-found-requires : goal.unpaid-found-requires
+unpaid-found-requires g c =
     let word = c.requires.word in
     let hash = hash_of g.K.Hash.hash_input g.S.BuildHasher.build_hasher g.S.Hasher.Hasher.write g.S.Hasher.Hasher.finish in
     let x = c.args.laying.now in let w = c.args.self.now in let v = c.learn.new.self.log in let b = begun_of w.parts in
@@ -35,7 +35,7 @@ compare_exchange-found-requires g c =
 pub returns-clause-tried : goal.returns-clause-tried
 returns-clause-tried g c =
     let hash = hash_of g.K.Hash.hash_input g.S.BuildHasher.build_hasher g.S.Hasher.Hasher.write g.S.Hasher.Hasher.finish in
-    let w = c.args.self.now in let y = c.args.laying.now in let x = c.compare_exchange-found in
+    let w = c.args.self.now in let y = c.args.laying.now in let x = c.unpaid-found in
     tried_told g.K.PartialEq.eq hash (begun_of w.parts) w.begun.log c.learn.new.self.log x.new.seen.log w.begins c.learn.ensures.3 x.ensures.6
     c.with_table-offer.result.ask y.at y.kind None (Table y.table.now) c.args.old c.args.new x.result x.new.offer.state c.with_table-offer.ensures.1
     x.ensures.7.0 c.args.sight.now.log c.learn.ensures.2

@@ -15,8 +15,8 @@ loop-init g c =
       called = name_since w.begun.log c.learn.new.self.log w.begun.book l.3 w.called;
     }
 
-pub compare_exchange-found-requires : goal.compare_exchange-found-requires
-compare_exchange-found-requires g c =
+pub unpaid-found-requires : goal.unpaid-found-requires
+unpaid-found-requires g c =
     let hash = hash_of g.K.Hash.hash_input g.S.BuildHasher.build_hasher g.S.Hasher.Hasher.write g.S.Hasher.Hasher.finish in
     let maker = c.args.self.now.maker_is in let i = c.loop.invariant in let v = c.loop.sight in
     let book : v.book ≡ c.args.self.now.maker.book = i.book ∙ sym (ap (λ w. w.book) maker) in
@@ -33,7 +33,7 @@ compare_exchange-found-requires g c =
 
 pub loop-preserved : goal.loop-preserved
 loop-preserved g c =
-    let i = c.loop.invariant in let x = c.compare_exchange-found in let v = c.loop.sight.log in let log = x.new.seen.log in record {
+    let i = c.loop.invariant in let x = c.unpaid-found in let v = c.loop.sight.log in let log = x.new.seen.log in record {
       book = x.ensures.0 ∙ i.book;
       seen = prefix_trans c.args.sight.now.log v log i.seen x.ensures.6;
       called = name_since v log c.args.self.now.begun.book x.ensures.6 i.called;

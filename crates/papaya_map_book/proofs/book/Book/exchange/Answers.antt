@@ -10,8 +10,8 @@ use Rattle.papaya_map_book.proofs.Settings.{plans}
 use Rattle.papaya_map_book.proofs.Tellings.{began_seen, tried_told}
 use Rattle.papaya_map_book.proofs.book.Book.exchange.Goals as goal
 
-pub compare_exchange-found-requires : goal.compare_exchange-found-requires
-compare_exchange-found-requires g c =
+pub unpaid-found-requires : goal.unpaid-found-requires
+unpaid-found-requires g c =
     let word = c.requires.word in
     let hash = hash_of g.K.Hash.hash_input g.S.BuildHasher.build_hasher g.S.Hasher.Hasher.write g.S.Hasher.Hasher.finish in
     let at = c.args.wish.now.at in let w = c.args.self.now in let v = c.learn.new.self.log in let b = begun_of w.parts in
@@ -27,13 +27,13 @@ compare_exchange-found-requires g c =
           (key_since c.args.sight.now.log v at c.args.word.now.key pre c.requires.key)
           (began_seen g.K.PartialEq.eq hash b w.begun.log v v w.begins learned ([], Rattle.std.proofs.lemmas.List.append-nil v))
           tt w.begun.book (name_since w.begun.log v w.begun.book learned w.called) tt
-          (λ log since. c.requires.can log (prefix_trans c.args.sight.now.log v log pre since))),
+          (λ log since. c.requires.can log (prefix_trans c.args.sight.now.log v log pre since)) c.requires.leaves),
     )
 
 pub returns-clause-tried : goal.returns-clause-tried
 returns-clause-tried g c =
     let hash = hash_of g.K.Hash.hash_input g.S.BuildHasher.build_hasher g.S.Hasher.Hasher.write g.S.Hasher.Hasher.finish in
-    let w = c.args.self.now in let x = c.compare_exchange-found in
+    let w = c.args.self.now in let x = c.unpaid-found in
     tried_told g.K.PartialEq.eq hash (begun_of w.parts) w.begun.log c.learn.new.self.log x.new.seen.log w.begins c.learn.ensures.3 x.ensures.6
     c.bare-offer.result.ask c.args.wish.now.at c.args.wish.now.kind c.args.wish.now.kept.now Nothing c.args.old c.args.new x.result
     x.new.offer.state c.bare-offer.ensures.1 x.ensures.7 c.args.sight.now.log c.learn.ensures.2

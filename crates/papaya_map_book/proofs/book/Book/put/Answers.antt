@@ -1,27 +1,31 @@
-use Rattle.std.proofs.Common.{Some, [], sym, ap, ◌∙◌}
+use Rattle.std.proofs.Common.{subst, Some, [], sym, ap, ◌∙◌}
+use mathlib.Core.List.{IsPrefix}
+use Rattle.papaya_gate.specs.Eras.{MayAdd}
 use Rattle.papaya_map_book.specs.declared.rule.entry.Named.TheVariants.{Pair}
 use Rattle.papaya_map_book.specs.declared.rule.entry.Event.TheVariants.{Wish}
 use Rattle.papaya_map_book.specs.Hashes.{hash_of}
 use Rattle.papaya_map_book.specs.Parts.{begun_of}
-use Rattle.papaya_map_book.proofs.Exchanges.{tries_moves}
+use Rattle.papaya_map_book.proofs.Exchanges.{tries_paid}
 use Rattle.papaya_map_book.proofs.Loads.{key_since}
 use Rattle.papaya_map_book.proofs.Logs.{name_since, prefix_trans}
 use Rattle.papaya_map_book.proofs.Settings.{plans}
 use Rattle.papaya_map_book.proofs.Tellings.{began_seen, tried_told}
 use Rattle.papaya_map_book.proofs.book.Book.put.Goals as goal
 
-pub compare_exchange-found-requires : goal.compare_exchange-found-requires
-compare_exchange-found-requires g c =
+pub paid-found-requires : goal.paid-found-requires
+paid-found-requires g c =
     let word = c.requires.word in
     let hash = hash_of g.K.Hash.hash_input g.S.BuildHasher.build_hasher g.S.Hasher.Hasher.write g.S.Hasher.Hasher.finish in
-    let at = c.args.wish.now.at in let w = c.args.self.now in let v = c.learn.new.self.log in let b = begun_of w.parts in
-    let pre = c.learn.ensures.2 in let learned = c.learn.ensures.3 in (
+    let at = c.args.wish.now.at in let w = c.args.self.now in let v = c.align.new.sight.log in let b = begun_of w.parts in
+    let same = sym c.align.ensures.1 in let pre = subst (IsPrefix c.args.sight.now.log) same c.learn.ensures.2 in
+    let learned = subst (IsPrefix w.begun.log) same c.learn.ensures.3 in (
+      subst (λ (e : _). MayAdd e c.nobody-writer.result.author) (sym c.requires.open) tt,
+      c.align.ensures.0 ∙ sym w.gate_is,
       ap (λ w. w.tracked) word,
-      c.learn.ensures.0 ∙ (c.requires.book ∙ sym (ap (λ w. w.book) word)),
-      c.no_pen-pen.ensures.0 ∙ (c.learn.ensures.0 ∙ (c.requires.book ∙ sym (ap (λ w. w.book) word))),
+      c.align.ensures.2 ∙ (c.learn.ensures.0 ∙ (c.requires.book ∙ sym (ap (λ w. w.book) word))),
       c.with_pair-offer.ensures.0,
-      rw (c.no_pen-pen.ensures.1, c.with_pair-offer.ensures.1, c.with_pair-offer.ensures.3)
-          (tries_moves g.K.PartialEq.eq hash (plans g.K.PartialEq.eq g.K.Hash.hash_input g.S.BuildHasher.build_hasher g.S.Hasher.Hasher.write
+      rw (c.with_pair-offer.ensures.1, c.with_pair-offer.ensures.3)
+          (tries_paid g.K.PartialEq.eq hash (plans g.K.PartialEq.eq g.K.Hash.hash_input g.S.BuildHasher.build_hasher g.S.Hasher.Hasher.write
           g.S.Hasher.Hasher.finish g.met.K.Eq.laws g.met.K.Hash.respects_eq) b v
           (Wish at c.args.wish.now.kind (Some c.args.wish.now.made.now) (Pair c.args.wish.now.made.now)) c.args.word.now.key c.args.old c.args.new tt
           (key_since c.args.sight.now.log v at c.args.word.now.key pre c.requires.key)
@@ -33,7 +37,7 @@ compare_exchange-found-requires g c =
 pub returns-clause-tried : goal.returns-clause-tried
 returns-clause-tried g c =
     let hash = hash_of g.K.Hash.hash_input g.S.BuildHasher.build_hasher g.S.Hasher.Hasher.write g.S.Hasher.Hasher.finish in
-    let w = c.args.self.now in let x = c.compare_exchange-found in
-    tried_told g.K.PartialEq.eq hash (begun_of w.parts) w.begun.log c.learn.new.self.log x.new.seen.log w.begins c.learn.ensures.3 x.ensures.6
+    let w = c.args.self.now in let x = c.paid-found in let same = sym c.align.ensures.1 in
+    tried_told g.K.PartialEq.eq hash (begun_of w.parts) w.begun.log c.align.new.sight.log x.new.seen.log w.begins (subst (IsPrefix w.begun.log) same c.learn.ensures.3) x.ensures.5
     c.with_pair-offer.result.ask c.args.wish.now.at c.args.wish.now.kind (Some c.args.wish.now.made.now) (Pair c.args.wish.now.made.now) c.args.old
-    c.args.new x.result x.new.offer.state c.with_pair-offer.ensures.1 x.ensures.7 c.args.sight.now.log c.learn.ensures.2
+    c.args.new x.result x.new.offer.state c.with_pair-offer.ensures.1 x.ensures.6.2.0 c.args.sight.now.log (subst (IsPrefix c.args.sight.now.log) same c.learn.ensures.2)

@@ -36,8 +36,12 @@ use Rattle.papaya_map_book.specs.contracts.rule.entry.Event as Event
 use Rattle.papaya_map_book.specs.declared.rule.entry.Event.{Event as Entry}
 use Rattle.papaya_map_book.specs.declared.rule.entry.Event.TheVariants.{Draw}
 use Rattle.papaya_map_book.specs.contracts.rule.entry.Named as Named
-use Rattle.papaya_map_book.specs.contracts.rule.law.Law as Law
-use Rattle.papaya_map_book.specs.contracts.rule.law.LawRuleEventNamed.TheImpl as LawRule
+use Rattle.papaya_gate.specs.Kept.{inner_names}
+use Rattle.papaya_gate.specs.contracts.rule.Gated as Gated
+use Rattle.papaya_gate.specs.contracts.rule.GatedRule.TheImpl as GatedRule
+use Rattle.papaya_map_book.specs.contracts.rule.law.LogLaw as LogLaw
+use Rattle.papaya_map_book.specs.contracts.rule.law.LogLawRuleEventNamed.TheImpl as LogLawRule
+use Rattle.papaya_map_book.specs.contracts.rule.law.LogLawTrackingEvent.TheImpl as LogLawTracking
 use Rattle.papaya_map_book.specs.contracts.rule.offer.drawing.{ended, clauses}
 use Rattle.papaya_map_book.specs.contracts.rule.offer.drawing.Key.{name as #self}
 use Rattle.papaya_map_book.proofs.rule.offer.drawing.Statement.{statement}
@@ -50,10 +54,11 @@ drawing_spec 𝓤 𝓛 𝓜 𝓡 wired K V S I _ _ _ _ gh dh ge de gp dp gb db g
     let inst = bounded (a_type ∷ a_type ∷ a_type ∷ a_type ∷ []) (K, (V, (S, (I, tt))))
     (dcons dh (dcons de (dcons dp (dcons db (dcons di (dcons dd dnil)))))) in let fn = inst_fn inst code.function in
     let c = clauses K V S I gh dh ge de gp dp gb db gi di dd 𝓛 𝓜.mem 𝓡.returns in
-    let S' : RattleType = Seen.the_row (Event.the_row (param 0 K) (param 1 V) (param 2 S)) (Named.the_row (param 0 K) (param 1 V))
-    (Law.the_row (param 0 K) (param 1 V) (param 2 S))
-    (LawRule.ghosts (param 0 K) (param 1 V) (param 2 S) (param 3 I) gh LawRule.no_dict ge LawRule.no_dict gp LawRule.no_dict gb LawRule.no_dict gi
-    LawRule.no_dict LawRule.no_dict) in
+    let E' : RattleType = Event.the_row (param 0 K) (param 1 V) (param 2 S) in let A' : RattleType = Named.the_row (param 0 K) (param 1 V) in
+    let P' : RattleType = LogLaw.the_row (param 0 K) (param 1 V) (param 2 S) in
+    let S' : RattleType = Seen.the_row E' A' (Gated.the_row P') (GatedRule.ghosts E' A' P'
+    (LogLawRule.ghosts (param 0 K) (param 1 V) (param 2 S) (param 3 I) gh LogLawRule.no_dict ge LogLawRule.no_dict gp LogLawRule.no_dict gb LogLawRule.no_dict gi
+    LogLawRule.no_dict LogLawRule.no_dict) GatedRule.no_dict (LogLawTracking.ghosts (param 0 K) (param 1 V) (param 2 S)) GatedRule.no_dict) in
     let self = RefOf (0 ∷ []) tt (plain (λ _. S')) (λ _. tt) in let num = plain (λ _. u64) in
     let hs : Stays En.signature.params En.kept = (stay_dropped self yes, (stay_dropped num yes, (stay_dropped num yes, tt))) in
     proved 𝓛 En hs c 𝓜 𝓡 (
@@ -78,5 +83,5 @@ drawing_spec 𝓤 𝓛 𝓜 𝓡 wired K V S I _ _ _ _ gh dh ge de gp dp gb db g
     sets ! (agg ! (no_more !)) refl (tt, tt) $ sets ! (agg ! (and_then ! (get ! refl) (no_more !))) refl (tt, (tt, tt)) $
     nothing ! $ nothing ! $ fjoin ! $ nothing ! $ fjoin ! $ nothing ! $ fjoin ! $
     returns ! (look_at ! 0 refl) $ free_all ! refl $ keep ! (2 ∷ 0 ∷ 1 ∷ []) $ by !
-    (ends 𝓛 En hs c y token (record { marker = record {}; names = a.0.now.names; ask = ask; about = ask ∷ []; state = None }) (tt, (tt, (tt, tt)))
+    (ends 𝓛 En hs c y token (record { marker = record {}; names = inner_names a.0.now.names; ask = ask; about = ask ∷ []; state = None }) (tt, (tt, (tt, tt)))
     (tt, (tt, (tt, tt))) (fact_i 𝓤 _ (emp 𝓤) (refl, refl, refl, refl)))))

@@ -38,8 +38,12 @@ use Rattle.papaya_map_book.specs.contracts.rule.entry.Event as Event
 use Rattle.papaya_map_book.specs.declared.rule.entry.Event.{Event as Entry}
 use Rattle.papaya_map_book.specs.declared.rule.entry.Event.TheVariants.{Called}
 use Rattle.papaya_map_book.specs.contracts.rule.entry.Named as Named
-use Rattle.papaya_map_book.specs.contracts.rule.law.Law as Law
-use Rattle.papaya_map_book.specs.contracts.rule.law.LawRuleEventNamed.TheImpl as LawRule
+use Rattle.papaya_gate.specs.Kept.{inner_names}
+use Rattle.papaya_gate.specs.contracts.rule.Gated as Gated
+use Rattle.papaya_gate.specs.contracts.rule.GatedRule.TheImpl as GatedRule
+use Rattle.papaya_map_book.specs.contracts.rule.law.LogLaw as LogLaw
+use Rattle.papaya_map_book.specs.contracts.rule.law.LogLawRuleEventNamed.TheImpl as LogLawRule
+use Rattle.papaya_map_book.specs.contracts.rule.law.LogLawTrackingEvent.TheImpl as LogLawTracking
 use Rattle.papaya_map_book.specs.contracts.rule.offer.with_row.{ended, clauses}
 use Rattle.papaya_map_book.specs.contracts.rule.offer.with_row.Key.{name as #self}
 use Rattle.papaya_map_book.proofs.rule.offer.with_row.Statement.{statement}
@@ -52,10 +56,11 @@ with_row_spec 𝓤 𝓛 𝓜 𝓡 wired K V S I _ _ _ _ gh dh ge de gp dp gb db 
     let inst = bounded (a_type ∷ a_type ∷ a_type ∷ a_type ∷ []) (K, (V, (S, (I, tt))))
     (dcons dh (dcons de (dcons dp (dcons db (dcons di (dcons dd dnil)))))) in let fn = inst_fn inst code.function in
     let c = clauses K V S I gh dh ge de gp dp gb db gi di dd 𝓛 𝓜.mem 𝓡.returns in
-    let S' : RattleType = Seen.the_row (Event.the_row (param 0 K) (param 1 V) (param 2 S)) (Named.the_row (param 0 K) (param 1 V))
-    (Law.the_row (param 0 K) (param 1 V) (param 2 S))
-    (LawRule.ghosts (param 0 K) (param 1 V) (param 2 S) (param 3 I) gh LawRule.no_dict ge LawRule.no_dict gp LawRule.no_dict gb LawRule.no_dict gi
-    LawRule.no_dict LawRule.no_dict) in let Ps : RattleType = Pens.the_row in
+    let E' : RattleType = Event.the_row (param 0 K) (param 1 V) (param 2 S) in let A' : RattleType = Named.the_row (param 0 K) (param 1 V) in
+    let P' : RattleType = LogLaw.the_row (param 0 K) (param 1 V) (param 2 S) in
+    let S' : RattleType = Seen.the_row E' A' (Gated.the_row P') (GatedRule.ghosts E' A' P'
+    (LogLawRule.ghosts (param 0 K) (param 1 V) (param 2 S) (param 3 I) gh LogLawRule.no_dict ge LogLawRule.no_dict gp LogLawRule.no_dict gb LogLawRule.no_dict gi
+    LogLawRule.no_dict LogLawRule.no_dict) GatedRule.no_dict (LogLawTracking.ghosts (param 0 K) (param 1 V) (param 2 S)) GatedRule.no_dict) in let Ps : RattleType = Pens.the_row in
     let self = RefOf (0 ∷ []) tt (plain (λ _. S')) (λ _. tt) in
     let hs : Stays En.signature.params En.kept = (stay_dropped self yes, (stay_ref (1 ∷ []) tt (plain (λ _. Ps)), tt)) in
     proved 𝓛 En hs c 𝓜 𝓡 (Goes-dropped 𝓛 6 self yes (λ κs x f. refl), (Goes-ref 𝓛 6 1 tt (plain (λ _. Ps)), tt)) (#self inst) fn
@@ -83,5 +88,5 @@ with_row_spec 𝓤 𝓛 𝓜 𝓡 wired K V S I _ _ _ _ gh dh ge de gp dp gb db 
     move ! (3 ∷ 4 ∷ []) $ fjoin ! $ move ! (4 ∷ 0 ∷ []) $ fjoin ! $ nothing ! $ feq_i ! (List Val) (vptr b o ∷ []) (vptr b o ∷ []) refl $ move !
     (0 ∷ 4 ∷ 5 ∷ []) $ fjoin3 ! $ fjoin ! $ nothing ! $ fjoin ! $
     returns ! (look_at ! 0 refl) $ free_all ! refl $ keep ! (1 ∷ 0 ∷ 2 ∷ []) $ by !
-    (ends 𝓛 En hs c y token (record { marker = record {}; names = a.0.now.names; ask = ask; about = []; state = None }) (tt, (h', tt))
+    (ends 𝓛 En hs c y token (record { marker = record {}; names = inner_names a.0.now.names; ask = ask; about = []; state = None }) (tt, (h', tt))
     (tt, (tt, tt)) (fact_i 𝓤 _ (emp 𝓤) (refl, refl, refl, refl)))))))

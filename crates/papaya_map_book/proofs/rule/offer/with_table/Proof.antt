@@ -34,8 +34,12 @@ use Rattle.papaya_map_book.specs.contracts.rule.pair.Pair as Pair
 use Rattle.papaya_map_book.specs.contracts.rule.entry.Sheet.{the_row as SheetRow}
 use Rattle.papaya_map_book.specs.contracts.rule.entry.Event as Event
 use Rattle.papaya_map_book.specs.contracts.rule.entry.Named as Named
-use Rattle.papaya_map_book.specs.contracts.rule.law.Law as Law
-use Rattle.papaya_map_book.specs.contracts.rule.law.LawRuleEventNamed.TheImpl as LawRule
+use Rattle.papaya_gate.specs.Kept.{inner_names}
+use Rattle.papaya_gate.specs.contracts.rule.Gated as Gated
+use Rattle.papaya_gate.specs.contracts.rule.GatedRule.TheImpl as GatedRule
+use Rattle.papaya_map_book.specs.contracts.rule.law.LogLaw as LogLaw
+use Rattle.papaya_map_book.specs.contracts.rule.law.LogLawRuleEventNamed.TheImpl as LogLawRule
+use Rattle.papaya_map_book.specs.contracts.rule.law.LogLawTrackingEvent.TheImpl as LogLawTracking
 use Rattle.papaya_map_book.specs.contracts.rule.offer.with_table.{ended, clauses}
 use Rattle.papaya_map_book.specs.contracts.rule.offer.with_table.Key.{name as #self}
 use Rattle.papaya_map_book.proofs.rule.offer.with_table.Statement.{statement}
@@ -50,10 +54,11 @@ with_table_spec 𝓤 𝓛 𝓜 𝓡 wired K V S X N I _ _ _ _ _ _ gh dh ge de gp
     let inst = bounded (a_type ∷ a_type ∷ a_type ∷ a_type ∷ a_type ∷ a_type ∷ []) (K, (V, (S, (X, (N, (I, tt))))))
     (dcons dh (dcons de (dcons dp (dcons db (dcons di (dcons dm (dcons dd dnil))))))) in let fn = inst_fn inst code.function in
     let c = clauses K V S X N I gh dh ge de gp dp gb db gi di gm dm dd 𝓛 𝓜.mem 𝓡.returns in
-    let S' : RattleType = Seen.the_row (Event.the_row (param 0 K) (param 1 V) (param 2 S)) (Named.the_row (param 0 K) (param 1 V))
-    (Law.the_row (param 0 K) (param 1 V) (param 2 S))
-    (LawRule.ghosts (param 0 K) (param 1 V) (param 2 S) (param 5 I) gh LawRule.no_dict ge LawRule.no_dict gp LawRule.no_dict gb LawRule.no_dict gi
-    LawRule.no_dict LawRule.no_dict) in
+    let E' : RattleType = Event.the_row (param 0 K) (param 1 V) (param 2 S) in let A' : RattleType = Named.the_row (param 0 K) (param 1 V) in
+    let P' : RattleType = LogLaw.the_row (param 0 K) (param 1 V) (param 2 S) in
+    let S' : RattleType = Seen.the_row E' A' (Gated.the_row P') (GatedRule.ghosts E' A' P'
+    (LogLawRule.ghosts (param 0 K) (param 1 V) (param 2 S) (param 5 I) gh LogLawRule.no_dict ge LogLawRule.no_dict gp LogLawRule.no_dict gb LogLawRule.no_dict gi
+    LogLawRule.no_dict LogLawRule.no_dict) GatedRule.no_dict (LogLawTracking.ghosts (param 0 K) (param 1 V) (param 2 S)) GatedRule.no_dict) in
     let T : RattleType = Table.the_row (param 0 K) (param 1 V) (param 2 S) (param 5 I) gh gp gb gi ge in
     let self = RefOf (0 ∷ []) tt (plain (λ _. S')) (λ _. tt) in let about = RefOf (1 ∷ []) tt (plain (λ _. param 3 X)) (λ _. tt) in
     let known = plain (λ _. Known.the_row T) in
@@ -80,5 +85,5 @@ with_table_spec 𝓤 𝓛 𝓜 𝓡 wired K V S X N I _ _ _ _ _ _ gh dh ge de gp
     sets ! (agg ! (no_more !)) refl (tt, tt) $ sets ! (agg ! (and_then ! (get ! refl) (no_more !))) refl (tt, (tt, tt)) $
     nothing ! $ nothing ! $ fjoin ! $ nothing ! $ fjoin ! $ nothing ! $ fjoin ! $
     returns ! (look_at ! 0 refl) $ free_all ! refl $ keep ! (2 ∷ 0 ∷ 1 ∷ []) $ by !
-    (ends 𝓛 En hs c y token (record { marker = record {}; names = a.0.now.names; ask = ask; about = []; state = None }) (tt, (tt, (tt, tt)))
+    (ends 𝓛 En hs c y token (record { marker = record {}; names = inner_names a.0.now.names; ask = ask; about = []; state = None }) (tt, (tt, (tt, tt)))
     (tt, (tt, (tt, tt))) (fact_i 𝓤 _ (emp 𝓤) (refl, refl, refl, refl))))))

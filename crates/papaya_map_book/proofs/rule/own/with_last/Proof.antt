@@ -25,8 +25,11 @@ use Rattle.papaya_map_book.specs.Own.{last_step}
 use Rattle.papaya_map_book.specs.contracts.rule.entry.Event as Event
 use Rattle.papaya_map_book.specs.contracts.rule.entry.Named as Named
 use Rattle.papaya_map_book.specs.contracts.rule.entry.Step as Step
-use Rattle.papaya_map_book.specs.contracts.rule.law.Law as Law
-use Rattle.papaya_map_book.specs.contracts.rule.law.LawRuleEventNamed.TheImpl as LawRule
+use Rattle.papaya_gate.specs.contracts.rule.Gated as Gated
+use Rattle.papaya_gate.specs.contracts.rule.GatedRule.TheImpl as GatedRule
+use Rattle.papaya_map_book.specs.contracts.rule.law.LogLaw as LogLaw
+use Rattle.papaya_map_book.specs.contracts.rule.law.LogLawRuleEventNamed.TheImpl as LogLawRule
+use Rattle.papaya_map_book.specs.contracts.rule.law.LogLawTrackingEvent.TheImpl as LogLawTracking
 use Rattle.papaya_map_book.specs.contracts.rule.own.with_last.{ended, clauses}
 use Rattle.papaya_map_book.specs.contracts.rule.own.with_last.Key.{name as #self}
 use Rattle.papaya_map_book.proofs.rule.own.with_last.Statement.{statement}
@@ -39,10 +42,11 @@ with_last_spec 𝓤 𝓛 𝓜 𝓡 wired K V S I _ _ _ _ gh dh ge de gp dp gb db
     let inst = bounded (a_type ∷ a_type ∷ a_type ∷ a_type ∷ []) (K, (V, (S, (I, tt))))
     (dcons dh (dcons de (dcons dp (dcons db (dcons di (dcons dd dnil)))))) in let fn = inst_fn inst code.function in
     let c = clauses K V S I gh dh ge de gp dp gb db gi di dd 𝓛 𝓜.mem 𝓡.returns in
-    let S' : RattleType = Seen.the_row (Event.the_row (param 0 K) (param 1 V) (param 2 S)) (Named.the_row (param 0 K) (param 1 V))
-    (Law.the_row (param 0 K) (param 1 V) (param 2 S))
-    (LawRule.ghosts (param 0 K) (param 1 V) (param 2 S) (param 3 I) gh LawRule.no_dict ge LawRule.no_dict gp LawRule.no_dict gb LawRule.no_dict gi
-    LawRule.no_dict LawRule.no_dict) in
+    let E' : RattleType = Event.the_row (param 0 K) (param 1 V) (param 2 S) in let A' : RattleType = Named.the_row (param 0 K) (param 1 V) in
+    let P' : RattleType = LogLaw.the_row (param 0 K) (param 1 V) (param 2 S) in
+    let S' : RattleType = Seen.the_row E' A' (Gated.the_row P') (GatedRule.ghosts E' A' P'
+    (LogLawRule.ghosts (param 0 K) (param 1 V) (param 2 S) (param 3 I) gh LogLawRule.no_dict ge LogLawRule.no_dict gp LogLawRule.no_dict gb LogLawRule.no_dict gi
+    LogLawRule.no_dict LogLawRule.no_dict) GatedRule.no_dict (LogLawTracking.ghosts (param 0 K) (param 1 V) (param 2 S)) GatedRule.no_dict) in
     let own = RefOf (0 ∷ []) tt (plain (λ _. OwnSteps.the_row R)) (λ _. tt) in let sight = RefOf (1 ∷ []) tt (plain (λ _. S')) (λ _. tt) in
     let hs : Stays En.signature.params En.kept = (stay_dropped own yes, (stay_dropped sight yes, tt)) in
     proved 𝓛 En hs c 𝓜 𝓡 (Goes-dropped 𝓛 6 own yes (λ κs x f. refl), (Goes-dropped 𝓛 6 sight yes (λ κs x f. refl), tt)) (#self inst) fn

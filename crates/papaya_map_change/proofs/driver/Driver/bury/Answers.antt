@@ -15,7 +15,7 @@ pub exchange_slot-found-requires : goal.exchange_slot-found-requires
 exchange_slot-found-requires g c =
     let held = subst (λ (o : Option (Bor Sheet)).
     MatchOption o ⊥ (λ z. IsTable c.args.window.now.sight.log c.args.number z.now × (c.args.place < length z.now.slots))) c.in-Some.is c.requires.held in
-    record { table = held.0; place = held.1; can = rw c.kind-kind.ensures c.requires.can }
+    record { table = held.0; place = held.1; «open» = c.requires.open; can = rw c.kind-kind.ensures c.requires.can }
 
 pub returns-clause-buries : goal.returns-clause-buries
 returns-clause-buries g c =

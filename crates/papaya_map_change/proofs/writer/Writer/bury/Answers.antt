@@ -8,6 +8,7 @@ bury-requires g c = record {
   held = slot_held g.K.PartialEq.eq g.K.Hash.hash_input g.S.BuildHasher.build_hasher g.S.Hasher.Hasher.write g.S.Hasher.Hasher.finish g.met.K.Eq.laws
       g.met.K.Hash.respects_eq (begun_of c.args.window.now.book.now.parts) c.args.window.now.book.now.begun.book c.requires.waits.can.0 c.requires.waits.can.1
       c.requires.waits.can.2 c.args.window.now.sight.log c.args.self.now c.requires.waits.can.3 c.args.number c.args.place c.args.words.0 c.args.words.1 c.requires.waits.asks;
+  «open» = c.requires.open;
   can = bury_can g.K.PartialEq.eq g.K.Hash.hash_input g.S.BuildHasher.build_hasher g.S.Hasher.Hasher.write g.S.Hasher.Hasher.finish g.met.K.Eq.laws
       g.met.K.Hash.respects_eq (begun_of c.args.window.now.book.now.parts) c.args.window.now.book.now.begun.book c.requires.waits.can.0 c.requires.waits.can.1
       c.requires.waits.can.2 c.args.window.now.sight.log c.args.self.now c.requires.waits.can.3 c.args.number c.args.place c.args.words.0 c.args.words.1

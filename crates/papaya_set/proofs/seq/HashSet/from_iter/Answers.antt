@@ -7,7 +7,7 @@ use Rattle.papaya_set.proofs.seq.HashSet.from_iter.Goals as goal
 
 pub returns-in-Ok-clause-ok : goal.returns-in-Ok-clause-ok
 returns-in-Ok-clause-ok g c =
-    let e = c.in-Ok.ensures in
+    let e = c.in-Ok.ensures.extends in
     record {
       first = e.first;
       made = e.made;
@@ -24,7 +24,7 @@ returns-in-Ok-clause-ok g c =
 
 pub returns-in-Err-clause-err : goal.returns-in-Err-clause-err
 returns-in-Err-clause-err g c =
-    let e = c.in-Err.ensures in
+    let e = c.in-Err.ensures.extends in
     inr (record {
       first = e.first;
       made = e.made;
@@ -43,3 +43,23 @@ returns-in-Err-clause-err g c =
         },
       );
     })
+
+pub returns-in-Ok-clause-alone : goal.returns-in-Ok-clause-alone
+returns-in-Ok-clause-alone g c =
+    let e = c.in-Ok.ensures.alone in
+    record {
+      first = e.first;
+      made = e.made;
+      items = e.items;
+      left = e.left;
+      came = e.came;
+      is = (
+        e.is.0,
+        e.is.1,
+        record {
+          new = c.in_ok-set.set;
+          is_new = new_with_own (Incremental DEFAULT_CHUNK) 0 1 c.default.result c.in_ok-set.set c.in_ok-set.ensures.ok;
+          puts = e.is.2;
+        },
+      );
+    }

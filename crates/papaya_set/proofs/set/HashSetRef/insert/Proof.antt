@@ -14,8 +14,11 @@ use Rattle.papaya_words.proofs.refused.Refused.TheLaws.{the_row_laws as refused_
 use Rattle.papaya_words.specs.contracts.refused.Refused.{the_row as RefusedRow}
 use Rattle.papaya_map_book.specs.contracts.rule.entry.Event as event
 use Rattle.papaya_map_book.specs.contracts.rule.entry.Named as naming
-use Rattle.papaya_map_book.specs.contracts.rule.law.Law as law
-use Rattle.papaya_map_book.specs.contracts.rule.law.LawRuleEventNamed.TheImpl as LawRule
+use Rattle.papaya_gate.specs.contracts.rule.Gated as gated
+use Rattle.papaya_gate.specs.contracts.rule.GatedRule.TheImpl as GatedRule
+use Rattle.papaya_map_book.specs.contracts.rule.law.LogLaw as law
+use Rattle.papaya_map_book.specs.contracts.rule.law.LogLawRuleEventNamed.TheImpl as LawRule
+use Rattle.papaya_map_book.specs.contracts.rule.law.LogLawTrackingEvent.TheImpl as LawTracking
 use Rattle.papaya_map_lookup.specs.History.{IsLegalHistory, history_of, key_of}
 use Rattle.papaya_map.specs.Limited.{IsPlainRefusal}
 use Rattle.papaya_set.specs.Shared.{IsInsertedBetween}
@@ -39,9 +42,9 @@ insert_spec 𝓤 𝓛 𝓜 𝓡 wired K S S-Hasher R LK LS LH LR K-Hash K-Hash-d
     (dcons K-Hash-dict (dcons K-Eq-dict (dcons K-PartialEq-dict
     (dcons S-BuildHasher-dict (dcons S-Hasher-Hasher-dict (dcons K-Destruct-dict (dcons S-Hasher-Destruct-dict (dcons R-Wait-dict dnil)))))))) in
     let E = event.the_row (param 0 K) unit-field.row (param 1 S) in let N = naming.the_row (param 0 K) unit-field.row in
-    let P = law.the_row (param 0 K) unit-field.row (param 1 S) in
-    let g = LawRule.ghosts (param 0 K) unit-field.row (param 1 S) (param 2 S-Hasher) K-Hash LawRule.no_dict K-Eq LawRule.no_dict K-PartialEq
-    LawRule.no_dict S-BuildHasher LawRule.no_dict S-Hasher-Hasher LawRule.no_dict LawRule.no_dict in
+    let L = law.the_row (param 0 K) unit-field.row (param 1 S) in let P = gated.the_row L in
+    let g = GatedRule.ghosts E N L (LawRule.ghosts (param 0 K) unit-field.row (param 1 S) (param 2 S-Hasher) K-Hash LawRule.no_dict K-Eq LawRule.no_dict K-PartialEq
+    LawRule.no_dict S-BuildHasher LawRule.no_dict S-Hasher-Hasher LawRule.no_dict LawRule.no_dict) GatedRule.no_dict (LawTracking.ghosts (param 0 K) unit-field.row (param 1 S)) GatedRule.no_dict in
     let Ends = ended K S S-Hasher R K-Hash K-Hash-dict K-Eq K-Eq-dict K-PartialEq K-PartialEq-dict S-BuildHasher S-BuildHasher-dict S-Hasher-Hasher
     S-Hasher-Hasher-dict K-Destruct-dict S-Hasher-Destruct-dict R-Wait R-Wait-dict in
     meets E N P g Ends 𝓛 𝓜 𝓡 (clauses K S S-Hasher R K-Hash K-Hash-dict K-Eq K-Eq-dict K-PartialEq K-PartialEq-dict S-BuildHasher S-BuildHasher-dict
