@@ -3,40 +3,40 @@
 //! The worker's thread passes on the session by which it reported, and the reader's session meets
 //! this one. So the reader has observed the report, and its lookup is proved to find the reported
 //! outcome, unless a later change took it out.
-ghost use Rattle.std.specs.Prelude.{◌≡◌, IfErr, IfOk, true};
+ghost use Rattle.std.specs.Prelude.{◌≡◌, IfErr, IfOk, is_ok};
 ghost use mathlib.Core.List.{IsPrefix};
-ghost use Rattle.papaya.specs.Threads.{IsPlainRefusal, Makes};
+ghost use Rattle.papaya.specs.Threads.{IsPlainRefusal, IsWriteRefusal, Makes};
 ghost use Rattle.papaya_uses.specs.Jobs.{HasReported, IsPassedOn, IsReadAfter};
 
 use papaya::{HashMap, Refused, Session};
 use std::hash::{BuildHasherDefault, FoldHasher};
 use std::sync::Wait;
-use std::thread::{Threads, join};
+use std::thread::{Threads, join_mut};
 
 /// The outcome of each job, by the jobs' numbers.
 pub type Outcomes = HashMap<u64, u64, BuildHasherDefault<FoldHasher>>;
 
-/// Reports the outcome of a job by the worker's session. Returns the session, so that the session
-/// of another thread can meet it.
+/// Reports the outcome of a job.
 ///
 /// # Errors
 ///
 /// Fails with `Refused::Memory`, `Refused::Capacity` or `Refused::Limit`, as [`Session::insert`]
 /// does, and then reports nothing.
-pub fn report<'a, R: Wait>(
+pub fn report<R: Wait>(
     rt: &R,
-    mut worker: Session<'a, u64, u64>,
+    worker: &mut Session<'_, u64, u64>,
     job: u64,
     outcome: u64,
-) -> Result<Session<'a, u64, u64>, Refused>
-    ensures map { IfOk result (λ after. after.map ≡ worker.entry.map) }
-    ensures reported { IfOk result (λ after. HasReported job outcome worker.entry.history
-        after.history) }
-    ensures made { IfOk result (λ after. Makes true worker.entry.made after.made after.history) }
-    ensures refused { IfErr result (IsPlainRefusal worker.entry.map.begun.limit) }
+) -> Result<(), Refused>
+    ensures map { worker.new.map ≡ worker.old.map }
+    ensures seen { IsPrefix worker.old.history worker.new.history }
+    ensures reported { IfOk result (λ _. HasReported job outcome worker.old.history
+        worker.new.history) }
+    ensures made { Makes (is_ok result) worker.old.made worker.new.made worker.new.history }
+    ensures refused { IfErr result (IsWriteRefusal worker.old.map.begun.limit worker.new.taken) }
 {
     worker.insert(rt, job, outcome)?;
-    Ok(worker)
+    Ok(())
 }
 
 /// Returns the outcome of a job, or `None` if it has none, after the reader's session has met the
@@ -80,7 +80,11 @@ pub fn report_and_read<R: Threads + Wait + Sync>(
 {
     let mut worker = Session::new(reader.map());
     worker.meet(reader);
-    let (reported, _) = join(rt, move || report(rt, worker, job, outcome), || ());
-    let mut after = reported?;
-    Ok(outcome_after(reader, &mut after, job))
+    let (reported, _) = join_mut(
+        rt,
+        &mut || report(rt, &mut worker, job, outcome),
+        &mut || (),
+    );
+    reported?;
+    Ok(outcome_after(reader, &mut worker, job))
 }
